@@ -1,0 +1,4 @@
+pub mod EndLaws
+pub mod VerdictLaws
+pub mod AxisLaws
+pub mod RestLaws

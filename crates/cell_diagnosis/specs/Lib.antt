@@ -1,0 +1,12 @@
+pub mod Bounds
+pub mod Ends
+pub mod Verdicts
+pub mod Readings
+pub mod Motions
+pub mod AxisFacts
+pub mod AxisRules
+pub mod AxisWatches
+pub mod RestFacts
+pub mod RestRules
+pub mod RestWatches
+pub mod Laws

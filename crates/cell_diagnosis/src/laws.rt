@@ -1,0 +1,22 @@
+//! Laws of the two verdicts, for every list of readings. The calls do nothing: their contracts are the laws.
+ghost use Rattle.cell_diagnosis.specs.Laws.{VerdictStays, RestVerdictStays, FirstDecides, RestFirstDecides, PendingWhereNoneDecides, RestPendingWhereNoneDecides, SomeFirstDecides, RestSomeFirstDecides};
+
+/// A verdict other than Pending stays, whatever readings come after.
+pub fn verdict_stays()
+    ensures axis { VerdictStays }
+    ensures rest { RestVerdictStays }
+{}
+
+/// The verdict is what the rules say at the first reading at which one applies.
+pub fn first_decides()
+    ensures axis { FirstDecides }
+    ensures rest { RestFirstDecides }
+{}
+
+/// The verdict is Pending where no rule applies at any reading, and nowhere else.
+pub fn pending_where_none_decides()
+    ensures axis { PendingWhereNoneDecides }
+    ensures rest { RestPendingWhereNoneDecides }
+    ensures axis_only { SomeFirstDecides }
+    ensures rest_only { RestSomeFirstDecides }
+{}

@@ -1,0 +1,134 @@
+//! The watch of a machine's axes at rest and of its plates.
+ghost use Rattle.std.specs.Prelude.{◌≡◌, ◌≢◌, ◌<◌, ◌++◌, ◌∷◌, List, []};
+ghost use Rattle.cell_diagnosis.specs.Ends.{last_are};
+ghost use Rattle.cell_diagnosis.specs.RestFacts.{Noted, agrees, any_of_three};
+ghost use Rattle.cell_diagnosis.specs.RestRules.{rest};
+ghost use Rattle.cell_diagnosis.specs.RestWatches.{machine_of, rest_answer_of, noted_by, both_at, axis_ruling, plate_ruling, rest_ruling, RestFits};
+ghost use Rattle.cell_diagnosis.specs.declared.verdict.Verdict.TheVariants.{Pending};
+
+use crate::rest_facts::{NO_REST_FACTS, RestFacts, rest_facts_of};
+use crate::verdict::then_verdict;
+use crate::{Expect, Reading, Verdict};
+use cell_types::{Cause, Machine};
+
+/// Watches the axes of one machine that are at rest, and its plates. It keeps the last reading's facts, and no list; which
+/// verdict it answers is said of the list of all readings since its start, each with its Expect.
+///
+/// The rules are this project's profile. Each reading is compared with the Expect given with it; a missing reading, or a
+/// part that isn't looked at, disagrees in nothing. The first that applies:
+/// 1. This reading and the two before are missing: `Silent`.
+/// 2. An axis, the lowest first, disagrees in this reading and the one before: `Contradictory` where both show two
+///    switches or more of it, else `LostPosition`.
+/// 3. A presence bit that has to be set is clear in both: `PlateLost`.
+/// 4. A presence bit that has to be clear is set in both: `StrangePlate`.
+#[derive(Clone, Copy, Debug, PartialEq, Eq)]
+pub struct RestWatch {
+    machine: Machine,
+    last: RestFacts,
+    two_missing: bool,
+    verdict: Verdict,
+}
+
+impl RestWatch {
+    /// A watch of this machine, with no reading yet.
+    pub fn start(machine: Machine) -> Self
+        ensures machine { machine_of result ≡ machine }
+        ensures fits { RestFits result [] }
+        ensures answer { rest_answer_of result ≡ Pending }
+    {
+        RestWatch {
+            machine,
+            last: NO_REST_FACTS,
+            two_missing: false,
+            verdict: Verdict::Pending,
+        }
+    }
+
+    /// Notes the next reading, None where it is missing, with what is expected of it, and answers the verdict of all
+    /// readings since the start: what the first rule says that applies at the first reading at which one does. A missing
+    /// reading disagrees in nothing. Once the verdict isn't Pending, each further call answers the same.
+    pub fn note(&mut self, expect: &Expect, reading: Option<Reading>) -> Verdict
+        // Whatever list of readings the watch fits, it is of that list followed by this reading.
+        ensures verdict { (L : List Noted) → RestFits self.old L →
+            result ≡ rest (L ++ noted_by self.old expect.now reading ∷ []) }
+        ensures fits { (L : List Noted) → RestFits self.old L →
+            RestFits self.new (L ++ noted_by self.old expect.now reading ∷ []) }
+        ensures machine { machine_of self.new ≡ machine_of self.old }
+        ensures answer { rest_answer_of self.new ≡ result }
+        ensures stays { rest_answer_of self.old ≢ Pending → result ≡ rest_answer_of self.old }
+    {
+        let next = rest_facts_of(self.machine, expect, reading);
+        let ruling = rest_rule(self.two_missing, &self.last, &next);
+        self.verdict = then_verdict(self.verdict, ruling);
+        self.two_missing = self.last.missing & next.missing;
+        self.last = next;
+        self.verdict
+    }
+
+    /// Whether there was a reading, the last one wasn't missing, and no part of it disagreed with its Expect.
+    pub fn agreed(&self) -> bool
+        ensures { (L : List Noted) → RestFits self.now L → result ≡ last_are 1 agrees L }
+    {
+        self.last.agrees
+    }
+}
+
+fn both_at(index: usize, last: &[bool; 3], next: &[bool; 3]) -> bool
+    requires { index < 3 }
+    ensures { result ≡ both_at index last.now next.now }
+{
+    last[index] && next[index]
+}
+
+/// The fault of an axis that disagrees in two readings.
+fn axis_fault(index: usize, last: &RestFacts, next: &RestFacts) -> Verdict
+    requires { index < 3 }
+    ensures { result ≡ axis_ruling index last.now next.now }
+{
+    let disagrees = both_at(index, &last.disagrees, &next.disagrees);
+    let several = both_at(index, &last.several, &next.several);
+    if disagrees {
+        if several {
+            Verdict::Fault(Cause::Contradictory)
+        } else {
+            Verdict::Fault(Cause::LostPosition)
+        }
+    } else {
+        Verdict::Pending
+    }
+}
+
+fn any_both(last: &[bool; 3], next: &[bool; 3]) -> bool
+    ensures { result ≡ any_of_three (λ k. both_at k last.now next.now) }
+{
+    both_at(0, last, next) || both_at(1, last, next) || both_at(2, last, next)
+}
+
+/// The fault of a presence bit that is wrong in two readings.
+fn plate_fault(last: &RestFacts, next: &RestFacts) -> Verdict
+    ensures { result ≡ plate_ruling last.now next.now }
+{
+    let lost = any_both(&last.lost, &next.lost);
+    let strange = any_both(&last.strange, &next.strange);
+    if lost {
+        Verdict::Fault(Cause::PlateLost)
+    } else if strange {
+        Verdict::Fault(Cause::StrangePlate)
+    } else {
+        Verdict::Pending
+    }
+}
+
+/// What the first rule says that applies at the next reading.
+fn rest_rule(two_missing: bool, last: &RestFacts, next: &RestFacts) -> Verdict
+    ensures { result ≡ rest_ruling two_missing last.now next.now }
+{
+    if two_missing && next.missing {
+        return Verdict::Fault(Cause::Silent);
+    }
+    let first = axis_fault(0, last, next);
+    let second = axis_fault(1, last, next);
+    let third = axis_fault(2, last, next);
+    let plates = plate_fault(last, next);
+    then_verdict(first, then_verdict(second, then_verdict(third, plates)))
+}

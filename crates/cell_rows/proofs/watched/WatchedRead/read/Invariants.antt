@@ -1,0 +1,10 @@
+use Rattle.std.proofs.Common.{◌≡◌}
+use Rattle.std.specs.Io.KnownBytes.{Keeps}
+use Rattle.cell_rows.proofs.watched.WatchedRead.read.Given as goal
+
+-- interrupted reads took no byte and noted nothing
+abbrev pub invariant-loop : goal.invariant-loop
+invariant-loop g l = record {
+  noted : l.self.failed ≡ l.fn.self.failed;
+  untouched : Keeps (g.R.Read.remaining l.fn.self.source) (g.R.Read.remaining l.self.source);
+}

@@ -1,0 +1,14 @@
+//! The records of a text in csv, one at a time from any reader, seen as a list of records.
+//!
+//! A text has no header row, its records may be of any length, and no field is trimmed. As csv reads it, blank lines
+//! give no record, a field may be quoted, the last record needs no line end, and a byte order mark at the start is
+//! skipped. Fields are bytes, which needn't be UTF-8.
+#![tactic(auto)]
+
+mod rows;
+mod watched;
+
+pub use rows::{Four, RowError, RowReader};
+
+#[cfg(test)]
+mod tests;

@@ -1,0 +1,14 @@
+-- What an order has of the words
+use Rattle.std.specs.Prelude.{◌≡◌, List, Some, codes}
+use Rattle.clap.specs.Words.{Row, Text, subcommand_of}
+use Rattle.cellctl.specs.Shape.{cellctl}
+use Rattle.cellctl.specs.declared.order.Order.{Order}
+use Rattle.cellctl.specs.declared.order.Order.TheVariants as order
+
+-- the order of a command's name and what is matched below it
+abbrev pub Fits : Text → List Row → Order → Type 0
+Fits name rows order.Audit = name ≡ codes "audit"
+
+-- the words have a command that clap matches in them, and the order is of it
+abbrev pub IsOrdered : List Text → Order → Type 0
+IsOrdered words o = (name : Text) × (rows : List Row) × (subcommand_of cellctl words ≡ Some (name, rows)) × Fits name rows o

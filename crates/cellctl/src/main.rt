@@ -1,0 +1,94 @@
+//! `cellctl`: the audit of a production cell's journal.
+#![tactic(auto)]
+
+mod command;
+mod lines;
+mod order;
+
+use clap::Error;
+use clap::error::ErrorKind;
+use lines::{WriteFault, audit_lines};
+use order::{Order, read_words};
+use std::env::Env;
+use std::io::Write;
+use std::process::ExitCode;
+use std::{env, io};
+
+#[cfg(test)]
+mod tests;
+
+const WRONG_ARGUMENTS: u8 = 2;
+
+const READ_FAULT: u8 = 3;
+
+const OUT_OF_MEMORY: u8 = 4;
+
+// The status of an error of the system.
+fn status_of(error: &io::Error) -> u8 {
+    match error.kind() {
+        io::ErrorKind::OutOfMemory => OUT_OF_MEMORY,
+        _ => READ_FAULT,
+    }
+}
+
+// Prints clap's words, or the help that was asked for, and gives the status.
+fn refuse<R: Print + Eprint>(rt: &R, error: &Error) -> u8 {
+    if error.kind() == ErrorKind::OutOfMemory {
+        return OUT_OF_MEMORY;
+    }
+    match error.print(rt) {
+        Ok(()) if error.use_stderr() => WRONG_ARGUMENTS,
+        Ok(()) => 0,
+        Err(_) => READ_FAULT,
+    }
+}
+
+// Audits standard input. All that is printed is written out before the status is given.
+fn audit_input<R: AllocGlobal + Input + Print>(rt: &R) -> io::Result<u8> {
+    let alloc = rt.alloc();
+    let mut output = io::BufWriter::new(alloc, io::writer(rt))?;
+    match audit_lines(alloc, rt.reader(), &mut output) {
+        Ok(status) => {
+            output.flush()?;
+            Ok(status)
+        }
+        Err(WriteFault) => Ok(READ_FAULT),
+    }
+}
+
+// Reads the words, does what they say, and gives the status.
+fn run<R: AllocGlobal + Env + Input + Print + Eprint>(rt: &R) -> io::Result<u8> {
+    let alloc = rt.alloc();
+    let arguments = match env::args(rt) {
+        Ok(arguments) => arguments,
+        Err(e) if e.kind() == io::ErrorKind::InvalidData => {
+            eprintln!(rt; "error: an argument isn't UTF-8")?;
+            return Ok(WRONG_ARGUMENTS);
+        }
+        Err(e) => return Err(e),
+    };
+    let words: Vec<String> = arguments.collect(alloc)?;
+    let mut texts = Vec::new(alloc);
+    for word in words.iter() {
+        texts.push(word.as_str())?;
+    }
+    match read_words(alloc, texts.as_slice()) {
+        Ok(Order::Audit) => audit_input(rt),
+        Err(error) => Ok(refuse(rt, &error)),
+    }
+}
+
+fn main(rt: HostRuntime) -> ExitCode {
+    let status = match run(&rt) {
+        Ok(status) => status,
+        Err(error) => status_of(&error),
+    };
+    let message = match status {
+        READ_FAULT => "read fault",
+        OUT_OF_MEMORY => "out of memory",
+        _ => return ExitCode::from(status),
+    };
+    // Where standard error fails too, the status alone tells.
+    let _ = eprintln!(rt; "{message}");
+    ExitCode::from(status)
+}

@@ -1,0 +1,95 @@
+-- A healthy machine can always be declared failed
+use Rattle.std.proofs.Common.{◌≡◌, ℕ, ◌+◌, ◌≤◌, ◌<◌, Bool, true, false, cond, List, [], ◌∷◌, ◌++◌, length, None, refl, ◌∙◌, arith, length-append}
+use Rattle.std.specs.Prelude.{nat_le, unwrap_or, if◌then◌else◌}
+use Rattle.cell_views.specs.Last.{when}
+use Rattle.std.proofs.lemmas.Bool.Decides.{nat_tests}
+use Rattle.cell_types.specs.declared.words.Machine.{Machine}
+use Rattle.cell_types.specs.declared.words.Cause.{Cause}
+use Rattle.cell_types.specs.declared.words.Entry.{Entry}
+use Rattle.cell_types.specs.declared.words.Entry.TheVariants.{Lamp, Admitted, Claimed, Yielded, Started, Arrived, Conveyed, Forged, Gripped, Dropped, Delivered, Declared, StopAsked, Quarantined, Repaired}
+use Rattle.cell_types.specs.Same.{same_machine}
+use Rattle.cell_views.specs.Views.{fails, is_failed}
+use Rattle.cell_views.specs.Told.{cell_of}
+use Rattle.plate_book.specs.declared.limits.Limits.{Limits}
+use Rattle.plate_book.specs.First.{first, first_true, tests}
+use Rattle.plate_book.specs.Legal.{legal}
+use Rattle.plate_book.specs.Telling.{first_of}
+use Rattle.plate_book.proofs.Safe.Facts.{none_refused, is_none_tells}
+use Rattle.plate_book.proofs.Safe.Views.{view_snoc}
+use Rattle.plate_book.proofs.Safe.Bridge.{along}
+use Rattle.plate_book.proofs.Places.{full_not}
+
+-- how many machines a test holds of
+abbrev machines_that : (Machine → Bool) → ℕ
+machines_that f = cond (f Machine.Feed) 1 0 + cond (f Machine.Table) 1 0 + cond (f Machine.Robot) 1 0 + cond (f Machine.Press1) 1 0 + cond (f Machine.Press2) 1 0 + cond (f Machine.Deposit) 1 0
+
+-- one more machine
+one_more : (f g : Machine → Bool) (m : Machine) → f m ≡ false → ((n : Machine) → g n ≡ (if same_machine m n then true else f n)) → machines_that g ≡ machines_that f + 1
+one_more f g Machine.Feed e h = rw (h Machine.Feed, h Machine.Table, h Machine.Robot, h Machine.Press1, h Machine.Press2, h Machine.Deposit, e) (omega arith)
+one_more f g Machine.Table e h = rw (h Machine.Feed, h Machine.Table, h Machine.Robot, h Machine.Press1, h Machine.Press2, h Machine.Deposit, e) (omega arith)
+one_more f g Machine.Robot e h = rw (h Machine.Feed, h Machine.Table, h Machine.Robot, h Machine.Press1, h Machine.Press2, h Machine.Deposit, e) (omega arith)
+one_more f g Machine.Press1 e h = rw (h Machine.Feed, h Machine.Table, h Machine.Robot, h Machine.Press1, h Machine.Press2, h Machine.Deposit, e) (omega arith)
+one_more f g Machine.Press2 e h = rw (h Machine.Feed, h Machine.Table, h Machine.Robot, h Machine.Press1, h Machine.Press2, h Machine.Deposit, e) (omega arith)
+one_more f g Machine.Deposit e h = rw (h Machine.Feed, h Machine.Table, h Machine.Robot, h Machine.Press1, h Machine.Press2, h Machine.Deposit, e) (omega arith)
+
+bit : (b : Bool) → cond b 1 0 ≤ 1
+bit true = omega arith
+bit false = omega arith
+
+-- not all six machines, where one isn't
+some_left : (f : Machine → Bool) (m : Machine) → f m ≡ false → machines_that f ≤ 5
+some_left f Machine.Feed e = rw e (omega (arith, bit (f Machine.Table), bit (f Machine.Robot), bit (f Machine.Press1), bit (f Machine.Press2), bit (f Machine.Deposit)))
+some_left f Machine.Table e = rw e (omega (arith, bit (f Machine.Feed), bit (f Machine.Robot), bit (f Machine.Press1), bit (f Machine.Press2), bit (f Machine.Deposit)))
+some_left f Machine.Robot e = rw e (omega (arith, bit (f Machine.Feed), bit (f Machine.Table), bit (f Machine.Press1), bit (f Machine.Press2), bit (f Machine.Deposit)))
+some_left f Machine.Press1 e = rw e (omega (arith, bit (f Machine.Feed), bit (f Machine.Table), bit (f Machine.Robot), bit (f Machine.Press2), bit (f Machine.Deposit)))
+some_left f Machine.Press2 e = rw e (omega (arith, bit (f Machine.Feed), bit (f Machine.Table), bit (f Machine.Robot), bit (f Machine.Press1), bit (f Machine.Deposit)))
+some_left f Machine.Deposit e = rw e (omega (arith, bit (f Machine.Feed), bit (f Machine.Table), bit (f Machine.Robot), bit (f Machine.Press1), bit (f Machine.Press2)))
+
+-- a legal journal is longer than its limit by at most the machines that failed
+abbrev IsSpared : Limits → List Entry → Type 0
+IsSpared l J = length J ≤ l.entries + machines_that (is_failed J)
+
+declared_fails : (J : List Entry) (m : Machine) (cause : Cause) (n : Machine) → is_failed (J ++ Declared m cause ∷ []) n ≡ (if same_machine m n then true else is_failed J n)
+declared_fails J m cause n = view_snoc (fails n) false J (Declared m cause) ∙ when_or (same_machine m n)
+  where
+    when_or : (b : Bool) → unwrap_or (when b true) (is_failed J n) ≡ (if b then true else is_failed J n)
+    when_or true = refl
+    when_or false = refl
+
+longer : (J : List Entry) (e : Entry) (n k : ℕ) → length J < n → length (J ++ e ∷ []) ≤ n + k
+longer J e n k h = omega (arith, length-append J (e ∷ []))
+
+spared_step : (l : Limits) (J : List Entry) (e : Entry) → IsSpared l J → first l (cell_of J) e ≡ None → IsSpared l (J ++ e ∷ [])
+spared_step l J (Declared m cause) s h =
+    let p = none_refused (tests l (cell_of J) (Declared m cause)) h in
+    let more : machines_that (is_failed (J ++ Declared m cause ∷ [])) ≡ machines_that (is_failed J) + 1 = one_more (is_failed J) (is_failed (J ++ Declared m cause ∷ [])) m p.1.0 (declared_fails J m cause) in
+    let longer_by : length (J ++ Declared m cause ∷ []) ≡ length J + 1 = length-append J (Declared m cause ∷ []) in
+    rw (more, longer_by) (omega arith)
+spared_step l J (Lamp b to) s h = longer J (Lamp b to) l.entries _ (full_not _ _ (none_refused (tests l (cell_of J) (Lamp b to)) h).0)
+spared_step l J (Admitted k) s h = longer J (Admitted k) l.entries _ (full_not _ _ (none_refused (tests l (cell_of J) (Admitted k)) h).0)
+spared_step l J (Claimed m y) s h = longer J (Claimed m y) l.entries _ (full_not _ _ (none_refused (tests l (cell_of J) (Claimed m y)) h).0)
+spared_step l J (Yielded m y) s h = longer J (Yielded m y) l.entries _ (full_not _ _ (none_refused (tests l (cell_of J) (Yielded m y)) h).0)
+spared_step l J (Started b to) s h = longer J (Started b to) l.entries _ (full_not _ _ (none_refused (tests l (cell_of J) (Started b to)) h).0)
+spared_step l J (Arrived b p) s h = longer J (Arrived b p) l.entries _ (full_not _ _ (none_refused (tests l (cell_of J) (Arrived b p)) h).0)
+spared_step l J (Conveyed b k dest) s h = longer J (Conveyed b k dest) l.entries _ (full_not _ _ (none_refused (tests l (cell_of J) (Conveyed b k dest)) h).0)
+spared_step l J (Forged m k) s h = longer J (Forged m k) l.entries _ (full_not _ _ (none_refused (tests l (cell_of J) (Forged m k)) h).0)
+spared_step l J (Gripped x k src) s h = longer J (Gripped x k src) l.entries _ (full_not _ _ (none_refused (tests l (cell_of J) (Gripped x k src)) h).0)
+spared_step l J (Dropped x k dest) s h = longer J (Dropped x k dest) l.entries _ (full_not _ _ (none_refused (tests l (cell_of J) (Dropped x k dest)) h).0)
+spared_step l J (Delivered k) s h = longer J (Delivered k) l.entries _ (full_not _ _ (none_refused (tests l (cell_of J) (Delivered k)) h).0)
+spared_step l J (StopAsked m) s h = longer J (StopAsked m) l.entries _ (full_not _ _ (none_refused (tests l (cell_of J) (StopAsked m)) h).0)
+spared_step l J (Quarantined k src) s h = longer J (Quarantined k src) l.entries _ (full_not _ _ (none_refused (tests l (cell_of J) (Quarantined k src)) h).0)
+spared_step l J (Repaired m) s h = longer J (Repaired m) l.entries _ (full_not _ _ (none_refused (tests l (cell_of J) (Repaired m)) h).0)
+
+spared : (l : Limits) (J : List Entry) → legal l J ≡ true → IsSpared l J
+spared l = along l (IsSpared l) (omega arith) (λ J e g s a. spared_step l J e s (is_none_tells (first l (cell_of J) e) a))
+
+not_le : (n m : ℕ) → m < n → nat_le n m ≡ false
+not_le n m h = grind (arith, nat_tests)
+
+pub healthy_is_declared : (l : Limits) (J : List Entry) (m : Machine) (cause : Cause) → legal l J ≡ true → is_failed J m ≡ false → first_of l J (Declared m cause) ≡ None
+unfolding first_true
+healthy_is_declared l J m cause h f =
+    let s : length J ≤ l.entries + machines_that (is_failed J) = spared l J h in
+    let few : machines_that (is_failed J) ≤ 5 = some_left (is_failed J) m f in
+    let room : nat_le (l.entries + 6) (length J) ≡ false = not_le (l.entries + 6) (length J) (omega (arith, s, few)) in
+    rw (room, f) refl

@@ -1,0 +1,11 @@
+pub mod Appended
+pub mod Arrays
+pub mod Recording
+pub mod Safe
+pub mod Places
+pub mod Listing
+pub mod Order
+pub mod Declaring
+pub mod Tellings
+pub mod Readings
+pub mod Books

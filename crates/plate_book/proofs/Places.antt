@@ -1,0 +1,93 @@
+-- Where the plates of a legal journal may be
+use Rattle.std.proofs.Common.{◌≡◌, ◌≢◌, ℕ, ◌+◌, ◌≤◌, ◌<◌, Bool, true, false, ◌==◌, List, [], ◌∷◌, ◌++◌, Option, Some, None, refl, sym, ap, ◌∙◌, arith, ◌⊎◌, if◌then◌else◌}
+use Rattle.std.specs.Prelude.{unwrap_or, nat_le}
+use Rattle.std.specs.Option.{option_and_then}
+use Rattle.std.specs.List.{count_by}
+use Rattle.std.proofs.lemmas.Bool.Decides.{nat_tests}
+use Rattle.cell_types.specs.declared.words.Place.{Place}
+use Rattle.cell_types.specs.declared.words.Entry.{Entry}
+use Rattle.cell_types.specs.declared.words.Entry.TheVariants.{Lamp, Admitted, Claimed, Yielded, Started, Arrived, Conveyed, Forged, Gripped, Dropped, Delivered, Declared, StopAsked, Quarantined, Repaired}
+use Rattle.cell_types.specs.Cell.{Motion, motion_to}
+use Rattle.cell_types.specs.After.{after}
+use Rattle.cell_views.specs.Last.{when}
+use Rattle.cell_views.specs.Told.{cell_of}
+use Rattle.cell_views.specs.Views.{Placing, placing, puts, place_of, source, start_of, is_admitted}
+use Rattle.plate_book.specs.declared.limits.Limits.{Limits}
+use Rattle.plate_book.specs.First.{first, tests}
+use Rattle.plate_book.specs.Legal.{allowed, legal}
+use Rattle.plate_book.proofs.Safe.Facts.{none_refused, is_none_tells}
+use Rattle.plate_book.proofs.Safe.Views.{view_snoc, count_snoc}
+use Rattle.plate_book.proofs.Safe.Bridge.{Good, good_when_legal, along}
+use Rattle.plate_book.proofs.Safe.Safety.{safe_entry}
+
+pub full_not : (n m : ℕ) → nat_le n m ≡ false → m < n
+full_not n m h = grind (arith, nat_tests)
+
+-- no more plates are admitted than the limit says
+limit_step : (l : Limits) (J : List Entry) (e : Entry) → count_by is_admitted J ≤ l.plates → first l (cell_of J) e ≡ None → (if is_admitted e then count_by is_admitted J + 1 else count_by is_admitted J) ≤ l.plates
+limit_step l J (Admitted k) n h = let p : count_by is_admitted J < l.plates = full_not _ _ (none_refused (tests l (cell_of J) (Admitted k)) h).1.0 in omega arith
+limit_step l J _ n h = n
+
+pub admitted_law : (l : Limits) (J : List Entry) → legal l J ≡ true → count_by is_admitted J ≤ l.plates
+admitted_law l = along l (λ J. count_by is_admitted J ≤ l.plates) (omega arith)
+    (λ J e g n a. rw (count_snoc is_admitted J e) (limit_step l J e n (is_none_tells (first l (cell_of J) e) a)))
+
+-- a plate that is somewhere is one of those that the limit allows
+split : (k n : ℕ) → ((k ≡ 0) ⊎ (n + 1 ≤ k) → ⊥) → (1 ≤ k) × (k ≤ n)
+split k n h = grind arith
+
+pub somewhere_small : (l : Limits) (J : List Entry) (k : ℕ) → legal l J ≡ true → place_of J k ≢ Place.Nowhere → (1 ≤ k) × (k ≤ l.plates)
+somewhere_small l J k h n =
+    let g = good_when_legal l J h in
+    let r = split k (after J).admitted (λ o. n (g.safe.plates.outside k o)) in
+    let c : count_by is_admitted J ≤ l.plates = admitted_law l J h in
+    let e : count_by is_admitted J ≡ (after J).admitted = g.agrees.admitted in
+    (r.0, omega (arith, r.1, c, e))
+
+-- what leaves the cell doesn't come back
+start_at : (o : Option Motion) → (start_of o ≢ Place.Delivered) × (start_of o ≢ Place.Quarantine)
+start_at None = ((λ e. cc), (λ e. cc))
+start_at (Some m) = ((λ e. cc), (λ e. cc))
+
+pub source_inside : (e : Entry) → (source e ≢ Place.Delivered) × (source e ≢ Place.Quarantine)
+source_inside (Conveyed a k dest) = start_at (motion_to a dest)
+source_inside (Lamp b c) = ((λ e. cc), (λ e. cc))
+source_inside (Admitted k) = ((λ e. cc), (λ e. cc))
+source_inside (Claimed m y) = ((λ e. cc), (λ e. cc))
+source_inside (Yielded m y) = ((λ e. cc), (λ e. cc))
+source_inside (Started b to) = ((λ e. cc), (λ e. cc))
+source_inside (Arrived b p) = ((λ e. cc), (λ e. cc))
+source_inside (Forged m k) = ((λ e. cc), (λ e. cc))
+source_inside (Gripped x k src) = ((λ e. cc), (λ e. cc))
+source_inside (Dropped x k dest) = ((λ e. cc), (λ e. cc))
+source_inside (Delivered k) = ((λ e. cc), (λ e. cc))
+source_inside (Declared m cause) = ((λ e. cc), (λ e. cc))
+source_inside (StopAsked m) = ((λ e. cc), (λ e. cc))
+source_inside (Quarantined k src) = ((λ e. cc), (λ e. cc))
+source_inside (Repaired m) = ((λ e. cc), (λ e. cc))
+
+put_case : (o : Option Placing) (k : ℕ) (v x : Place) → ((p : Placing) → o ≡ Some p → p.plate ≡ k → ⊥) → x ≡ v → unwrap_or (option_and_then (λ (p : Placing). when (p.plate == k) p.goes) o) x ≡ v
+put_case None k v x n e = e
+put_case (Some p) k v x n e = go (p.plate == k) refl
+  where
+    go : (b : Bool) → (p.plate == k) ≡ b → unwrap_or (when b p.goes) x ≡ v
+    go true t = absurd (n p refl (grind (arith, nat_tests)))
+    go false t = e
+
+-- a plate stays where no entry takes one from
+pub stays : (l : Limits) (J : List Entry) (e : Entry) (k : ℕ) (v : Place) → Good J → allowed l J e ≡ true → source e ≢ v → place_of J k ≡ v → place_of (J ++ e ∷ []) k ≡ v
+stays l J e k v g a n h =
+    let s = safe_entry l J e g a in
+    rw (view_snoc (puts k) Place.Nowhere J e)
+    (put_case (placing e) k v (place_of J k) (λ p i j. n (sym (s.from p i) ∙ ap (place_of J) j ∙ h)) h)
+
+put_there : (o : Option Placing) (k : ℕ) (v x : Place) → (let p : Placing = record { plate = k; goes = v } in o ≡ Some p) → unwrap_or (option_and_then (λ (p : Placing). when (p.plate == k) p.goes) o) x ≡ v
+put_there o k v x e = let t : (k == k) ≡ true = grind (arith, nat_tests) in rw (e, t) refl
+
+-- the plate of an entry that puts it somewhere is there
+pub comes : (J : List Entry) (e : Entry) (k : ℕ) (v : Place) → (let p : Placing = record { plate = k; goes = v } in placing e ≡ Some p) → place_of (J ++ e ∷ []) k ≡ v
+comes J e k v h = rw (view_snoc (puts k) Place.Nowhere J e) (put_there (placing e) k v (place_of J k) h)
+
+-- no entry puts its plate nowhere
+pub goes_somewhere : (e : Entry) (p : Placing) → placing e ≡ Some p → p.goes ≢ Place.Nowhere
+goes_somewhere e p h n = grind arith

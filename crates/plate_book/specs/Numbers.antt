@@ -1,0 +1,29 @@
+-- The one order of the refusals: each has a number, and the tests of an entry stand in the order of their refusals
+use Rattle.std.specs.Prelude.{ℕ, Bool, ◌&&◌, nat_le, List, [], ◌∷◌}
+use Rattle.plate_book.specs.declared.refusal.Refusal.{Refusal}
+use Rattle.plate_book.specs.declared.refusal.Refusal.TheVariants.{JournalFull, PlateLimit, MachineFailed, MachineHealthy, OwnerFailed, WrongPose, ZoneTaken, NotHolder, NotNeighbour, StationEmpty, StationFull, WrongPlate, LampRed, LampAlready, NoPress, AlreadyAsked, PlateStillThere, OutOfMemory}
+
+abbrev pub refusal_number : Refusal → ℕ
+refusal_number JournalFull = 1
+refusal_number PlateLimit = 2
+refusal_number (MachineFailed m) = 3
+refusal_number (MachineHealthy m) = 4
+refusal_number (OwnerFailed m) = 5
+refusal_number (WrongPose a) = 6
+refusal_number (ZoneTaken z) = 7
+refusal_number (NotHolder z) = 8
+refusal_number NotNeighbour = 9
+refusal_number (StationEmpty s) = 10
+refusal_number (StationFull s) = 11
+refusal_number WrongPlate = 12
+refusal_number (LampRed b) = 13
+refusal_number (LampAlready b) = 14
+refusal_number NoPress = 15
+refusal_number (AlreadyAsked m) = 16
+refusal_number (PlateStillThere s) = 17
+refusal_number OutOfMemory = 18
+
+-- the tests' refusals have numbers from n to 17, none below the one before it
+abbrev pub ascends_from : ℕ → List (Bool × Refusal) → Bool
+ascends_from n [] = nat_le n 17
+ascends_from n (t ∷ ts) = nat_le n (refusal_number t.1) && ascends_from (refusal_number t.1) ts

@@ -1,0 +1,66 @@
+//! What holds of every legal journal, whatever the limits. Each function's contract is the law, and its body is empty.
+//! The safety rules are those of LNCS 891 and of this project's profile.
+ghost use Rattle.std.specs.Prelude.{◌≡◌, ◌≤◌, ◌+◌, ◌++◌, ◌||◌, not, nat_le, true, false, List, length, Some, None};
+ghost use Rattle.std.specs.List.{list_all};
+ghost use Rattle.cell_types.specs.declared.words.Machine.{Machine};
+ghost use Rattle.cell_types.specs.declared.words.Cause.{Cause};
+ghost use Rattle.cell_types.specs.declared.words.Entry.{Entry};
+ghost use Rattle.cell_types.specs.declared.words.Entry.TheVariants.{Declared};
+ghost use Rattle.cell_views.specs.Views.{is_failed};
+ghost use Rattle.cell_views.specs.Told.{Cell};
+ghost use Rattle.plate_book.specs.declared.limits.Limits.{Limits};
+ghost use Rattle.plate_book.specs.declared.refusal.Refusal.{Refusal};
+ghost use Rattle.plate_book.specs.First.{first, tests};
+ghost use Rattle.plate_book.specs.Numbers.{refusal_number, ascends_from};
+ghost use Rattle.plate_book.specs.Telling.{first_of};
+ghost use Rattle.plate_book.specs.Legal.{legal};
+ghost use Rattle.plate_book.specs.Safety.{IsSafe};
+ghost use Rattle.plate_book.specs.Invariants.{IsKept};
+ghost use Rattle.plate_book.specs.Bridged.{IsTold};
+
+/// What a legal journal tells is what its entries' effects leave.
+#[tactic(auto, using(crate::proofs::Safe::Told::told_when_legal))]
+pub fn effects_are_what_is_told()
+    ensures { (l : Limits) (J : List Entry) → legal l J ≡ true → IsTold J }
+{}
+
+/// Each legal journal is safe.
+#[tactic(auto, using(crate::proofs::Safe::Safety::safe_when_legal))]
+pub fn legal_is_safe()
+    ensures { (l : Limits) (J : List Entry) → legal l J ≡ true → IsSafe J }
+{}
+
+/// Each legal journal keeps the working invariants: who holds which zone while a machine moves, where an arm may be out,
+/// how often a plate was forged, and that a failed machine that nobody visits is left alone.
+#[tactic(auto, using(crate::proofs::Safe::KeptProofs::kept_when_legal))]
+pub fn legal_is_kept()
+    ensures { (l : Limits) (J : List Entry) → legal l J ≡ true → IsKept J }
+{}
+
+/// The first part of a legal journal is legal.
+pub fn first_part_is_legal()
+    ensures { (l : Limits) (P R : List Entry) → legal l (P ++ R) ≡ true → legal l P ≡ true }
+{}
+
+/// A legal journal has at most six entries beyond its limit, as many as there are machines.
+#[tactic(auto, using(crate::proofs::Tellings::length_law))]
+pub fn legal_is_short()
+    ensures { (l : Limits) (J : List Entry) → legal l J ≡ true → length J ≤ l.entries + 6 }
+{}
+
+/// A healthy machine can always be declared failed, at a full journal too.
+pub fn healthy_is_declared()
+    ensures { (l : Limits) (J : List Entry) (m : Machine) (cause : Cause) → legal l J ≡ true → is_failed J m ≡ false → first_of l J (Declared m cause) ≡ None }
+{}
+
+/// The tests of an entry stand in the order of their refusals' numbers.
+#[tactic(auto, using(crate::proofs::Order::tests_ascend))]
+pub fn tests_are_in_order()
+    ensures { (l : Limits) (c : Cell) (e : Entry) → ascends_from 1 (tests l c e) ≡ true }
+{}
+
+/// The refusal of an entry has the least number of all whose test holds.
+#[tactic(auto, using(crate::proofs::Order::first_is_least))]
+pub fn first_refusal_is_the_least()
+    ensures { (l : Limits) (c : Cell) (e : Entry) (r : Refusal) → first l c e ≡ Some r → list_all (λ t. not t.0 || nat_le (refusal_number r) (refusal_number t.1)) (tests l c e) ≡ true }
+{}

@@ -1,0 +1,25 @@
+//! The records of the cell, and which entries they admit.
+#![tactic(auto)]
+
+pub mod book;
+mod changes;
+mod checks;
+mod conditions;
+pub mod laws;
+pub mod limits;
+mod lists;
+mod moves;
+pub mod open_error;
+pub mod records;
+pub mod refusal;
+mod registers;
+mod rules;
+#[cfg(test)]
+mod tests;
+mod visits;
+
+pub use book::Book;
+pub use limits::Limits;
+pub use open_error::OpenError;
+pub use records::Records;
+pub use refusal::Refusal;
