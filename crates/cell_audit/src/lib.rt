@@ -1,11 +1,13 @@
-//! The audit of a journal's text: whether the text spells a legal journal, and what that journal counts.
+//! A journal's text: its audit, whether the text spells a legal journal and what that journal counts, and its writing.
 #![tactic(auto)]
 
 mod error;
 mod judge;
+mod write;
 
 pub use error::AuditError;
 pub use judge::{audit, audit_rows};
+pub use write::{WriteError, write_journal};
 
 #[cfg(test)]
 mod tests;

@@ -1,9 +1,11 @@
-use crate::{AuditError, audit};
-use cell_types::{Axis, Belt, Machine, Station, Totals};
+use crate::{AuditError, WriteError, audit, write_journal};
+use cell_journal::Journal;
+use cell_rows::RowReader;
+use cell_types::{Axis, Belt, Machine, Station, Totals, read_fields};
 use plate_book::Refusal;
 use std::alloc::{AllocError, Global};
 use std::io;
-use std::io::Read;
+use std::io::{Read, Write};
 use std::test::Fail;
 
 // A plate that is carried whole through the cell.
@@ -218,5 +220,68 @@ fn reads_over_a_record_of_a_hundred_thousand_letters(rt: HostRuntime) -> Result<
         audit(alloc, text.as_slice()),
         Err(AuditError::Unreadable(1))
     );
+    Ok(())
+}
+
+// A writer that takes a number of bytes and then fails.
+#[derive(Drop)]
+struct Full {
+    left: usize,
+}
+
+impl Write for Full {
+    fn write(&mut self, buf: &[u8]) -> io::Result<usize> {
+        if self.left < buf.len() {
+            return Err(io::Error::from(io::ErrorKind::StorageFull));
+        }
+        self.left -= buf.len();
+        Ok(buf.len())
+    }
+
+    fn flush(&mut self) -> io::Result<()> {
+        Ok(())
+    }
+}
+
+// The journal of a plate that is carried whole through the cell.
+fn carried(alloc: Global) -> Result<Journal, Fail> {
+    let mut journal = Journal::with_limit(alloc, 100)?;
+    let mut rows = RowReader::new(alloc, CARRIED);
+    for _ in 0..100 {
+        match rows.advance() {
+            Ok(found) => {
+                if !found {
+                    break;
+                }
+            }
+            Err(_) => break,
+        }
+        if let Some(four) = rows.four() {
+            if let Some(entry) = read_fields(&[four.first, four.second, four.third, four.fourth]) {
+                if !journal.is_full_for(&entry) {
+                    journal.append(entry);
+                }
+            }
+        }
+    }
+    Ok(journal)
+}
+
+#[test]
+fn writes_the_text_that_is_audited(rt: HostRuntime) -> Result<(), Fail> {
+    let alloc = rt.alloc();
+    let empty = Journal::with_limit(alloc, 1)?;
+    let mut text = Vec::new(alloc);
+    assert_eq!(rt; write_journal(alloc, &empty, &mut text), Ok(()));
+    assert_eq!(rt; text.as_slice(), b"profile,1,,\n".as_slice());
+    let journal = carried(alloc)?;
+    let mut text = Vec::new(alloc);
+    assert_eq!(rt; write_journal(alloc, &journal, &mut text), Ok(()));
+    assert_eq!(rt; text.as_slice(), CARRIED);
+    assert_eq!(rt; audit(alloc, text.as_slice()), totals(62, 1, 1, 0, 1));
+    for left in [0, 11, 12, CARRIED.len() - 1] {
+        let answer = write_journal(alloc, &journal, &mut Full { left });
+        assert_eq!(rt; answer, Err(WriteError::WriteFault), "after {left} bytes");
+    }
     Ok(())
 }

@@ -43,3 +43,12 @@ impl PlateId {
         self.number
     }
 }
+
+/// The first plate's number. A list of fixed capacity fills its unused places with it.
+impl Default for PlateId {
+    fn default() -> Self
+        ensures { result ≡ 1 }
+    {
+        PlateId { number: 1 }
+    }
+}

@@ -6,6 +6,7 @@ pub mod Places
 pub mod Listing
 pub mod Order
 pub mod Declaring
+pub mod Carried
 pub mod Tellings
 pub mod Readings
 pub mod Books

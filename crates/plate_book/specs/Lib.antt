@@ -16,3 +16,4 @@ pub mod Claims
 pub mod Book
 pub mod Invariants
 pub mod Bridged
+pub mod Carrying

@@ -17,6 +17,7 @@ ghost use Rattle.plate_book.specs.Legal.{legal};
 ghost use Rattle.plate_book.specs.Safety.{IsSafe};
 ghost use Rattle.plate_book.specs.Invariants.{IsKept};
 ghost use Rattle.plate_book.specs.Bridged.{IsTold};
+ghost use Rattle.plate_book.specs.Carrying.{IsCarrying};
 
 /// What a legal journal tells is what its entries' effects leave.
 #[tactic(auto, using(crate::proofs::Safe::Told::told_when_legal))]
@@ -35,6 +36,12 @@ pub fn legal_is_safe()
 #[tactic(auto, using(crate::proofs::Safe::KeptProofs::kept_when_legal))]
 pub fn legal_is_kept()
     ensures { (l : Limits) (J : List Entry) → legal l J ≡ true → IsKept J }
+{}
+
+/// Where an axis of a healthy machine goes with a motion that carries a plate, the plate is there: a belt's at the first
+/// station of its motion, and that of a press on its way to Top.
+pub fn healthy_motions_carry()
+    ensures { (l : Limits) (J : List Entry) → legal l J ≡ true → IsCarrying J }
 {}
 
 /// The first part of a legal journal is legal.

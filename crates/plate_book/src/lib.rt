@@ -10,6 +10,8 @@ pub mod limits;
 mod lists;
 mod moves;
 pub mod open_error;
+#[cfg(test)]
+mod order_tests;
 pub mod records;
 pub mod refusal;
 mod registers;

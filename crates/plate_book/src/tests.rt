@@ -5,7 +5,7 @@ use std::alloc::Global;
 use std::process::Abort;
 
 // The journal of one plate, carried through press 1.
-const JOURNAL: [&str; 62] = [
+pub(crate) const JOURNAL: [&str; 62] = [
     "lamp,feed,green,",
     "admitted,1,,",
     "started,feed_belt,to_end,",
@@ -79,7 +79,7 @@ const ALL_DECLARED: [&str; 6] = [
     "declared,deposit,silent,",
 ];
 
-fn entry_of(rt: &impl Abort, record: &str) -> Entry {
+pub(crate) fn entry_of(rt: &impl Abort, record: &str) -> Entry {
     let mut fields = record.split(',');
     let kind = fields.next().unwrap_or("").as_bytes();
     let first = fields.next().unwrap_or("").as_bytes();
@@ -89,7 +89,7 @@ fn entry_of(rt: &impl Abort, record: &str) -> Entry {
 }
 
 // Books these records, each of which is allowed.
-fn book_all(rt: &impl Abort, book: &mut Book, records: &[&str]) {
+pub(crate) fn book_all(rt: &impl Abort, book: &mut Book, records: &[&str]) {
     for record in records {
         let answer = book.apply(entry_of(rt, record));
         assert!(rt; answer == Ok(()), "{record}");
@@ -318,6 +318,7 @@ fn the_book_tells_its_journal(rt: HostRuntime) {
     assert!(rt; loading.plate_at(Station::Arm1) == Some(first));
     assert!(rt; loading.place(first) == Place::At(Station::Arm1));
     assert!(rt; loading.holder(Zone::Z3) == Some(Machine::Robot));
+    assert!(rt; loading.on_stations().as_slice() == [(Station::Arm1, first)].as_slice());
     assert!(rt; loading.claimed_since(Zone::Z3, 23) && !loading.claimed_since(Zone::Z3, 24));
     let whole = begun(&rt, rt.alloc(), 62, &[]);
     assert!(rt; whole.delivered() == [first].as_slice());
