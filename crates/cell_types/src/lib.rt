@@ -17,7 +17,7 @@ pub use fields::{Field, spell};
 pub use plate_id::PlateId;
 pub use read::read_fields;
 pub use tables::{
-    actor_of, axis_of_arm, command_of, home, machine_of_axis, machine_of_belt, machine_of_station,
+    STATIONS, actor_of, axis_of_arm, command_of, home, machine_of_axis, machine_of_belt, machine_of_station,
     owner, press_axis, station_of_arm, visitor,
 };
 pub use words::{

@@ -13,6 +13,7 @@ pub mod Booked
 pub mod Tells
 pub mod History
 pub mod Claims
+pub mod Reads
 pub mod Book
 pub mod Invariants
 pub mod Bridged

@@ -343,6 +343,33 @@ fn a_repaired_press_is_at_home(rt: HostRuntime) {
     assert!(rt; repaired.totals().forged == 0);
 }
 
+// In a run that refuses one allocation the quarantine's growth may be the one refused. The book is then as it was, and
+// takes the entry when it is asked again.
+#[test]
+fn a_refused_growth_leaves_the_book(rt: HostRuntime) {
+    let Ok(mut book) = Book::new(rt.alloc(), 100, 10).or_else(|_| Book::new(rt.alloc(), 100, 10))
+    else {
+        panic!(rt; "the limits are in range, and there is memory");
+    };
+    for record in JOURNAL.iter().take(7) {
+        book_all(&rt, &mut book, &[record]);
+    }
+    book_all(
+        &rt,
+        &mut book,
+        &["yielded,feed,z1,", "declared,table,operator_stop,"],
+    );
+    let cleared = entry_of(&rt, "quarantined,1,table,");
+    let first = PlateId::new(1).expect(&rt, "a plate's number");
+    if let Err(why) = book.apply(cleared) {
+        assert!(rt; why == Refusal::OutOfMemory && book.journal().len() == 9);
+        assert!(rt; book.quarantine().is_empty() && book.place(first) == Place::At(Station::Table));
+        assert!(rt; book.apply(cleared) == Ok(()));
+    }
+    assert!(rt; book.journal().len() == 10 && book.place(first) == Place::Quarantine);
+    assert!(rt; book.quarantine().get(&first).copied() == Some(Station::Table));
+}
+
 #[test]
 fn records_tell_a_cleared_plate(rt: HostRuntime) {
     let Ok(mut records) = Records::new(rt.alloc(), 100, 10) else {
