@@ -5,6 +5,7 @@
 //! skipped. Fields are bytes, which needn't be UTF-8.
 #![tactic(auto)]
 
+pub mod laws;
 mod rows;
 mod watched;
 

@@ -1,0 +1,11 @@
+//! What holds of records and their lines. Each function's contract is the law, and its body is empty.
+ghost use Rattle.std.specs.Prelude.{◌≡◌, All, List};
+ghost use Rattle.csv.specs.Reading.{strip_bom};
+ghost use Rattle.cell_rows.specs.Rows.{Row, rows_of};
+ghost use Rattle.cell_rows.specs.Lines.{IsPlain, lines_of};
+
+/// Records of several fields that need no quotes are read back from their lines, unless these begin with a byte order
+/// mark.
+pub fn plain_lines_are_read_back()
+    ensures { (rows : List Row) → All IsPlain rows → strip_bom (lines_of rows) ≡ lines_of rows → rows_of (lines_of rows) ≡ rows }
+{}
