@@ -3,6 +3,7 @@
 
 mod error;
 mod judge;
+pub mod laws;
 mod write;
 
 pub use error::AuditError;

@@ -195,26 +195,71 @@ fn takes_a_million_entries_and_the_faults_of_a_full_journal(rt: HostRuntime) {
 
 #[test]
 fn tells_that_the_reader_failed_after_any_number_of_bytes(rt: HostRuntime) {
-    let text = b"profile,1,,\nlamp,feed,green,\nadmitted,1,,\n".as_slice();
-    for fails_at in 0..text.len() + 1 {
+    for fails_at in 0..CARRIED.len() + 1 {
         let reader = Bytewise {
-            text,
+            text: CARRIED,
             at: 0,
             fails_at,
         };
-        let answer = audit(rt.alloc(), reader);
         assert_eq!(rt;
-            answer,
+            audit(rt.alloc(), reader),
             Err(AuditError::ReadFault),
             "after {fails_at} bytes"
         );
     }
 }
 
+// How many lines of a text begin with a word.
+fn lines_that_begin(text: &[u8], word: &[u8]) -> u32 {
+    let mut count = 0u32;
+    let mut rest = text;
+    for _ in 0..text.len() {
+        if rest.starts_with(word) {
+            count = count.saturating_add(1);
+        }
+        match rest.iter().position(|byte| *byte == b'\n') {
+            Some(end) => rest = rest.get(end.saturating_add(1)..).unwrap_or(b""),
+            None => break,
+        }
+    }
+    count
+}
+
+// What is due for the first bytes of a text of a legal journal, told from where its lines end: `rest` are the bytes
+// that are cut off.
+fn due_for_a_cut_text(text: &[u8], rest: &[u8]) -> Result<Totals, AuditError> {
+    let line_ends = text.iter().filter(|byte| **byte == b'\n').count() as u32;
+    let entries = match (text.last(), rest.first()) {
+        (None, _) => return Err(AuditError::Unreadable(0)),
+        (Some(b'\n'), _) => line_ends.saturating_sub(1),
+        (_, Some(b'\n')) => line_ends,
+        _ => return Err(AuditError::Unreadable(line_ends)),
+    };
+    totals(
+        entries,
+        lines_that_begin(text, b"admitted,"),
+        lines_that_begin(text, b"forged,"),
+        lines_that_begin(text, b"quarantined,"),
+        lines_that_begin(text, b"delivered,"),
+    )
+}
+
 #[test]
-fn reads_over_a_record_of_a_hundred_thousand_letters(rt: HostRuntime) -> Result<(), Fail> {
+fn judges_a_text_that_is_cut_anywhere(rt: HostRuntime) {
+    for cut in 0..CARRIED.len() + 1 {
+        let (text, rest) = CARRIED.split_at(cut);
+        assert_eq!(rt;
+            audit(rt.alloc(), text),
+            due_for_a_cut_text(text, rest),
+            "after {cut} bytes"
+        );
+    }
+}
+
+#[test]
+fn reads_over_a_record_of_a_million_letters(rt: HostRuntime) -> Result<(), Fail> {
     let alloc = rt.alloc();
-    let letters = vec![in alloc; b'a'; 100_000]?;
+    let letters = vec![in alloc; b'a'; 1_000_000]?;
     let text = joined(alloc, b"profile,1,,\n", letters.as_slice())?;
     assert_eq!(rt;
         audit(alloc, text.as_slice()),
@@ -223,19 +268,22 @@ fn reads_over_a_record_of_a_hundred_thousand_letters(rt: HostRuntime) -> Result<
     Ok(())
 }
 
-// A writer that takes a number of bytes and then fails.
+// A writer over memory that takes a number of bytes and then fails.
 #[derive(Drop)]
 struct Full {
     left: usize,
+    written: Vec<u8>,
 }
 
 impl Write for Full {
     fn write(&mut self, buf: &[u8]) -> io::Result<usize> {
-        if self.left < buf.len() {
+        let count = self.left.min(buf.len());
+        if count == 0 && !buf.is_empty() {
             return Err(io::Error::from(io::ErrorKind::StorageFull));
         }
-        self.left -= buf.len();
-        Ok(buf.len())
+        self.written.write_all(&buf[..count])?;
+        self.left -= count;
+        Ok(count)
     }
 
     fn flush(&mut self) -> io::Result<()> {
@@ -279,9 +327,28 @@ fn writes_the_text_that_is_audited(rt: HostRuntime) -> Result<(), Fail> {
     assert_eq!(rt; write_journal(alloc, &journal, &mut text), Ok(()));
     assert_eq!(rt; text.as_slice(), CARRIED);
     assert_eq!(rt; audit(alloc, text.as_slice()), totals(62, 1, 1, 0, 1));
-    for left in [0, 11, 12, CARRIED.len() - 1] {
-        let answer = write_journal(alloc, &journal, &mut Full { left });
+    Ok(())
+}
+
+#[test]
+fn tells_that_the_writer_failed_after_any_number_of_bytes(rt: HostRuntime) -> Result<(), Fail> {
+    let alloc = rt.alloc();
+    let journal = carried(alloc)?;
+    for left in 0..CARRIED.len() {
+        let mut full = Full {
+            left,
+            written: Vec::new(alloc),
+        };
+        let answer = write_journal(alloc, &journal, &mut full);
         assert_eq!(rt; answer, Err(WriteError::WriteFault), "after {left} bytes");
+        let (written, _) = CARRIED.split_at(left);
+        assert_eq!(rt; full.written.as_slice(), written, "after {left} bytes");
     }
+    let mut full = Full {
+        left: CARRIED.len(),
+        written: Vec::new(alloc),
+    };
+    assert_eq!(rt; write_journal(alloc, &journal, &mut full), Ok(()));
+    assert_eq!(rt; full.written.as_slice(), CARRIED);
     Ok(())
 }
