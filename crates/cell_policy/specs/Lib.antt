@@ -1,0 +1,3 @@
+pub mod Reads
+pub mod Router
+pub mod Lights
