@@ -1,5 +1,5 @@
 -- What is printed of a refusal: its name, and the word of the machine, axis, zone, station or light that it names
-use Rattle.std.specs.Prelude.{ℕ, List, Option, Some, None, codes}
+use Rattle.std.specs.Prelude.{ℕ, ◌∷◌, ◌++◌, List, Option, Some, None, codes}
 use Rattle.cell_types.specs.Texts.{machine_word, axis_word, zone_word, station_word, belt_word}
 use Rattle.plate_book.specs.declared.refusal.Refusal.{Refusal}
 use Rattle.plate_book.specs.declared.refusal.Refusal.TheVariants.{JournalFull, PlateLimit, MachineFailed, MachineHealthy, OwnerFailed, WrongPose, ZoneTaken, NotHolder, NotNeighbour, StationEmpty, StationFull, WrongPlate, LampRed, LampAlready, NoPress, AlreadyAsked, PlateStillThere, OutOfMemory}
@@ -38,3 +38,12 @@ refusal_word (LampAlready b) = Some (belt_word b)
 refusal_word (AlreadyAsked m) = Some (machine_word m)
 refusal_word (PlateStillThere s) = Some (station_word s)
 refusal_word _ = None
+
+-- a name, and its word after a blank, if it has one
+abbrev pub with_word : List ℕ → Option (List ℕ) → List ℕ
+with_word name (Some word) = name ++ 32 ∷ word
+with_word name None = name
+
+-- a refusal as it is printed
+abbrev pub refusal_text : Refusal → List ℕ
+refusal_text why = with_word (refusal_name why) (refusal_word why)

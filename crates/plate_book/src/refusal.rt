@@ -96,6 +96,11 @@ impl Refusal {
 }
 
 impl fmt::Display for Refusal {
+    ghost use Rattle.std.specs.Prelude.{Some};
+    ghost use Rattle.plate_book.specs.Words.{refusal_text};
+
+    ghost output = { λ why. Some (refusal_text why) };
+
     fn fmt<W: fmt::Write>(&self, f: &mut fmt::Formatter<W>) -> fmt::Result {
         match self.word() {
             Some(word) => write!(f, "{} {word}", self.name()),
