@@ -1,0 +1,4 @@
+pub mod Handings
+pub mod Complete
+pub mod Unloading
+pub mod Own

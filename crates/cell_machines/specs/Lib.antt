@@ -1,0 +1,9 @@
+pub mod Room
+pub mod Feed
+pub mod Table
+pub mod Presses
+pub mod Deposit
+pub mod Jobs
+pub mod Robot
+pub mod Useful
+pub mod Candidates
