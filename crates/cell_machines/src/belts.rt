@@ -54,10 +54,7 @@ pub fn propose_feed(book: &Book, plan: u32) -> Option<Entry>
     first_bookable(
         book,
         &[
-            (
-                is_way_to_table_shut(book),
-                yielded(Machine::Feed, Zone::Z1),
-            ),
+            (is_way_to_table_shut(book), yielded(Machine::Feed, Zone::Z1)),
             (true, started(Axis::FeedBelt, Pose::ToTable)),
             (true, started(Axis::FeedBelt, Pose::ToEnd)),
             (is_table_waiting(book), claimed(Machine::Feed, Zone::Z1)),

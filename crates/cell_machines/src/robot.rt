@@ -345,6 +345,7 @@ pub fn claim_to_unload(book: &Book) -> Option<Entry>
 pub fn propose_robot(book: &Book) -> Option<Entry>
     ensures { result ≡ first_bookable book.now.limits (cell_of book.now.entries) (map (robot_row book.now.limits (cell_of book.now.entries)) (candidates (cell_of book.now.entries) machines.Robot)) }
 {
-    hand_by_arm1(book).or(hand_by_arm2(book).or(draw_in(book)
-        .or(yield_one(book).or(reach_out(book).or(turn(book).or(claim(book)))))))
+    hand_by_arm1(book).or(hand_by_arm2(book).or(draw_in(book).or(yield_one(book).or(reach_out(
+        book,
+    ).or(turn(book).or(claim(book)))))))
 }

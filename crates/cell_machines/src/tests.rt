@@ -88,34 +88,138 @@ const USEFUL: [(usize, u32, &str); 33] = [
     (4, 5, "claimed,feed,z1,"),
     (5, 5, "started,feed_belt,to_table,"),
     (7, 5, "lamp,feed,green, yielded,feed,z1, claimed,table,z2,"),
-    (10, 5, "lamp,feed,green, started,table_lift,high, started,table_turn,robot,"),
-    (14, 5, "lamp,feed,green, yielded,table,z1, yielded,table,z2,"),
+    (
+        10,
+        5,
+        "lamp,feed,green, started,table_lift,high, started,table_turn,robot,",
+    ),
+    (
+        14,
+        5,
+        "lamp,feed,green, yielded,table,z1, yielded,table,z2,",
+    ),
     (16, 5, "lamp,feed,green, claimed,robot,z2,"),
     (19, 5, "lamp,feed,green, gripped,arm1,1,table"),
-    (20, 5, "lamp,feed,green, claimed,table,z1, started,arm_one,in,"),
-    (22, 5, "lamp,feed,green, claimed,table,z1, yielded,robot,z2,"),
-    (23, 5, "lamp,feed,green, claimed,table,z1, claimed,table,z2, claimed,robot,z3,"),
-    (24, 5, "lamp,feed,green, claimed,table,z1, claimed,table,z2, started,robot_turn,p1_load,"),
-    (26, 5, "lamp,feed,green, claimed,table,z1, claimed,table,z2, started,arm_one,out,"),
-    (28, 5, "lamp,feed,green, claimed,table,z1, claimed,table,z2, dropped,arm1,1,press1"),
-    (29, 5, "lamp,feed,green, claimed,table,z1, claimed,table,z2, started,arm_one,in,"),
-    (32, 1, "claimed,table,z1, claimed,table,z2, claimed,press1,z3,"),
-    (33, 1, "claimed,table,z1, claimed,table,z2, started,press_one,top,"),
-    (35, 1, "claimed,table,z1, claimed,table,z2, started,press_one,bottom,"),
-    (37, 1, "claimed,table,z1, claimed,table,z2, yielded,press1,z3,"),
-    (38, 1, "claimed,table,z1, claimed,table,z2, claimed,robot,z3,"),
-    (39, 1, "claimed,table,z1, claimed,table,z2, started,robot_turn,p1_unload,"),
-    (43, 1, "claimed,table,z1, claimed,table,z2, gripped,arm2,1,press1"),
-    (44, 1, "claimed,table,z1, claimed,table,z2, started,arm_two,in,"),
-    (46, 1, "claimed,table,z1, claimed,table,z2, yielded,robot,z3,"),
-    (47, 1, "claimed,table,z1, claimed,table,z2, claimed,robot,z5, claimed,press1,z3,"),
-    (53, 1, "claimed,table,z1, claimed,table,z2, started,arm_two,in, claimed,press1,z3,"),
-    (56, 1, "claimed,table,z1, claimed,table,z2, claimed,press1,z3, claimed,deposit,z5,"),
-    (57, 1, "claimed,table,z1, claimed,table,z2, claimed,press1,z3, started,deposit_belt,to_end,"),
-    (59, 1, "claimed,table,z1, claimed,table,z2, claimed,press1,z3, lamp,deposit,green, yielded,deposit,z5,"),
-    (60, 1, "claimed,table,z1, claimed,table,z2, claimed,press1,z3, lamp,deposit,green,"),
-    (61, 1, "claimed,table,z1, claimed,table,z2, claimed,press1,z3,"),
-    (62, 1, "claimed,table,z1, claimed,table,z2, claimed,press1,z3,"),
+    (
+        20,
+        5,
+        "lamp,feed,green, claimed,table,z1, started,arm_one,in,",
+    ),
+    (
+        22,
+        5,
+        "lamp,feed,green, claimed,table,z1, yielded,robot,z2,",
+    ),
+    (
+        23,
+        5,
+        "lamp,feed,green, claimed,table,z1, claimed,table,z2, claimed,robot,z3,",
+    ),
+    (
+        24,
+        5,
+        "lamp,feed,green, claimed,table,z1, claimed,table,z2, started,robot_turn,p1_load,",
+    ),
+    (
+        26,
+        5,
+        "lamp,feed,green, claimed,table,z1, claimed,table,z2, started,arm_one,out,",
+    ),
+    (
+        28,
+        5,
+        "lamp,feed,green, claimed,table,z1, claimed,table,z2, dropped,arm1,1,press1",
+    ),
+    (
+        29,
+        5,
+        "lamp,feed,green, claimed,table,z1, claimed,table,z2, started,arm_one,in,",
+    ),
+    (
+        32,
+        1,
+        "claimed,table,z1, claimed,table,z2, claimed,press1,z3,",
+    ),
+    (
+        33,
+        1,
+        "claimed,table,z1, claimed,table,z2, started,press_one,top,",
+    ),
+    (
+        35,
+        1,
+        "claimed,table,z1, claimed,table,z2, started,press_one,bottom,",
+    ),
+    (
+        37,
+        1,
+        "claimed,table,z1, claimed,table,z2, yielded,press1,z3,",
+    ),
+    (
+        38,
+        1,
+        "claimed,table,z1, claimed,table,z2, claimed,robot,z3,",
+    ),
+    (
+        39,
+        1,
+        "claimed,table,z1, claimed,table,z2, started,robot_turn,p1_unload,",
+    ),
+    (
+        43,
+        1,
+        "claimed,table,z1, claimed,table,z2, gripped,arm2,1,press1",
+    ),
+    (
+        44,
+        1,
+        "claimed,table,z1, claimed,table,z2, started,arm_two,in,",
+    ),
+    (
+        46,
+        1,
+        "claimed,table,z1, claimed,table,z2, yielded,robot,z3,",
+    ),
+    (
+        47,
+        1,
+        "claimed,table,z1, claimed,table,z2, claimed,robot,z5, claimed,press1,z3,",
+    ),
+    (
+        53,
+        1,
+        "claimed,table,z1, claimed,table,z2, started,arm_two,in, claimed,press1,z3,",
+    ),
+    (
+        56,
+        1,
+        "claimed,table,z1, claimed,table,z2, claimed,press1,z3, claimed,deposit,z5,",
+    ),
+    (
+        57,
+        1,
+        "claimed,table,z1, claimed,table,z2, claimed,press1,z3, started,deposit_belt,to_end,",
+    ),
+    (
+        59,
+        1,
+        "claimed,table,z1, claimed,table,z2, claimed,press1,z3, lamp,deposit,green, yielded,deposit,z5,",
+    ),
+    (
+        60,
+        1,
+        "claimed,table,z1, claimed,table,z2, claimed,press1,z3, lamp,deposit,green,",
+    ),
+    (
+        61,
+        1,
+        "claimed,table,z1, claimed,table,z2, claimed,press1,z3,",
+    ),
+    (
+        62,
+        1,
+        "claimed,table,z1, claimed,table,z2, claimed,press1,z3,",
+    ),
 ];
 
 pub(crate) fn entry_of(rt: &impl Abort, record: &str) -> Entry {
@@ -154,7 +258,13 @@ fn is_same(answer: &Option<Entry>, entry: &Entry) -> bool {
 }
 
 // Whether a machine proposes one of those of these entries that are its own, and nothing where there is none.
-fn proposes_one_of(rt: &impl Abort, machine: Machine, book: &Book, plan: u32, useful: &str) -> bool {
+fn proposes_one_of(
+    rt: &impl Abort,
+    machine: Machine,
+    book: &Book,
+    plan: u32,
+    useful: &str,
+) -> bool {
     let answer = propose(machine, book, plan);
     let mut is_listed = false;
     let mut is_wanted = false;
@@ -176,7 +286,10 @@ fn useful_entries_are_proposed(rt: HostRuntime) {
     for (count, plan, useful) in USEFUL {
         let book = begun(&rt, rt.alloc(), 100, count, &[]);
         for machine in MACHINES {
-            assert!(rt; proposes_one_of(&rt, machine, &book, plan, useful), "after {count}");
+            assert!(rt;
+                proposes_one_of(&rt, machine, &book, plan, useful),
+                "after {count}"
+            );
         }
     }
 }
@@ -196,7 +309,10 @@ fn faults_are_answered(rt: HostRuntime) {
         let book = begun(&rt, rt.alloc(), 100, count, records);
         let answers = proposes_one_of(&rt, Machine::Robot, &book, 1, useful);
         assert!(rt; answers, "after {count}");
-        assert!(rt; proposes_one_of(&rt, Machine::Press1, &book, 1, ""), "after {count}");
+        assert!(rt;
+            proposes_one_of(&rt, Machine::Press1, &book, 1, ""),
+            "after {count}"
+        );
     }
 }
 

@@ -66,7 +66,10 @@ fn book_one(rt: &impl Abort, book: &mut Book, entry: Option<Entry>) -> bool {
         return false;
     };
     let answer = book.apply(entry);
-    assert!(rt; answer == Ok(()), "a proposal, a motion's end and a sign are allowed");
+    assert!(rt;
+        answer == Ok(()),
+        "a proposal, a motion's end and a sign are allowed"
+    );
     true
 }
 
@@ -121,11 +124,7 @@ fn proposals_carry_plates_through_the_cell(rt: HostRuntime) {
     let none: &[&str] = &[];
     let first_failed: &[&str] = &["declared,press1,operator_stop,"];
     let second_failed: &[&str] = &["declared,press2,operator_stop,"];
-    for (records, first, second) in [
-        (none, 3, 2),
-        (first_failed, 0, 5),
-        (second_failed, 5, 0),
-    ] {
+    for (records, first, second) in [(none, 3, 2), (first_failed, 0, 5), (second_failed, 5, 0)] {
         let book = walked(&rt, rt.alloc(), 5, records);
         let totals = book.totals();
         assert!(rt; totals.admitted == 5 && totals.forged == 5 && totals.delivered == 5);
