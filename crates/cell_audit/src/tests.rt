@@ -228,7 +228,12 @@ fn lines_that_begin(text: &[u8], word: &[u8]) -> u32 {
 // What is due for the first bytes of a text of a legal journal, told from where its lines end: `rest` are the bytes
 // that are cut off.
 fn due_for_a_cut_text(text: &[u8], rest: &[u8]) -> Result<Totals, AuditError> {
-    let line_ends = text.iter().filter(|byte| **byte == b'\n').count() as u32;
+    let mut line_ends = 0u32;
+    for byte in text {
+        if *byte == b'\n' {
+            line_ends = line_ends.saturating_add(1);
+        }
+    }
     let entries = match (text.last(), rest.first()) {
         (None, _) => return Err(AuditError::Unreadable(0)),
         (Some(b'\n'), _) => line_ends.saturating_sub(1),

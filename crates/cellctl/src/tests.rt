@@ -6,6 +6,22 @@ use std::io;
 use std::io::{Read, Write};
 use std::test::Fail;
 
+// A plate that is carried whole through the cell.
+static CARRIED: &[u8] = b"profile,1,,\nlamp,feed,green,\nadmitted,1,,\nstarted,feed_belt,to_end,\n\
+conveyed,feed_belt,1,feed_end\nclaimed,feed,z1,\nstarted,feed_belt,to_table,\nconveyed,feed_belt,1,table\n\
+yielded,feed,z1,\nclaimed,table,z1,\nclaimed,table,z2,\nstarted,table_lift,high,\narrived,table_lift,high,\n\
+started,table_turn,robot,\narrived,table_turn,robot,\nyielded,table,z1,\nyielded,table,z2,\nclaimed,robot,z2,\n\
+started,arm_one,out,\narrived,arm_one,out,\ngripped,arm1,1,table\nstarted,arm_one,in,\narrived,arm_one,in,\n\
+yielded,robot,z2,\nclaimed,robot,z3,\nstarted,robot_turn,p1_load,\narrived,robot_turn,p1_load,\n\
+started,arm_one,out,\narrived,arm_one,out,\ndropped,arm1,1,press1\nstarted,arm_one,in,\narrived,arm_one,in,\n\
+yielded,robot,z3,\nclaimed,press1,z3,\nstarted,press_one,top,\nforged,press1,1,\nstarted,press_one,bottom,\n\
+arrived,press_one,bottom,\nyielded,press1,z3,\nclaimed,robot,z3,\nstarted,robot_turn,p1_unload,\n\
+arrived,robot_turn,p1_unload,\nstarted,arm_two,out,\narrived,arm_two,out,\ngripped,arm2,1,press1\n\
+started,arm_two,in,\narrived,arm_two,in,\nyielded,robot,z3,\nclaimed,robot,z5,\nstarted,robot_turn,deposit2,\n\
+arrived,robot_turn,deposit2,\nstarted,arm_two,out,\narrived,arm_two,out,\ndropped,arm2,1,dep_in\n\
+started,arm_two,in,\narrived,arm_two,in,\nyielded,robot,z5,\nclaimed,deposit,z5,\nstarted,deposit_belt,to_end,\n\
+conveyed,deposit_belt,1,dep_end\nyielded,deposit,z5,\nlamp,deposit,green,\ndelivered,1,,\n";
+
 // A reader that fails after a number of bytes.
 #[derive(Drop)]
 struct Failing {
@@ -120,19 +136,110 @@ fn prints_what_an_audit_finds(rt: HostRuntime) -> Result<(), Fail> {
 }
 
 #[test]
+fn prints_what_an_audit_finds_in_texts_of_other_makers(rt: HostRuntime) -> Result<(), Fail> {
+    let alloc = rt.alloc();
+    let one = b"legal 1\nadmitted 0\nforged 0\nquarantined 0\ndelivered 0\n".as_slice();
+    let none = b"legal 0\nadmitted 0\nforged 0\nquarantined 0\ndelivered 0\n".as_slice();
+    for (name, text, status, wanted) in [
+        (
+            "line ends of Windows",
+            b"profile,1,,\r\nlamp,feed,green,\r\n".as_slice(),
+            0,
+            one,
+        ),
+        (
+            "line ends of old Macintoshes",
+            b"profile,1,,\rlamp,feed,green,\r",
+            0,
+            one,
+        ),
+        (
+            "a byte order mark",
+            b"\xef\xbb\xbfprofile,1,,\nlamp,feed,green,\n",
+            0,
+            one,
+        ),
+        (
+            "two byte order marks",
+            b"\xef\xbb\xbf\xef\xbb\xbfprofile,1,,\n",
+            1,
+            b"unreadable 0\n",
+        ),
+        (
+            "a byte order mark further on",
+            b"profile,1,,\n\xef\xbb\xbflamp,feed,green,\n",
+            1,
+            b"unreadable 1\n",
+        ),
+        (
+            "text of two bytes a letter",
+            b"\xff\xfep\x00r\x00o\x00f\x00i\x00l\x00e\x00",
+            1,
+            b"unreadable 0\n",
+        ),
+        (
+            "all fields quoted",
+            b"\"profile\",\"1\",\"\",\"\"\n\"lamp\",\"feed\",\"green\",\"\"\n",
+            0,
+            one,
+        ),
+        (
+            "a quote that isn't closed",
+            b"profile,1,,\nlamp,feed,\"green,\nadmitted,1,,\n",
+            1,
+            b"unreadable 1\n",
+        ),
+        ("a blank line first", b"\nprofile,1,,\n", 0, none),
+        ("blank lines last", b"profile,1,,\n\n\r\n", 0, none),
+        ("lines without a record", b"\n\n", 1, b"unreadable 0\n"),
+        ("a blank first", b" profile,1,,\n", 1, b"unreadable 0\n"),
+        (
+            "a blank last",
+            b"profile,1,,\nlamp,feed,green, \n",
+            1,
+            b"unreadable 1\n",
+        ),
+        (
+            "a line of blanks",
+            b"profile,1,,\n   \n",
+            1,
+            b"unreadable 1\n",
+        ),
+        (
+            "a zero byte last",
+            b"profile,1,,\n\x00",
+            1,
+            b"unreadable 1\n",
+        ),
+        ("capital letters", b"PROFILE,1,,\n", 1, b"unreadable 0\n"),
+        ("semicolons", b"profile;1;;\n", 1, b"unreadable 0\n"),
+        (
+            "a row of headings",
+            b"kind,a,b,c\nprofile,1,,\n",
+            1,
+            b"unreadable 0\n",
+        ),
+        ("no profile", b"lamp,feed,green,\n", 1, b"unreadable 0\n"),
+    ] {
+        let mut written = Vec::new(alloc);
+        let answer = audit_lines(alloc, text, &mut written);
+        assert_eq!(rt; answer, Ok(status), "{name}");
+        assert_eq!(rt; written.as_slice(), wanted, "{name}");
+    }
+    Ok(())
+}
+
+#[test]
 fn prints_nothing_where_the_reader_fails(rt: HostRuntime) {
     let alloc = rt.alloc();
-    for left in [0usize, 5, 12, 20] {
+    for left in 0..CARRIED.len() + 1 {
         let reader = Failing {
-            text: b"profile,1,,\nadmitted,1,,\n",
+            text: CARRIED,
             left,
         };
         let mut written = Vec::new(alloc);
-        assert_eq!(rt;
-            audit_lines(alloc, reader, &mut written),
-            Ok(3),
-            "after {left} bytes"
-        );
+        let answer = audit_lines(alloc, reader, &mut written);
+        assert_eq!(rt; answer, Ok(3), "after {left} bytes");
         assert!(rt; written.is_empty(), "after {left} bytes");
     }
 }
