@@ -1,5 +1,6 @@
 #!/bin/sh
-# Times the audit of a long legal journal against reading the same bytes alone.
+# Times the audit of a long legal journal against reading the same bytes alone. Where valgrind is there, it also counts
+# the instructions that an entry takes, which don't depend on what else the machine does, and whose they are.
 # Usage: bench/run.sh [PLATES]     13,000 plates by default, which are 987,986 entries (22 MB)
 set -eu
 here=$(cd "$(dirname "$0")" && pwd)
@@ -31,4 +32,13 @@ echo "cellctl audit: $((audit_time / 1000)) microseconds, $((entries * 100000000
 "$cellctl" audit < "$journal"
 if [ -x /usr/bin/time ]; then
     /usr/bin/time -f 'peak memory: %M kB' "$cellctl" audit < "$journal" > /dev/null
+fi
+if command -v valgrind > /dev/null && command -v callgrind_annotate > /dev/null; then
+    counts=$(mktemp)
+    trap 'rm -f "$journal" "$counts"' EXIT
+    valgrind --tool=callgrind --callgrind-out-file="$counts" "$cellctl" audit < "$journal" > /dev/null 2>&1
+    callgrind_annotate "$counts" | awk -v entries="$entries" '
+        /%\)/ { count = $1; gsub(",", "", count); count = int(count / entries) }
+        /PROGRAM TOTALS/ { print "instructions an entry: " count; next }
+        /%\)/ && count >= 5 { sub(/^.*%\) *[^ :]*:/, ""); sub(/::<.*/, ""); sub(/ \[.*/, ""); print "  " count " in " $0 }'
 fi
