@@ -1,5 +1,4 @@
 use crate::{Action, Script, ScriptError, entry_of};
-use cell_rows::RowReader;
 use cell_types::{Entry, Machine, PlateId, Station, read_fields};
 use plate_book::Book;
 use std::alloc::{AllocError, Global};
@@ -7,46 +6,54 @@ use std::process::Abort;
 use std::test::Fail;
 
 // The entries that carry a plate from the feed belt to the table.
-const TO_TABLE: [&[u8]; 8] = [
-    b"lamp,feed,green,",
-    b"admitted,1,,",
-    b"started,feed_belt,to_end,",
-    b"conveyed,feed_belt,1,feed_end",
-    b"claimed,feed,z1,",
-    b"started,feed_belt,to_table,",
-    b"conveyed,feed_belt,1,table",
-    b"yielded,feed,z1,",
+const TO_TABLE: [&str; 8] = [
+    "lamp,feed,green,",
+    "admitted,1,,",
+    "started,feed_belt,to_end,",
+    "conveyed,feed_belt,1,feed_end",
+    "claimed,feed,z1,",
+    "started,feed_belt,to_table,",
+    "conveyed,feed_belt,1,table",
+    "yielded,feed,z1,",
 ];
 
-const STOPPED_TABLE: &[u8] = b"declared,table,operator_stop,";
+const STOPPED_TABLE: &str = "declared,table,operator_stop,";
 
 // The entry of a record.
-fn entry(alloc: Global, record: &[u8]) -> Option<Entry> {
-    let mut rows = RowReader::new(alloc, record);
-    match rows.advance() {
-        Ok(_) => match rows.four() {
-            Some(four) => read_fields(&[four.first, four.second, four.third, four.fourth]),
-            None => None,
-        },
-        Err(_) => None,
-    }
+fn entry(rt: &impl Abort, record: &str) -> Entry {
+    let mut fields = record.split(',');
+    let kind = fields.next().unwrap_or("").as_bytes();
+    let first = fields.next().unwrap_or("").as_bytes();
+    let second = fields.next().unwrap_or("").as_bytes();
+    let third = fields.next().unwrap_or("").as_bytes();
+    read_fields(&[kind, first, second, third]).expect(rt, record)
 }
 
 // Books the entries of records.
-fn book_all(rt: &impl Abort, alloc: Global, book: &mut Book, records: &[&[u8]]) {
+fn book_all(rt: &impl Abort, book: &mut Book, records: &[&str]) {
     for record in records {
-        match entry(alloc, record) {
-            Some(entry) => assert_eq!(rt; book.apply(entry), Ok(())),
-            None => panic!(rt; "no record"),
-        }
+        let answer = book.apply(entry(rt, record));
+        assert!(rt; answer == Ok(()), "{record}");
     }
 }
 
 // A book with the entries of these records.
-fn book_of(rt: &impl Abort, alloc: Global, records: &[&[u8]]) -> Result<Book, Fail> {
+fn book_of(rt: &impl Abort, alloc: Global, records: &[&str]) -> Result<Book, Fail> {
     let mut book = Book::new(alloc, 100, 10)?;
-    book_all(rt, alloc, &mut book, records);
+    book_all(rt, &mut book, records);
     Ok(book)
+}
+
+// Does what a script has next, and books it.
+fn do_next(rt: &impl Abort, script: &mut Script, book: &mut Book) {
+    match script.next(book) {
+        Some(action) => {
+            let answer = book.apply(entry_of(action));
+            assert!(rt; answer == Ok(()));
+            script.done();
+        }
+        None => panic!(rt; "nothing is to be done"),
+    }
 }
 
 // A number of lines that ask for a stop of the feed belt, and then a text.
@@ -154,7 +161,7 @@ fn waits_for_a_trigger(rt: HostRuntime) -> Result<(), Fail> {
     let mut script = Script::read(alloc, b"admitted,1,stop,feed\n")?;
     let mut book = Book::new(alloc, 100, 10)?;
     assert_eq!(rt; script.next(&book), None);
-    book_all(&rt, alloc, &mut book, &TO_TABLE[..2]);
+    book_all(&rt, &mut book, &["lamp,feed,green,", "admitted,1,,"]);
     assert_eq!(rt; script.next(&book), Some(Action::Stop(Machine::Feed)));
     script.done();
     assert_eq!(rt; script.next(&book), None);
@@ -166,22 +173,52 @@ fn waits_for_a_trigger(rt: HostRuntime) -> Result<(), Fail> {
 #[test]
 fn waits_until_its_entry_is_allowed(rt: HostRuntime) -> Result<(), Fail> {
     let alloc = rt.alloc();
-    let script = Script::read(alloc, b"failed,table,clear,table\n")?;
-    let mut visited = book_of(&rt, alloc, &TO_TABLE[..7])?;
-    assert_eq!(rt; script.next(&visited), None);
-    book_all(&rt, alloc, &mut visited, &[STOPPED_TABLE]);
-    assert_eq!(rt; script.next(&visited), None);
-    let mut left = book_of(&rt, alloc, &TO_TABLE)?;
-    book_all(&rt, alloc, &mut left, &[STOPPED_TABLE]);
-    let plate = PlateId::new(1).ok_or("plate 1")?;
-    let clear = Action::Clear(Station::Table, plate);
-    assert_eq!(rt; script.next(&left), Some(clear));
-    let entry = entry_of(clear);
-    let src = Station::Table;
-    assert_eq!(rt; entry, Entry::Quarantined { plate, src });
-    assert_eq!(rt; left.apply(entry), Ok(()));
-    assert_eq!(rt; script.next(&left), None);
+    let mut script = Script::read(alloc, b"failed,table,clear,table\n")?;
+    let mut book = book_of(&rt, alloc, &TO_TABLE)?;
+    assert_eq!(rt; script.next(&book), None);
+    book_all(&rt, &mut book, &["claimed,feed,z1,", STOPPED_TABLE]);
+    assert_eq!(rt; script.next(&book), None);
+    book_all(&rt, &mut book, &["yielded,feed,z1,"]);
+    let clear = Action::Clear(Station::Table, PlateId::default());
+    assert_eq!(rt; script.next(&book), Some(clear));
+    do_next(&rt, &mut script, &mut book);
+    assert!(rt; book.plate_at(Station::Table).is_none());
+    assert_eq!(rt; script.next(&book), None);
     Ok(())
+}
+
+#[test]
+fn a_station_under_a_visit_is_not_cleared(rt: HostRuntime) -> Result<(), Fail> {
+    let alloc = rt.alloc();
+    let script = Script::read(alloc, b"failed,table,clear,table\n")?;
+    let mut book = Book::new(alloc, 100, 10)?;
+    for record in TO_TABLE.iter().take(7) {
+        book_all(&rt, &mut book, &[record]);
+    }
+    book_all(&rt, &mut book, &[STOPPED_TABLE]);
+    assert_eq!(rt; script.next(&book), None);
+    Ok(())
+}
+
+#[test]
+fn books_actions_by_their_entries(rt: HostRuntime) {
+    let machine = Machine::Robot;
+    assert_eq!(rt;
+        entry_of(Action::Stop(machine)),
+        Entry::StopAsked { machine }
+    );
+    assert_eq!(rt;
+        entry_of(Action::Repair(machine)),
+        Entry::Repaired { machine }
+    );
+    let cleared = Entry::Quarantined {
+        plate: PlateId::default(),
+        src: Station::Arm1,
+    };
+    assert_eq!(rt;
+        entry_of(Action::Clear(Station::Arm1, PlateId::default())),
+        cleared
+    );
 }
 
 #[test]
@@ -191,16 +228,14 @@ fn does_lines_in_their_order(rt: HostRuntime) -> Result<(), Fail> {
     let mut script = Script::read(alloc, text)?;
     let mut book = book_of(&rt, alloc, &TO_TABLE)?;
     assert_eq!(rt; script.next(&book), None);
-    book_all(&rt, alloc, &mut book, &[STOPPED_TABLE]);
-    let plate = PlateId::new(1).ok_or("plate 1")?;
+    book_all(&rt, &mut book, &[STOPPED_TABLE]);
     for wanted in [
-        Action::Clear(Station::Table, plate),
+        Action::Clear(Station::Table, PlateId::default()),
         Action::Repair(Machine::Table),
         Action::Stop(Machine::Robot),
     ] {
         assert_eq!(rt; script.next(&book), Some(wanted));
-        assert_eq!(rt; book.apply(entry_of(wanted)), Ok(()));
-        script.done();
+        do_next(&rt, &mut script, &mut book);
     }
     assert_eq!(rt; script.next(&book), None);
     assert!(rt; book.asked(Machine::Robot));
