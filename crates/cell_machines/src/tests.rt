@@ -317,7 +317,7 @@ fn faults_are_answered(rt: HostRuntime) {
 }
 
 #[test]
-fn a_full_journal_changes_no_proposal(rt: HostRuntime) {
+fn a_drop_is_proposed_at_a_full_journal(rt: HostRuntime) {
     let book = begun(&rt, rt.alloc(), 28, 28, &[]);
     let answers = proposes_one_of(&rt, Machine::Robot, &book, 1, "dropped,arm1,1,press1");
     assert!(rt; answers);
