@@ -1,0 +1,22 @@
+//! The machines' workers: what a turn books, what a port is sent, and schedules of turns on one thread.
+#![tactic(auto)]
+
+mod expected;
+mod following;
+pub mod memory;
+mod moving;
+mod noticing;
+pub mod plan;
+pub mod port;
+pub mod ruling;
+mod signs;
+pub mod six;
+pub mod turn;
+mod visits;
+pub mod watch;
+mod watching;
+
+pub use plan::Plan;
+pub use port::{Act, OperatorPort, Port, PortFault};
+pub use six::Six;
+pub use watch::Watch;
