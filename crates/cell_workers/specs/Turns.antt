@@ -5,10 +5,10 @@ use Rattle.cell_types.specs.declared.words.Command.{Command}
 use Rattle.cell_types.specs.declared.words.Entry.{Entry}
 use Rattle.cell_types.specs.declared.words.Entry.TheVariants.{Arrived, Conveyed, Forged}
 use Rattle.cell_types.specs.Entries.{machine_of_entry}
-use Rattle.cell_views.specs.Views.{is_failed, is_asked, is_admitted}
+use Rattle.cell_views.specs.Views.{is_failed, is_asked, is_quarantined}
 use Rattle.plate_book.specs.declared.limits.Limits.{Limits}
 use Rattle.plate_book.specs.declared.refusal.Refusal.{Refusal}
-use Rattle.plate_book.specs.declared.refusal.Refusal.TheVariants.{JournalFull, PlateLimit}
+use Rattle.plate_book.specs.declared.refusal.Refusal.TheVariants.{PlateLimit, OutOfMemory}
 use Rattle.plate_book.specs.Telling.{first_of}
 use Rattle.cell_diagnosis.specs.declared.reading.Reading.{Reading}
 use Rattle.cell_machines.specs.Useful.{is_useful}
@@ -65,13 +65,17 @@ mind_after J m p s r e =
       memory = memory_after J (J ++ option_to_list e) m s.memory r e;
     }
 
--- a turn of m is refused: the plates' numbers have run out, or the book refuses the entry, which is only for want of room
--- in the journal or because an Admitted would pass the plate limit
-pub record IsRefused (l : Limits) (J : List Entry) (m : Machine) (p : Plan) (s : Mind) (r : Option Reading) (e : Entry) (why : Refusal) : Type 0 where
-  pub decided : IsDecided l J m p s r (Some e)
-  pub first : first_of l J e ≡ Some why
-  pub kind : (why ≡ JournalFull) ⊎ ((why ≡ PlateLimit) × (is_admitted e ≡ true))
+-- why the book didn't book an entry
+abbrev pub IsUnbooked : Limits → List Entry → Option Entry → Refusal → Type 0
+IsUnbooked l J None why = ⊥
+IsUnbooked l J (Some e) why = (why ≡ OutOfMemory → is_quarantined e ≡ true) × (why ≢ OutOfMemory → first_of l J e ≡ Some why)
+
+-- a turn of m is refused: the plates' numbers have run out, or the book refuses the entry that was decided
+pub record IsRefused (l : Limits) (J : List Entry) (m : Machine) (p : Plan) (s : Mind) (r : Option Reading) (why : Refusal) : Type 0 where
+  pub entry : Entry
+  pub decided : IsDecided l J m p s r (Some entry)
+  pub first : first_of l J entry ≡ Some why
 
 abbrev pub IsTurnedAway : Limits → List Entry → Machine → Plan → Mind → Option Reading → Refusal → Type 0
 IsTurnedAway l J m p s r why =
-    ((ruling J m p s r ≡ PastLast) × (why ≡ PlateLimit)) ⊎ ((e : Entry) × IsRefused l J m p s r e why)
+    ((ruling J m p s r ≡ PastLast) × (why ≡ PlateLimit)) ⊎ IsRefused l J m p s r why

@@ -24,6 +24,7 @@ use plate_book::Book;
 
 /// What a turn noted: the watches with its reading, what they say, the motion that the book shows, and whether the reading
 /// shows a sign.
+#[derive(Clone, Copy, Debug)]
 pub struct Noticed {
     pub axis: Option<AxisWatch>,
     pub rest: RestWatch,
