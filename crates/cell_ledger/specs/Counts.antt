@@ -1,5 +1,5 @@
 -- Sums of totals
-use Rattle.std.specs.Prelude.{ℕ, ◌<◌, ◌+◌, ◌^◌, [], ◌∷◌}
+use Rattle.std.specs.Prelude.{◌<◌, ◌+◌, ◌^◌, [], ◌∷◌}
 use Rattle.cell_types.specs.declared.words.Totals.{Totals}
 use Rattle.cell_types.specs.declared.words.Entry.{Entry}
 use Rattle.cell_views.specs.Views.{count_of}
