@@ -1,3 +1,4 @@
 pub mod Logs
 pub mod Acts
 pub mod Minds
+pub mod Rooms

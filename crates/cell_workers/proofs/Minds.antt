@@ -51,6 +51,20 @@ fits_after w J m p s r e w' noted_axis noted_rest fit axis_fits rest_fits axis_n
 
 -- a turn, as the code has it
 
+pub ruling_is : (w : Watch) (J : List Entry) (p : Plan) (s : Mind) (r : Option Reading) (k : Ruling) (motion : Option Motion) (sign : Bool) (at_axis at_rest : Verdict)
+    → motion ≡ motion_of_machine J p w.machine
+    → sign ≡ shows_sign J w.machine r
+    → k ≡ ruling_by J w.machine w.memory.command_failed w.memory.failed (w.memory.sign && sign) motion at_axis at_rest
+    → FitsMind w s
+    → ((f : Option Following) → FitsAxis w.axis f → at_axis ≡ axis_verdict (axis_noted J w.machine p f r))
+    → ((L : List Noted) → RestFits w.rest L → at_rest ≡ rest (rest_noted J w.machine w.memory L r))
+    → k ≡ ruling J w.machine p s r
+ruling_is w J p s r k motion sign at_axis at_rest motion_is sign_is k_is fit axis_is rest_is =
+    k_is
+    ∙ ap (λ (o : Option Motion). ruling_by J w.machine w.memory.command_failed w.memory.failed (w.memory.sign && sign) o at_axis at_rest) motion_is
+    ∙ ap (λ (b : Bool). ruling_by J w.machine w.memory.command_failed w.memory.failed (w.memory.sign && b) (motion_of_machine J p w.machine) at_axis at_rest) sign_is
+    ∙ ruled w J w.machine p s r at_axis at_rest fit axis_is rest_is
+
 pub decided : (l : Limits) (w : Watch) (J : List Entry) (p : Plan) (s : Mind) (r : Option Reading) (k : Ruling) (e : Option Entry) (motion : Option Motion) (sign : Bool) (at_axis at_rest : Verdict)
     → motion ≡ motion_of_machine J p w.machine
     → sign ≡ shows_sign J w.machine r
@@ -62,10 +76,7 @@ pub decided : (l : Limits) (w : Watch) (J : List Entry) (p : Plan) (s : Mind) (r
     → IsDecided l J w.machine p s r e
 decided l w J p s r k e motion sign at_axis at_rest motion_is sign_is k_is fit axis_is rest_is h =
     subst (λ (x : Ruling). IsRuled l J w.machine p.plates x e)
-    (k_is
-    ∙ ap (λ (o : Option Motion). ruling_by J w.machine w.memory.command_failed w.memory.failed (w.memory.sign && sign) o at_axis at_rest) motion_is
-    ∙ ap (λ (b : Bool). ruling_by J w.machine w.memory.command_failed w.memory.failed (w.memory.sign && b) (motion_of_machine J p w.machine) at_axis at_rest) sign_is
-    ∙ ruled w J w.machine p s r at_axis at_rest fit axis_is rest_is)
+    (ruling_is w J p s r k motion sign at_axis at_rest motion_is sign_is k_is fit axis_is rest_is)
     h
 
 pub fits_turned : (w : Watch) (J J' : List Entry) (p : Plan) (s : Mind) (r : Option Reading) (e : Option Entry) (w' : Watch) (noted_axis : Option AxisWatch) (noted_rest : RestWatch) (anew sign : Bool)

@@ -4,21 +4,29 @@ use Rattle.cell_types.specs.declared.words.Machine.{Machine}
 use Rattle.cell_types.specs.declared.words.Command.{Command}
 use Rattle.cell_types.specs.declared.words.Entry.{Entry}
 use Rattle.cell_types.specs.declared.words.Entry.TheVariants.{Arrived, Conveyed, Forged}
-use Rattle.cell_types.specs.Entries.{machine_of_entry}
-use Rattle.cell_views.specs.Views.{is_failed, is_asked, is_quarantined}
+use Rattle.std.specs.Option.{option_and_then}
+use Rattle.cell_types.specs.Entries.{actor_of, command_of}
+use Rattle.cell_types.specs.declared.words.Actor.TheVariants as actor
+use Rattle.cell_views.specs.Views.{is_failed, is_asked, is_admitted, is_quarantined, count_of}
 use Rattle.plate_book.specs.declared.limits.Limits.{Limits}
 use Rattle.plate_book.specs.declared.refusal.Refusal.{Refusal}
-use Rattle.plate_book.specs.declared.refusal.Refusal.TheVariants.{PlateLimit, OutOfMemory}
+use Rattle.plate_book.specs.declared.refusal.Refusal.TheVariants.{JournalFull, PlateLimit, OutOfMemory}
+use Rattle.plate_book.specs.History.{History}
 use Rattle.plate_book.specs.Telling.{first_of}
+use Rattle.cell_ledger.specs.Counts.{plus}
+use Rattle.cell_ledger.specs.Held.{Held, held}
 use Rattle.cell_diagnosis.specs.declared.reading.Reading.{Reading}
 use Rattle.cell_machines.specs.Useful.{is_useful}
 use Rattle.cell_workers.specs.declared.plan.Plan.{Plan}
 use Rattle.cell_workers.specs.declared.memory.Memory.{Memory}
+use Rattle.cell_workers.specs.declared.turns.TurnError.{TurnError}
+use Rattle.cell_workers.specs.declared.turns.TurnError.TheVariants.{OutOfMemory as NoMemory, Refused}
+use Rattle.cell_workers.specs.declared.watch.Watch.{Watch}
 use Rattle.cell_workers.specs.declared.ruling.Ruling.{Ruling}
 use Rattle.cell_workers.specs.declared.ruling.Ruling.TheVariants.{Nothing, Books, PastLast, Proposes}
 use Rattle.cell_workers.specs.Visits.{is_visited}
 use Rattle.cell_workers.specs.Signs.{shows_sign}
-use Rattle.cell_workers.specs.Minds.{Following, Mind, remembered}
+use Rattle.cell_workers.specs.Minds.{Following, Mind, FitsMind, remembered}
 use Rattle.cell_workers.specs.Rulings.{axis_noted, rest_noted, ruling}
 
 -- what is proposed: a useful entry, and none only where no entry is useful
@@ -70,12 +78,38 @@ abbrev pub IsUnbooked : Limits → List Entry → Option Entry → Refusal → T
 IsUnbooked l J None why = ⊥
 IsUnbooked l J (Some e) why = (why ≡ OutOfMemory → is_quarantined e ≡ true) × (why ≢ OutOfMemory → first_of l J e ≡ Some why)
 
+-- the refusals that a turn may meet: the journal has no room, or an Admitted would pass the plate limit
+abbrev pub may_meet : Entry → Option Refusal → Bool
+may_meet e None = true
+may_meet e (Some JournalFull) = true
+may_meet e (Some PlateLimit) = is_admitted e
+may_meet e (Some _) = false
+
 -- a turn of m is refused: the plates' numbers have run out, or the book refuses the entry that was decided
 pub record IsRefused (l : Limits) (J : List Entry) (m : Machine) (p : Plan) (s : Mind) (r : Option Reading) (why : Refusal) : Type 0 where
   pub entry : Entry
   pub decided : IsDecided l J m p s r (Some entry)
   pub first : first_of l J entry ≡ Some why
+  pub expected : may_meet entry (Some why) ≡ true
 
 abbrev pub IsTurnedAway : Limits → List Entry → Machine → Plan → Mind → Option Reading → Refusal → Type 0
 IsTurnedAway l J m p s r why =
     ((ruling J m p s r ≡ PastLast) × (why ≡ PlateLimit)) ⊎ IsRefused l J m p s r why
+
+-- why a turn answers an error: the list can't grow, or the turn is refused for want of room
+abbrev pub IsExcused : Limits → List Entry → Machine → Plan → Option Reading → Watch → TurnError → Type 0
+IsExcused l J m p r w (Refused why) =
+    ((s : Mind) → FitsMind w s → IsTurnedAway l J m p s r why) × ((why ≡ JournalFull) ⊎ (why ≡ PlateLimit))
+IsExcused l J m p r w NoMemory = Unit {0}
+
+-- a turn of m that answered c: what it booked, if anything, and what it did
+pub record Turned (m : Machine) (p : Plan) (r : Option Reading) (c : Option Command) (before after : History) (es es' : List Entry) (h h' : Held) (w w' : Watch) : Type 0 where
+  pub booked : Option Entry
+  pub decided : (s : Mind) → FitsMind w s → IsDecided before.limits before.entries m p s r booked
+  pub actor : IfSome booked (λ e. actor_of e ≡ actor.Machine m)
+  pub allowed : IfSome booked (λ e. first_of before.limits before.entries e ≡ None)
+  pub command : c ≡ option_and_then command_of booked
+  pub journal : after ≡ record { limits = before.limits; entries = before.entries ++ option_to_list booked }
+  pub list : es' ≡ es ++ option_to_list booked
+  pub shares : h' ≡ held h.parts (plus h.counts (count_of (option_to_list booked)))
+  pub fits : (s : Mind) → FitsMind w s → FitsMind w' (mind_after before.entries m p s r booked)

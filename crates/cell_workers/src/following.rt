@@ -53,10 +53,7 @@ pub fn followed(axis: Option<AxisWatch>, motion: Option<Motion>) -> Option<AxisW
 }
 
 /// Notes a reading, where a motion is followed.
-pub fn note_axis(
-    axis: Option<AxisWatch>,
-    reading: Option<Reading>,
-) -> (Option<AxisWatch>, Verdict)
+pub fn note_axis(axis: Option<AxisWatch>, reading: Option<Reading>) -> (Option<AxisWatch>, Verdict)
     ensures fits { (f : Option Following) → FitsAxis axis f → FitsAxis result.0 (option_map (with_reading reading) f) }
     ensures verdict { (f : Option Following) → FitsAxis axis f → result.1 ≡ axis_verdict (option_map (with_reading reading) f) }
 {

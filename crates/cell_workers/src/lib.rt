@@ -11,7 +11,9 @@ pub mod port;
 pub mod ruling;
 mod signs;
 pub mod six;
-pub mod turn;
+#[cfg(test)]
+mod tests;
+pub mod turns;
 mod visits;
 pub mod watch;
 mod watching;
@@ -19,4 +21,5 @@ mod watching;
 pub use plan::Plan;
 pub use port::{Act, OperatorPort, Port, PortFault};
 pub use six::Six;
+pub use turns::{TurnError, turn};
 pub use watch::Watch;

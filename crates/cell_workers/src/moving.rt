@@ -37,8 +37,7 @@ pub fn motion_of_machine(book: &Book, plan: &Plan, machine: Machine) -> Option<M
             book,
             plan,
             Axis::ArmOne,
-        )
-            .or(motion_on(book, plan, Axis::ArmTwo))),
+        ).or(motion_on(book, plan, Axis::ArmTwo))),
         Machine::Press1 => motion_on(book, plan, Axis::PressOne),
         Machine::Press2 => motion_on(book, plan, Axis::PressTwo),
         Machine::Deposit => motion_on(book, plan, Axis::DepositBelt),

@@ -2,8 +2,8 @@
 ghost use Rattle.std.specs.Prelude.{◌≡◌, true};
 ghost use Rattle.cell_workers.specs.Minds.{Mind, FitsMind, machine_of_watch, has_failed_command, first_mind, with_failure, remembered, is_quiet};
 
-use crate::visits::is_visited;
 use crate::memory::Memory;
+use crate::visits::is_visited;
 use crate::watch::Watch;
 use cell_diagnosis::RestWatch;
 use cell_types::Machine;

@@ -2,12 +2,14 @@
 ghost use Rattle.std.specs.Prelude.{◌≡◌, ◌<◌, ◌&&◌, ◌||◌, not, ◌∷◌, ◌++◌, [], Some, None, Option, List, is_none, IfOk, IfErr, IfSome, OnOk, OnErr, option_to_list, vec_len, vec_capacity, if◌then◌else◌};
 ghost use Rattle.cell_diagnosis.specs.RestFacts.{Noted as NotedValue};
 ghost use Rattle.cell_diagnosis.specs.RestWatches.{machine_of, RestFits};
+ghost use Rattle.cell_types.specs.Entries.{actor_of};
+ghost use Rattle.cell_types.specs.declared.words.Actor.TheVariants as actors;
 ghost use Rattle.cell_views.specs.Views.{count_of};
 ghost use Rattle.plate_book.specs.Telling.{first_of};
 ghost use Rattle.cell_ledger.specs.Counts.{plus};
 ghost use Rattle.cell_ledger.specs.Held.{held};
 ghost use Rattle.cell_workers.specs.Minds.{Mind, Following, FitsAxis, FitsMind, machine_of_watch, remembered};
-ghost use Rattle.cell_workers.specs.Turns.{IsRuled, IsDecided, IsTurnedAway, IsUnbooked, begins_anew, ends_motion, mind_after};
+ghost use Rattle.cell_workers.specs.Turns.{IsRuled, IsDecided, IsTurnedAway, IsUnbooked, IsExcused, begins_anew, ends_motion, mind_after, Turned};
 ghost use Rattle.cell_workers.specs.declared.ruling.Ruling.TheVariants.{PastLast};
 
 use crate::memory::Memory;
@@ -17,6 +19,7 @@ use crate::watching::remembered;
 use crate::{Plan, Watch};
 use cell_diagnosis::{AxisWatch, Reading, RestWatch};
 use cell_ledger::{Kept, Run, Shares};
+use cell_machines::laws::{useful_is_bookable, useful_is_own};
 use cell_machines::propose;
 use cell_types::{Command, Entry, Machine, command_of};
 use plate_book::{Book, Refusal};
@@ -113,13 +116,7 @@ fn rest_after(machine: Machine, noticed: &Noticed, anew: bool) -> RestWatch
 }
 
 /// The watch after a turn that left the book like this.
-fn after(
-    watch: &Watch,
-    book: &Book,
-    noticed: &Noticed,
-    anew: bool,
-    booked: &Option<Entry>,
-) -> Watch
+fn after(watch: &Watch, book: &Book, noticed: &Noticed, anew: bool, booked: &Option<Entry>) -> Watch
     requires { machine_of noticed.now.rest ≡ watch.now.machine }
     ensures axis { (f : Option Following) → FitsAxis noticed.now.axis f → FitsAxis result.axis (if anew || ends_motion booked.now then None else f) }
     ensures rest { (L : List NotedValue) → RestFits noticed.now.rest L → RestFits result.rest (if anew then [] else L) }
@@ -154,14 +151,20 @@ pub fn book_turn<R: Run>(
     ensures kept { IfOk result (λ e. kept.new ≡ record { limits = kept.old.limits; entries = kept.old.entries ++ option_to_list e }) }
     ensures shares { IfOk result (λ e. shares.new ≡ held shares.old.parts (plus shares.old.counts (count_of (option_to_list e)))) }
     ensures allowed { IfOk result (λ e. IfSome e (λ x. first_of kept.old.limits kept.old.entries x ≡ None)) }
+    ensures actor { IfOk result (λ e. IfSome e (λ x. actor_of x ≡ actors.Machine machine)) }
     ensures decided { IfOk result (λ e. (s : Mind) → FitsMind watch.old s → IsDecided kept.old.limits kept.old.entries machine plan.now s reading e) }
     ensures fits { IfOk result (λ e. (s : Mind) → FitsMind watch.old s → FitsMind watch.new (mind_after kept.old.entries machine plan.now s reading e)) }
     ensures machine { machine_of_watch watch.new ≡ machine }
+    ensures excused { IfErr result (λ e. IsExcused kept.old.limits kept.old.entries machine plan.now reading watch.old e) }
+    ensures memory { result ≡ Err TurnError.OutOfMemory → vec_capacity entries.old ≡ vec_len entries.old }
     ensures unchanged { OnErr result ((entries.new.items ≡ entries.old.items) × (kept.new ≡ kept.old) × (shares.new ≡ shares.old) × (watch.new ≡ watch.old)) }
 {
     if entries.reserve(1).is_err() {
         return Err(TurnError::OutOfMemory);
     }
+    kept.is_lawful();
+    useful_is_own();
+    useful_is_bookable();
     let book = kept.book();
     let noticed = notice(watch, book, reading, plan);
     let anew = begins_anew(book, watch.machine, &watch.memory);
@@ -176,4 +179,32 @@ pub fn book_turn<R: Run>(
     }
     *watch = after(watch, kept.book(), &noticed, anew, &booked);
     Ok(booked)
+}
+
+/// One turn of a machine under the book's lock. It notes the reading in the machine's watches and books at most one entry,
+/// that of the first of the nine points that applies, with the verdicts of all readings so far; it lists the entry and
+/// answers its command, which is to be sent once the lock is free.
+///
+/// `OutOfMemory` comes before all else, where the list can't take one more. `Refused` comes with `JournalFull`, or with
+/// `PlateLimit` where a plate would be admitted. After an error nothing has changed.
+pub fn turn<R: Run>(
+    machine: Machine,
+    kept: &mut Kept<R>,
+    shares: &mut Shares<R>,
+    watch: &mut Watch,
+    reading: Option<Reading>,
+    entries: &mut Vec<Entry>,
+    plan: &Plan,
+) -> Result<Option<Command>, TurnError>
+    requires { machine_of_watch watch.old ≡ machine }
+    ensures turned { IfOk result (λ c. Turned machine plan.now reading c kept.old kept.new entries.old.items entries.new.items shares.old shares.new watch.old watch.new) }
+    ensures machine { machine_of_watch watch.new ≡ machine }
+    ensures excused { IfErr result (λ e. IsExcused kept.old.limits kept.old.entries machine plan.now reading watch.old e) }
+    ensures memory { result ≡ Err TurnError.OutOfMemory → vec_capacity entries.old ≡ vec_len entries.old }
+    ensures unchanged { OnErr result ((entries.new.items ≡ entries.old.items) × (kept.new ≡ kept.old) × (shares.new ≡ shares.old) × (watch.new ≡ watch.old)) }
+{
+    match book_turn(machine, kept, shares, watch, reading, entries, plan)? {
+        Some(entry) => Ok(command_of(entry)),
+        None => Ok(None),
+    }
 }
