@@ -2,3 +2,4 @@ pub mod Logs
 pub mod Acts
 pub mod Minds
 pub mod Rooms
+pub mod Faults
