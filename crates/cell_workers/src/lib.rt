@@ -1,4 +1,4 @@
-//! The machines' workers: what a turn books, what a port is sent, and schedules of turns on one thread.
+//! The machines' workers: what a turn books and which command it answers, and what a port tells of what it was asked.
 #![tactic(auto)]
 
 mod expected;

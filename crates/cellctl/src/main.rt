@@ -4,7 +4,6 @@
 mod command;
 mod lines;
 mod order;
-mod plan;
 mod settings;
 
 use clap::Error;

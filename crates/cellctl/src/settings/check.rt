@@ -5,9 +5,9 @@ ghost use Rattle.cellctl.specs.Settings.{numbers_of};
 ghost use Rattle.cellctl.specs.Checked.{TellsCheck, line_of, WritesLine};
 
 use crate::lines::WriteFault;
-use crate::plan::Plan;
 use crate::settings::error::SettingsError;
 use crate::settings::read::read_settings;
+use cell_workers::Plan;
 use std::alloc::Global;
 use std::io;
 use std::io::Write;

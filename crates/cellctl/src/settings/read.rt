@@ -4,12 +4,12 @@ ghost use Rattle.toml.specs.View.{table_view};
 ghost use Rattle.cellctl.specs.Settings.{AnswersText, Gives, GivesNumbers, axes_due, numbers_due, numbers_of, settings_due};
 ghost use Rattle.cell_types.specs.Texts.{all_axis};
 
-use crate::plan::Plan;
 use crate::settings::error::SettingsError;
 use crate::settings::keys::check_keys;
 use crate::settings::numbers::{axis_limits, member_number};
 use cell_diagnosis::Limits;
 use cell_types::Axis;
+use cell_workers::Plan;
 use std::alloc::Global;
 use toml::Table;
 
