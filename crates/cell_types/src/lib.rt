@@ -17,8 +17,8 @@ pub use fields::{Field, spell};
 pub use plate_id::PlateId;
 pub use read::read_fields;
 pub use tables::{
-    STATIONS, actor_of, axis_of_arm, command_of, home, machine_of_axis, machine_of_belt, machine_of_station,
-    owner, press_axis, station_of_arm, visitor,
+    STATIONS, actor_of, axis_of_arm, command_of, home, machine_of_axis, machine_of_belt,
+    machine_of_station, owner, press_axis, station_of_arm, visitor,
 };
 pub use words::{
     Actor, Arm, Axis, AxisState, Belt, Cause, Colour, Command, Entry, Kind, Machine, Place, Pose,
