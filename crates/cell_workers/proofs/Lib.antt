@@ -3,3 +3,4 @@ pub mod Acts
 pub mod Minds
 pub mod Rooms
 pub mod Faults
+pub mod Declared

@@ -9,6 +9,7 @@ mod noticing;
 pub mod plan;
 pub mod port;
 pub mod ruling;
+mod sending;
 mod signs;
 pub mod six;
 #[cfg(test)]
