@@ -9,3 +9,4 @@ pub mod Signs
 pub mod Minds
 pub mod Rulings
 pub mod Turns
+pub mod Schedules

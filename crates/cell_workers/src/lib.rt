@@ -9,6 +9,7 @@ mod noticing;
 pub mod plan;
 pub mod port;
 pub mod ruling;
+pub mod schedule;
 mod sending;
 mod signs;
 pub mod six;
@@ -21,6 +22,7 @@ mod watching;
 
 pub use plan::Plan;
 pub use port::{Act, OperatorPort, Port, PortFault};
+pub use schedule::Step;
 pub use six::Six;
 pub use turns::{TurnError, turn};
 pub use watch::Watch;

@@ -1,5 +1,5 @@
 //! One turn of a machine.
-ghost use Rattle.std.specs.Prelude.{◌≡◌, ◌<◌, ◌&&◌, ◌||◌, not, ◌∷◌, ◌++◌, [], Some, None, Option, List, is_none, IfOk, IfErr, IfSome, OnOk, OnErr, option_to_list, vec_len, vec_capacity, if◌then◌else◌};
+ghost use Rattle.std.specs.Prelude.{◌≡◌, ◌<◌, ◌&&◌, ◌||◌, not, false, ◌∷◌, ◌++◌, [], Some, None, Option, List, is_none, IfOk, IfErr, IfSome, OnOk, OnErr, option_to_list, vec_len, vec_capacity, if◌then◌else◌};
 ghost use Rattle.cell_diagnosis.specs.RestFacts.{Noted as NotedValue};
 ghost use Rattle.cell_diagnosis.specs.RestWatches.{machine_of, RestFits};
 ghost use Rattle.cell_types.specs.Entries.{actor_of};
@@ -8,7 +8,7 @@ ghost use Rattle.cell_views.specs.Views.{count_of};
 ghost use Rattle.plate_book.specs.Telling.{first_of};
 ghost use Rattle.cell_ledger.specs.Counts.{plus};
 ghost use Rattle.cell_ledger.specs.Held.{held};
-ghost use Rattle.cell_workers.specs.Minds.{Mind, Following, FitsAxis, FitsMind, machine_of_watch, remembered};
+ghost use Rattle.cell_workers.specs.Minds.{Mind, Following, FitsAxis, FitsMind, machine_of_watch, has_failed_command, remembered};
 ghost use Rattle.cell_workers.specs.Turns.{IsRuled, IsDecided, IsTurnedAway, IsUnbooked, IsExcused, begins_anew, ends_motion, mind_after, Turned};
 ghost use Rattle.cell_workers.specs.declared.ruling.Ruling.TheVariants.{PastLast};
 
@@ -154,6 +154,7 @@ pub fn book_turn<R: Run>(
     ensures actor { IfOk result (λ e. IfSome e (λ x. actor_of x ≡ actors.Machine machine)) }
     ensures decided { IfOk result (λ e. (s : Mind) → FitsMind watch.old s → IsDecided kept.old.limits kept.old.entries machine plan.now s reading e) }
     ensures fits { IfOk result (λ e. (s : Mind) → FitsMind watch.old s → FitsMind watch.new (mind_after kept.old.entries machine plan.now s reading e)) }
+    ensures flag { IfOk result (λ e. IfSome e (λ _. has_failed_command watch.new ≡ false)) }
     ensures machine { machine_of_watch watch.new ≡ machine }
     ensures excused { IfErr result (λ e. IsExcused kept.old.limits kept.old.entries machine plan.now reading watch.old e) }
     ensures memory { result ≡ Err TurnError.OutOfMemory → vec_capacity entries.old ≡ vec_len entries.old }
