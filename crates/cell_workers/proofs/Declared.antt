@@ -1,5 +1,5 @@
 -- The entry that a turn decides on is a CommandFault exactly where the last command failed
-use Rattle.std.proofs.Common.{◌≡◌, ℕ, ◌+◌, Bool, true, false, ◌&&◌, nat_lt, Option, Some, None, List, if◌then◌else◌, refl, sym, ap, ◌∙◌, subst}
+use Rattle.std.proofs.Common.{◌≡◌, ℕ, ◌+◌, Bool, true, false, ◌&&◌, nat_lt, Option, Some, None, List, if◌then◌else◌, refl, sym, ◌∙◌, subst}
 use Rattle.std.specs.Option.{option_map}
 use Rattle.std.specs.List.{count_by}
 use Rattle.cell_types.specs.declared.words.Machine.{Machine}
@@ -31,7 +31,7 @@ use Rattle.cell_workers.specs.Sent.{is_command_fault}
 use Rattle.cell_workers.specs.Moving.{motion_of_machine}
 use Rattle.cell_workers.specs.Signs.{shows_sign}
 use Rattle.cell_workers.specs.Minds.{Mind}
-use Rattle.cell_workers.specs.Rulings.{axis_noted, axis_verdict, rest_noted, conveyed, forged, ending, next_plate, books, signed, by_sign, by_arrival, by_rest, by_axis, ruling_by, ruling}
+use Rattle.cell_workers.specs.Rulings.{axis_noted, axis_verdict, rest_noted, ending, books, signed, by_sign, by_arrival, by_rest, by_axis, ruling_by, ruling}
 use Rattle.cell_workers.specs.Turns.{IsRuled, IsDecided}
 use Rattle.cell_workers.proofs.Faults.{is_command_verdict, of_following, of_rest}
 

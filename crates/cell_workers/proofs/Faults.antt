@@ -1,8 +1,5 @@
 -- A CommandFault is declared exactly where the last command failed
-use Rattle.std.proofs.Common.{◌≡◌, ℕ, Bool, true, false, Option, Some, None, List, [], ◌∷◌, ◌++◌, if◌then◌else◌, refl, sym, ap, ◌∙◌, subst, IfSome}
-use Rattle.cell_types.specs.declared.words.Machine.{Machine}
-use Rattle.cell_types.specs.declared.words.Machine.TheVariants as machine
-use Rattle.cell_types.specs.declared.words.Cause.{Cause}
+use Rattle.std.proofs.Common.{◌≡◌, ℕ, Bool, true, false, Option, Some, None, List, [], ◌∷◌, ◌++◌, if◌then◌else◌, refl}
 use Rattle.cell_types.specs.declared.words.Cause.TheVariants as cause
 use Rattle.cell_diagnosis.specs.declared.motion.Motion.{Motion}
 use Rattle.cell_diagnosis.specs.declared.verdict.Verdict.{Verdict}

@@ -1,5 +1,5 @@
 -- What a port is sent, with one entry more
-use Rattle.std.proofs.Common.{◌≡◌, ℕ, ◌+◌, List, [], ◌∷◌, ◌++◌, Bool, true, false, if◌then◌else◌, Option, Some, None, option_to_list, not, refl, sym, ap, ap₂, ◌∙◌, append_assoc, append-nil, arith, cond, zero-add}
+use Rattle.std.proofs.Common.{◌≡◌, ◌+◌, List, [], ◌∷◌, ◌++◌, Bool, true, false, if◌then◌else◌, Option, Some, None, option_to_list, not, refl, sym, ap, ap₂, ◌∙◌, append_assoc, append-nil, arith, cond, zero-add}
 use Rattle.std.proofs.lemmas.List.Sums.{sum_by-append}
 use Rattle.cell_types.specs.declared.words.Command.{Command}
 use Rattle.cell_types.specs.declared.words.Entry.{Entry}

@@ -1,5 +1,5 @@
 -- What a turn does to the readings that a watch fits
-use Rattle.std.proofs.Common.{◌≡◌, ◌&&◌, ◌||◌, Bool, not, Option, None, List, [], ◌++◌, option_to_list, if◌then◌else◌, sym, ap, ◌∙◌, subst}
+use Rattle.std.proofs.Common.{◌≡◌, ◌&&◌, ◌||◌, Bool, not, Option, None, List, [], ◌++◌, option_to_list, if◌then◌else◌, ap, ◌∙◌, subst}
 use Rattle.std.specs.Prelude.{is_none}
 use Rattle.cell_types.specs.declared.words.Machine.{Machine}
 use Rattle.cell_types.specs.declared.words.Entry.{Entry}

@@ -1,5 +1,5 @@
 -- What a turn decides is the machine's own, and is refused only for want of room
-use Rattle.std.proofs.Common.{◌≡◌, ◌≢◌, IfSome, ℕ, ◌+◌, Bool, true, false, ◌&&◌, not, nat_lt, Option, Some, None, List, [], ◌∷◌, ◌==◌, is_some, if◌then◌else◌, refl, sym, ap, ◌∙◌, subst, ◌⊎◌, inl, inr}
+use Rattle.std.proofs.Common.{◌≡◌, ◌≢◌, IfSome, ℕ, ◌+◌, Bool, true, false, ◌&&◌, not, nat_lt, Option, Some, None, List, [], ◌∷◌, is_some, if◌then◌else◌, refl, sym, ap, ◌∙◌, subst, ◌⊎◌, inl, inr}
 use Rattle.std.proofs.Common.{eq-eqb}
 use Rattle.std.specs.Option.{option_map, option_or}
 use Rattle.std.specs.List.{count_by}
@@ -11,7 +11,6 @@ use Rattle.cell_types.specs.declared.words.Axis.{Axis}
 use Rattle.cell_types.specs.declared.words.Axis.TheVariants as axis
 use Rattle.cell_types.specs.declared.words.Pose.{Pose}
 use Rattle.cell_types.specs.declared.words.Pose.TheVariants as pose
-use Rattle.cell_types.specs.declared.words.Belt.{Belt}
 use Rattle.cell_types.specs.declared.words.Belt.TheVariants as belt
 use Rattle.cell_types.specs.declared.words.Colour.{Colour}
 use Rattle.cell_types.specs.declared.words.Colour.TheVariants as colour
@@ -23,7 +22,7 @@ use Rattle.cell_types.specs.declared.words.Entry.TheVariants.{Admitted, Arrived 
 use Rattle.cell_types.specs.Cell.{machine_of_axis, Motion as BeltMotion, motion_to}
 use Rattle.cell_types.specs.Entries.{actor_of}
 use Rattle.cell_types.specs.Same.{same_pose, pose_number, same_colour}
-use Rattle.cell_types.specs.After.{after, is_plate}
+use Rattle.cell_types.specs.After.{is_plate}
 use Rattle.cell_views.specs.Views.{at_of, going_of, plate_of, is_at, has_other, is_failed, is_asked, lamp_of, is_admitted, is_quarantined}
 use Rattle.cell_views.specs.Told.{Cell, cell_of}
 use Rattle.plate_book.specs.declared.limits.Limits.{Limits}
@@ -43,7 +42,6 @@ use Rattle.cell_workers.specs.Rulings.{conveyed, forged, ending, next_plate, boo
 use Rattle.cell_diagnosis.specs.declared.reading.Reading.{Reading}
 use Rattle.cell_diagnosis.specs.Readings.{bit}
 use Rattle.cell_machines.specs.Useful.{is_useful}
-use Rattle.cell_workers.specs.declared.turns.TurnError.{TurnError}
 use Rattle.cell_workers.specs.declared.turns.TurnError.TheVariants.{Refused}
 use Rattle.cell_workers.specs.declared.watch.Watch.{Watch}
 use Rattle.cell_workers.specs.Signs.{shows_sign}

@@ -1,7 +1,6 @@
 -- Schedules: which states the steps lead to
-use Rattle.std.specs.Prelude.{ℕ, ◌≡◌, ◌+◌, Bool, true, false, Option, Some, None, List, [], ◌∷◌, ◌++◌, take, option_to_list, if◌then◌else◌}
+use Rattle.std.specs.Prelude.{ℕ, ◌≡◌, ◌+◌, Bool, Option, None, List, [], ◌∷◌, ◌++◌, option_to_list, if◌then◌else◌}
 use Rattle.cell_types.specs.declared.words.Machine.{Machine}
-use Rattle.cell_types.specs.declared.words.Machine.TheVariants as machine
 use Rattle.cell_types.specs.declared.words.Actor.TheVariants as actor
 use Rattle.cell_types.specs.declared.words.Entry.{Entry}
 use Rattle.cell_types.specs.Entries.{actor_of}

@@ -1,5 +1,5 @@
 -- Signs of the operator: a plate laid in, or taken out
-use Rattle.std.specs.Prelude.{Bool, false, not, ◌&&◌, Option, Some, None, List}
+use Rattle.std.specs.Prelude.{Bool, false, not, ◌&&◌, Option, Some, List}
 use Rattle.cell_types.specs.declared.words.Machine.{Machine}
 use Rattle.cell_types.specs.declared.words.Machine.TheVariants as machine
 use Rattle.cell_types.specs.declared.words.Belt.TheVariants as belt

@@ -1,5 +1,5 @@
 -- What a turn does
-use Rattle.std.specs.Prelude.{ℕ, ◌≡◌, ◌≢◌, ◌+◌, ◌&&◌, ◌||◌, Bool, true, false, not, Option, Some, None, List, [], ◌++◌, length, option_to_list, if◌then◌else◌, ◌⊎◌, IfSome, is_none}
+use Rattle.std.specs.Prelude.{ℕ, ◌≡◌, ◌≢◌, ◌&&◌, ◌||◌, Bool, true, false, not, Option, Some, None, List, [], ◌++◌, option_to_list, if◌then◌else◌, ◌⊎◌, IfSome, is_none}
 use Rattle.cell_types.specs.declared.words.Machine.{Machine}
 use Rattle.cell_types.specs.declared.words.Command.{Command}
 use Rattle.cell_types.specs.declared.words.Entry.{Entry}
@@ -24,9 +24,8 @@ use Rattle.cell_workers.specs.declared.turns.TurnError.TheVariants.{OutOfMemory 
 use Rattle.cell_workers.specs.declared.watch.Watch.{Watch}
 use Rattle.cell_workers.specs.declared.ruling.Ruling.{Ruling}
 use Rattle.cell_workers.specs.declared.ruling.Ruling.TheVariants.{Nothing, Books, PastLast, Proposes}
-use Rattle.cell_workers.specs.Visits.{is_visited}
 use Rattle.cell_workers.specs.Signs.{shows_sign}
-use Rattle.cell_workers.specs.Minds.{Following, Mind, FitsMind, remembered}
+use Rattle.cell_workers.specs.Minds.{Mind, FitsMind, remembered}
 use Rattle.cell_workers.specs.Rulings.{axis_noted, rest_noted, ruling}
 
 -- what is proposed: a useful entry, and none only where no entry is useful
