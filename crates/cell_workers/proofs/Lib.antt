@@ -1,6 +1,0 @@
-pub mod Logs
-pub mod Acts
-pub mod Minds
-pub mod Rooms
-pub mod Faults
-pub mod Declared

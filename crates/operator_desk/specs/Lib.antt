@@ -1,4 +1,0 @@
-pub mod Lines
-pub mod Script
-pub mod Meaning
-pub mod Next
