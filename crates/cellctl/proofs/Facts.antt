@@ -1,10 +1,17 @@
--- The subcommand that clap's matches name.
-use Rattle.std.proofs.Common.{◌≡◌, Option, Some, None, option_map, refl}
+-- The subcommand that clap's matches name, and what is matched below it.
+use Rattle.std.proofs.Common.{◌≡◌, ℕ, Bor, List, Option, Some, None, option_map, refl, sym}
+use Rattle.std.specs.Prelude.{IfSome}
 
 abbrev pub both : {X A B : Type 0} → (X → A) → (X → B) → X → A × B
 both f g x = (f x, g x)
 
--- a value whose first part is known has a second
-pub with_second : {X A B : Type 0} (o : Option X) (f : X → A) (g : X → B) (a : A) → Some a ≡ option_map f o → (b : B) × (option_map (both f g) o ≡ Some (a, b))
-with_second None f g a h = cc h
-with_second (Some x) f g a h = let p : a ≡ f x = cc h in (g x, rw p refl)
+-- two parts of one value
+pub joined : {X A B : Type 0} (o : Option X) (f : X → A) (g : X → B) (a : A) (b : B)
+    → Some a ≡ option_map f o → Some b ≡ option_map (λ (p : A × B). p.1) (option_map (both f g) o) → option_map (both f g) o ≡ Some (a, b)
+joined None f g a b h k = cc h
+joined (Some x) f g a b h k = let p : a ≡ f x = cc h in let q : b ≡ g x = cc k in rw (p, q) refl
+
+-- a text that was found
+pub same-value : (o : Option (Bor (List ℕ))) (found : Option (List ℕ)) → option_map (λ s. s.now) o ≡ found → IfSome o (λ p. found ≡ Some p.now)
+same-value None found h = tt
+same-value (Some p) found h = sym h

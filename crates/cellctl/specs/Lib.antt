@@ -1,3 +1,6 @@
 pub mod Lines
 pub mod Shape
 pub mod Orders
+pub mod Keys
+pub mod Settings
+pub mod Checked

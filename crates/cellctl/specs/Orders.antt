@@ -1,13 +1,18 @@
 -- What an order has of the words
 use Rattle.std.specs.Prelude.{◌≡◌, List, Some, codes}
-use Rattle.clap.specs.Words.{Row, Text, subcommand_of}
+use Rattle.clap.specs.Words.{Row, Text, first_of, subcommand_of}
 use Rattle.cellctl.specs.Shape.{cellctl}
 use Rattle.cellctl.specs.declared.order.Order.{Order}
 use Rattle.cellctl.specs.declared.order.Order.TheVariants as order
 
+-- the path that is matched at an id
+abbrev pub HasPath : List Row → Text → Text → Type 0
+HasPath rows id path = first_of id rows ≡ Some path
+
 -- the order of a command's name and what is matched below it
 abbrev pub Fits : Text → List Row → Order → Type 0
 Fits name rows order.Audit = name ≡ codes "audit"
+Fits name rows (order.Check path) = (name ≡ codes "check") × HasPath rows (codes "settings") path.now
 
 -- the words have a command that clap matches in them, and the order is of it
 abbrev pub IsOrdered : List Text → Order → Type 0

@@ -1,6 +1,6 @@
 -- The command line that the program knows
 use Rattle.std.specs.Prelude.{true, codes}
-use Rattle.clap.specs.Words.{App, Shape, new_app, with_subcommand}
+use Rattle.clap.specs.Words.{App, Rule, Shape, Text, new_app, new_rule, with_rule, with_subcommand}
 
 -- the program's name alone asks for help
 abbrev pub needing_help : Shape → Shape
@@ -9,7 +9,14 @@ needing_help s = record s { subcommand_required = true; arg_required_else_help =
 abbrev pub audit : App
 audit = new_app (codes "audit")
 
+-- a path that has to be given
+abbrev pub path_rule : Text → Rule
+path_rule id = record (new_rule id) { required = true; value_names = 1 }
+
+abbrev pub check : App
+check = with_rule (new_app (codes "check")) (path_rule (codes "settings"))
+
 abbrev pub cellctl : App
 cellctl =
-    let whole = with_subcommand (new_app (codes "cellctl")) audit.top in
+    let whole = with_subcommand (with_subcommand (new_app (codes "cellctl")) audit.top) check.top in
     record whole { top = needing_help whole.top }

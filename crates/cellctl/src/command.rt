@@ -1,10 +1,10 @@
 //! The command line that the program knows, and its help.
 ghost use Rattle.std.specs.Prelude.{◌≡◌, IfOk, false};
-ghost use Rattle.clap.specs.Words.{app_of};
+ghost use Rattle.clap.specs.Words.{app_of, rule_of, with_subcommand};
 ghost use Rattle.clap.specs.declared.builder.command.Command.TheViews.{out-Command};
-ghost use Rattle.cellctl.specs.Shape.{audit, cellctl};
+ghost use Rattle.cellctl.specs.Shape.{audit, cellctl, check, path_rule};
 
-use clap::Command;
+use clap::{Arg, Command};
 use std::alloc::{AllocError, Global};
 
 const ABOUT: &str = "Keeps the journal of a fault-tolerant production cell.";
@@ -28,6 +28,28 @@ or the first record that can't be read, 0 for the profile's:
 
 Exit status: 0 legal, 1 refused or unreadable, 2 wrong arguments, 3 a read or a write failed, 4 out of memory.";
 
+const CHECK_ABOUT: &str = "Says whether a run's settings are good";
+
+const CHECK_HELP: &str = "\
+Reads settings in TOML from a file:
+  plates = 5               required, 1 to 100000
+  journal_limit = 100000   1 to 1000000, by default 100000
+  turns = 100000           1 to 10000000, by default 100000
+  [watch.press_one]        a table for each axis, or none
+  leave = 3                2 to 999, by default 3
+  limit = 20               above leave, to 1000, by default 20
+The axes are feed_belt, table_lift, table_turn, robot_turn, arm_one, arm_two, press_one, press_two and deposit_belt.
+
+Prints, for good settings:
+  settings ok
+or the first fault and the key that has it:
+  settings OutOfRange watch.press_one.limit
+The faults are, in this order, NotToml, UnknownKey, and then key by key Missing, NotNumber and OutOfRange.
+
+Exit status: 0 good, 1 a fault, 2 wrong arguments, 3 a read or a write failed, 4 out of memory.";
+
+const SETTINGS_HELP: &str = "The file with the settings";
+
 const EXAMPLE: &str = "Example: cellctl audit < journal.csv";
 
 fn audit_command<'a>(alloc: Global) -> Command<'a>
@@ -40,12 +62,48 @@ fn audit_command<'a>(alloc: Global) -> Command<'a>
         .after_help(EXAMPLE)
 }
 
+// A path that has to be given.
+fn path<'a>(alloc: Global, id: &'a str, name: &'a str, help: &'a str) -> Arg<'a>
+    ensures rule { rule_of result ≡ path_rule id.entry.now }
+    ensures local { result.global ≡ false }
+{
+    Arg::new(alloc, id)
+        .required(true)
+        .value_name(name)
+        .help(help)
+}
+
+fn check_command<'a>(alloc: Global) -> Result<Command<'a>, AllocError>
+    ensures app { IfOk result (λ c. app_of c ≡ check) }
+    ensures local { IfOk result (λ c. (out-Command c).has_globals ≡ false) }
+{
+    let command = Command::new(alloc, "check").arg(path(
+        alloc,
+        "settings",
+        "SETTINGS",
+        SETTINGS_HELP,
+    ))?;
+    Ok(command.about(CHECK_ABOUT).long_about(CHECK_HELP))
+}
+
+// Adds a command.
+fn add<'a>(command: Command<'a>, sub: Command<'a>) -> Result<Command<'a>, AllocError>
+    requires sub { (out-Command sub).has_globals ≡ false }
+    requires local { (out-Command command).has_globals ≡ false }
+    ensures app { IfOk result (λ c. app_of c ≡ with_subcommand (app_of command.entry) (app_of sub.entry).top) }
+    ensures local { IfOk result (λ c. (out-Command c).has_globals ≡ false) }
+{
+    command.subcommand(sub)
+}
+
 /// The command line of the program.
 pub(crate) fn command<'a>(alloc: Global) -> Result<Command<'a>, AllocError>
     ensures app { IfOk result (λ c. app_of c ≡ cellctl) }
     ensures local { IfOk result (λ c. (out-Command c).has_globals ≡ false) }
 {
-    let command = Command::new(alloc, "cellctl").subcommand(audit_command(alloc))?;
+    let bare = Command::new(alloc, "cellctl");
+    let one = add(bare, audit_command(alloc))?;
+    let command = add(one, check_command(alloc)?)?;
     Ok(
         command
             .about(ABOUT)

@@ -1,18 +1,21 @@
-//! `cellctl`: the audit of a production cell's journal.
+//! `cellctl`: the audit of a production cell's journal, and the check of a run's settings.
 #![tactic(auto)]
 
 mod command;
 mod lines;
 mod order;
+mod settings;
 
 use clap::Error;
 use clap::error::ErrorKind;
 use lines::{WriteFault, audit_lines};
 use order::{Order, read_words};
+use settings::check_lines;
 use std::env::Env;
 use std::io::Write;
 use std::process::ExitCode;
-use std::{env, io};
+use std::rt::Files;
+use std::{env, fs, io};
 
 #[cfg(test)]
 mod tests;
@@ -56,8 +59,22 @@ fn audit_input<R: AllocGlobal + Input + Print>(rt: &R) -> io::Result<u8> {
     }
 }
 
+// Checks the settings in a file. All that is printed is written out before the status is given.
+fn check_file<R: AllocGlobal + Files + Print>(rt: &R, path: &str) -> io::Result<u8> {
+    let alloc = rt.alloc();
+    let text = fs::read(rt, path)?;
+    let mut output = io::BufWriter::new(alloc, io::writer(rt))?;
+    match check_lines(alloc, text.as_slice(), &mut output) {
+        Ok(status) => {
+            output.flush()?;
+            Ok(status)
+        }
+        Err(WriteFault) => Ok(READ_FAULT),
+    }
+}
+
 // Reads the words, does what they say, and gives the status.
-fn run<R: AllocGlobal + Env + Input + Print + Eprint>(rt: &R) -> io::Result<u8> {
+fn run<R: AllocGlobal + Env + Files + Input + Print + Eprint>(rt: &R) -> io::Result<u8> {
     let alloc = rt.alloc();
     let arguments = match env::args(rt) {
         Ok(arguments) => arguments,
@@ -74,6 +91,7 @@ fn run<R: AllocGlobal + Env + Input + Print + Eprint>(rt: &R) -> io::Result<u8> 
     }
     match read_words(alloc, texts.as_slice()) {
         Ok(Order::Audit) => audit_input(rt),
+        Ok(Order::Check(path)) => check_file(rt, path),
         Err(error) => Ok(refuse(rt, &error)),
     }
 }

@@ -1,34 +1,57 @@
 //! The words of the command line.
-ghost use Rattle.std.specs.Prelude.{IfOk, map};
+ghost use Rattle.std.specs.Prelude.{IfOk, IfSome, map};
 ghost use Rattle.clap.specs.Kinds.{FailsBy};
-ghost use Rattle.clap.specs.Words.{fault_of};
+ghost use Rattle.clap.specs.Words.{fault_of, found_of, rows_of};
 ghost use Rattle.cellctl.specs.Shape.{cellctl};
-ghost use Rattle.cellctl.specs.Orders.{IsOrdered};
+ghost use Rattle.cellctl.specs.Orders.{Fits, HasPath, IsOrdered};
 
 use crate::command::command;
-use clap::Error;
+use clap::{ArgMatches, Error};
 use std::alloc::{AllocError, Global};
 
 /// What the program is to do.
 #[derive(Clone, Copy, Debug, PartialEq, Eq)]
-pub enum Order {
+pub enum Order<'a> {
     /// Audit the journal's text on standard input.
     Audit,
+    /// Check the settings in the file of this path.
+    Check(&'a str),
+}
+
+// The path at an id.
+fn path<'a>(matches: &ArgMatches<'a>, id: &str) -> Option<&'a str>
+    ensures { IfSome result (λ p. HasPath (rows_of (found_of matches.now)) id.now p.now) }
+{
+    matches.get_str(id)
+}
+
+// The order of a command's name and its matches.
+fn order_of<'a>(name: &str, matches: &ArgMatches<'a>) -> Option<Order<'a>>
+    ensures { IfSome result (Fits name.now (rows_of (found_of matches.now))) }
+{
+    match name {
+        "audit" => Some(Order::Audit),
+        "check" => Some(Order::Check(path(matches, "settings")?)),
+        _ => None,
+    }
 }
 
 /// Reads the words of the command line, of which the first is the program's name.
 ///
 /// The error is clap's: words that are no command, a request for help, or want of memory.
-pub fn read_words(alloc: Global, words: &[&str]) -> Result<Order, Error>
+pub fn read_words<'a>(alloc: Global, words: &'a [&'a str]) -> Result<Order<'a>, Error>
     // An order is that of the command which clap matches in the words.
     ensures order { IfOk result (IsOrdered (map (λ w. w.now) words.now)) }
     // It comes only where clap finds no fault in the words, and an error is the first fault's, or memory's.
     ensures fault { FailsBy (fault_of cellctl (map (λ w. w.now) words.now)) result }
 {
     let matches = command(alloc)?.try_get_matches_from(words)?;
-    match matches.subcommand_name() {
-        Some("audit") => Ok(Order::Audit),
-        // clap gives no matches with another command.
-        _ => Err(Error::from(AllocError)),
+    match matches.subcommand() {
+        Some((name, inner)) => match order_of(name, inner) {
+            Some(order) => Ok(order),
+            // clap gives no matches with another command, or without its path.
+            None => Err(Error::from(AllocError)),
+        },
+        None => Err(Error::from(AllocError)),
     }
 }

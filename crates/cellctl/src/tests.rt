@@ -259,11 +259,17 @@ fn tells_that_the_writer_failed(rt: HostRuntime) {
 fn reads_the_words_of_the_command_line(rt: HostRuntime) {
     let audit = read_words(rt.alloc(), &["cellctl", "audit"]);
     assert!(rt; matches!(&audit, Ok(Order::Audit)));
+    match read_words(rt.alloc(), &["cellctl", "check", "settings.toml"]) {
+        Ok(order) => assert_eq!(rt; order, Order::Check("settings.toml")),
+        Err(error) => panic!(rt; "refused: {:?}", error.kind()),
+    }
     for (words, kind) in [
         (["cellctl", "brew"].as_slice(), ErrorKind::InvalidSubcommand),
+        (&["cellctl", "sim"], ErrorKind::InvalidSubcommand),
+        (&["cellctl", "check"], ErrorKind::MissingRequiredArgument),
         (
-            &["cellctl", "check", "settings.toml"],
-            ErrorKind::InvalidSubcommand,
+            &["cellctl", "check", "one.toml", "two.toml"],
+            ErrorKind::UnknownArgument,
         ),
         (
             &["cellctl", "audit", "journal.csv"],

@@ -1,17 +1,17 @@
-use Rattle.std.proofs.Common.{◌≡◌, ◌∙◌, ap, sym, map, Some, List}
-use Rattle.clap.specs.Words.{App, Row, fault_of, is_simple, is_simple_and_free, subcommand_of, subcommand_rows_of}
-use Rattle.cellctl.proofs.Facts.{with_second}
+use Rattle.std.proofs.Common.{◌≡◌, ◌∙◌, ap, sym, map, Some}
+use Rattle.clap.specs.Words.{App, fault_of, found_of, is_simple, is_simple_and_free, rows_of, subcommand_of, subcommand_rows_of}
+use Rattle.cellctl.proofs.Facts.{joined}
 use Rattle.cellctl.proofs.order.read_words.Goals as goal
 
-pub returns-in-Some-audit-clause-order : goal.returns-in-Some-audit-clause-order
-returns-in-Some-audit-clause-order c =
+pub returns-in-Some-order_of-clause-order : goal.returns-in-Some-order_of-clause-order
+returns-in-Some-order_of-clause-order c =
     let app = c.in_ok-command.ensures.app in
     let parsed = (c.in_ok-matches.ensures.matches (ap is_simple app)).1 in
-    let (rows, here) : (rows : List Row) × (subcommand_rows_of c.in_ok-matches.matches ≡ Some (c.in-Some-audit.field-0.now, rows)) =
-    with_second _ _ _ c.in-Some-audit.field-0.now c.in-Some-audit.ensures in
-    (c.in-Some-audit.field-0.now, rows, sym (parsed ∙ ap (λ (a : App). subcommand_of a (map (λ w. w.now) c.args.words.now)) app) ∙ here, c.in-Some-audit.is-audit)
+    let here : subcommand_rows_of c.in_ok-matches.matches ≡ Some (c.in-Some.name.now, rows_of (found_of c.in-Some.inner.now)) =
+    joined _ _ _ _ _ c.in-Some.ensures.name c.in-Some.ensures.rows in
+    (c.in-Some.name.now, rows_of (found_of c.in-Some.inner.now), sym (parsed ∙ ap (λ (a : App). subcommand_of a (map (λ w. w.now) c.args.words.now)) app) ∙ here, c.in-Some-order_of.ensures)
 
-pub returns-in-Some-audit-clause-fault : goal.returns-in-Some-audit-clause-fault
-returns-in-Some-audit-clause-fault c =
+pub returns-in-Some-order_of-clause-fault : goal.returns-in-Some-order_of-clause-fault
+returns-in-Some-order_of-clause-fault c =
     let app = c.in_ok-command.ensures.app in
     sym (ap (λ (a : App). fault_of a (map (λ w. w.now) c.args.words.now)) app) ∙ c.in_ok-matches.ensures.kinds (ap is_simple_and_free app)

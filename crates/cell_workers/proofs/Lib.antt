@@ -1,0 +1,6 @@
+pub mod Logs
+pub mod Acts
+pub mod Minds
+pub mod Rooms
+pub mod Faults
+pub mod Declared

@@ -1,0 +1,12 @@
+pub mod Six
+pub mod Logs
+pub mod Sent
+pub mod Acts
+pub mod Moving
+pub mod Visits
+pub mod Expected
+pub mod Signs
+pub mod Minds
+pub mod Rulings
+pub mod Turns
+pub mod Schedules

@@ -1,0 +1,28 @@
+//! The machines' workers: what a turn books and which command it answers, and what a port tells of what it was asked.
+#![tactic(auto)]
+
+mod expected;
+mod following;
+pub mod memory;
+mod moving;
+mod noticing;
+pub mod plan;
+pub mod port;
+pub mod ruling;
+pub mod schedule;
+mod sending;
+mod signs;
+pub mod six;
+#[cfg(test)]
+mod tests;
+pub mod turns;
+mod visits;
+pub mod watch;
+mod watching;
+
+pub use plan::Plan;
+pub use port::{Act, OperatorPort, Port, PortFault};
+pub use schedule::Step;
+pub use six::Six;
+pub use turns::{TurnError, turn};
+pub use watch::Watch;

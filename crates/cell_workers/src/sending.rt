@@ -1,0 +1,30 @@
+//! The command of an entry that was booked.
+ghost use Rattle.std.specs.Prelude.{◌≡◌, ◌∷◌, ◌++◌, [], true, false, List, if◌then◌else◌};
+ghost use Rattle.cell_types.specs.declared.words.Entry.{Entry as EntryValue};
+ghost use Rattle.cell_workers.specs.Logs.{Log};
+ghost use Rattle.cell_workers.specs.Sent.{is_command_fault, Sends};
+ghost use Rattle.cell_workers.specs.Minds.{Mind, FitsMind, machine_of_watch, has_failed_command, with_failure};
+
+use crate::{Port, Watch};
+use cell_types::{Entry, command_of};
+
+/// Sends the command of an entry that was just booked, and notes in the watch that the port failed, if it did. It answers
+/// whether the port failed.
+pub fn send<P: Port>(port: &mut P, watch: &mut Watch, entry: &Entry) -> bool
+    requires { has_failed_command watch.old ≡ false }
+    ensures still { P.tells port.new ≡ true → P.tells port.old ≡ true }
+    ensures sends { P.tells port.new ≡ true → (before : Log) (es : List EntryValue) → Sends before (P.log port.old) es (is_command_fault entry.now) → Sends before (P.log port.new) (es ++ entry.now ∷ []) result }
+    ensures answers { P.tells port.new ≡ true → (P.log port.new).answers ≡ (P.log port.old).answers }
+    ensures failed { has_failed_command watch.new ≡ result }
+    ensures machine { machine_of_watch watch.new ≡ machine_of_watch watch.old }
+    ensures fits { (s : Mind) → FitsMind watch.old s → FitsMind watch.new (if result then with_failure s else s) }
+{
+    let Some(command) = command_of(*entry) else {
+        return false;
+    };
+    let failed = port.command(command).is_err();
+    if failed {
+        watch.command_failed();
+    }
+    failed
+}

@@ -1,0 +1,16 @@
+//! The settings of a run, which a text in TOML says, and the line of the command `check`.
+
+mod check;
+mod error;
+mod key_path;
+mod keys;
+mod numbers;
+mod read;
+
+pub use check::check_lines;
+pub use error::SettingsError;
+pub use key_path::KeyPath;
+pub use read::read_settings;
+
+#[cfg(test)]
+mod tests;

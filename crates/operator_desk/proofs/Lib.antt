@@ -1,0 +1,3 @@
+pub mod Facts
+pub mod Laws
+pub mod Left

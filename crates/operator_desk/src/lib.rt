@@ -1,0 +1,15 @@
+//! The operator's script: which machine is to be stopped or repaired and which station cleared, and when; and what the
+//! operator does next.
+#![tactic(auto)]
+
+mod action;
+mod line;
+mod read;
+mod script;
+
+pub use action::{Action, entry_of};
+pub use line::{Line, Task, Trigger};
+pub use script::{Script, ScriptError};
+
+#[cfg(test)]
+mod tests;

@@ -1,0 +1,86 @@
+//! The line of a record.
+ghost use Rattle.std.specs.Prelude.{◌≡◌};
+ghost use Rattle.cell_rows.specs.Rows.{current_row};
+ghost use Rattle.operator_desk.specs.Lines.{both, line_of, read_line, task_of, total_of, trigger_of};
+
+use crate::line::{Line, Task, Trigger};
+use cell_rows::{Four, RowReader};
+use cell_types::number::read_plate;
+use cell_types::texts::{read_machine, read_station};
+use std::io::Read;
+
+// The number of plates that decimal digits write, 0 to 100,000.
+fn read_total(bytes: &[u8]) -> Option<u32>
+    ensures { result ≡ total_of bytes.now }
+{
+    if bytes == b"0".as_slice() {
+        return Some(0);
+    }
+    match read_plate(bytes) {
+        Some(plate) => Some(plate.number()),
+        None => None,
+    }
+}
+
+// The trigger of a record's first two fields.
+#[tactic(auto, unfolding(crate::specs::Lines::trigger_of))]
+fn read_trigger(word: &[u8], bound: &[u8]) -> Option<Trigger>
+    ensures { result ≡ trigger_of word.now bound.now }
+{
+    if word == b"always".as_slice() {
+        if bound.is_empty() {
+            Some(Trigger::Always)
+        } else {
+            None
+        }
+    } else if word == b"admitted".as_slice() {
+        read_total(bound).map(Trigger::Admitted)
+    } else if word == b"delivered".as_slice() {
+        read_total(bound).map(Trigger::Delivered)
+    } else if word == b"quarantined".as_slice() {
+        read_total(bound).map(Trigger::Quarantined)
+    } else if word == b"failed".as_slice() {
+        read_machine(bound).map(Trigger::Failed)
+    } else {
+        None
+    }
+}
+
+// The task of a record's last two fields.
+#[tactic(auto, unfolding(crate::specs::Lines::task_of))]
+fn read_task(word: &[u8], argument: &[u8]) -> Option<Task>
+    ensures { result ≡ task_of word.now argument.now }
+{
+    if word == b"stop".as_slice() {
+        read_machine(argument).map(Task::Stop)
+    } else if word == b"clear".as_slice() {
+        read_station(argument).map(Task::Clear)
+    } else if word == b"repair".as_slice() {
+        read_machine(argument).map(Task::Repair)
+    } else {
+        None
+    }
+}
+
+// The line of four fields.
+fn read_fields(four: Four<'_>) -> Option<Line>
+    ensures { result ≡ line_of four.entry.first.now four.entry.second.now four.entry.third.now four.entry.fourth.now }
+{
+    match (
+        read_trigger(four.first, four.second),
+        read_task(four.third, four.fourth),
+    ) {
+        (Some(when), Some(task)) => Some(Line { when, task }),
+        _ => None,
+    }
+}
+
+/// The line of the record that was read.
+pub(crate) fn current_line<R: Read>(rows: &RowReader<R>) -> Option<Line>
+    ensures { result ≡ read_line (current_row rows.now) }
+{
+    match rows.four() {
+        Some(four) => read_fields(four),
+        None => None,
+    }
+}

@@ -1,0 +1,102 @@
+//! A script: the lines that aren't done yet.
+ghost use Rattle.std.specs.Prelude.{◌≡◌};
+ghost use Rattle.cell_rows.specs.Rows.{rows_of};
+ghost use Rattle.operator_desk.specs.Script.{Gives, lines_of};
+ghost use Rattle.operator_desk.specs.Meaning.{Means};
+ghost use Rattle.operator_desk.specs.Next.{left_after, next_of};
+
+use crate::action::{Action, action_now};
+use crate::line::Line;
+use crate::read::current_line;
+use cell_rows::RowReader;
+use plate_book::Book;
+use std::alloc::Global;
+use std::marker::Model;
+
+/// The most lines that a script may have.
+const MAX_LINES: u32 = 1000;
+
+/// Why a script can't be read.
+#[derive(Clone, Copy, Debug, PartialEq, Eq)]
+pub enum ScriptError {
+    /// This record, counted from 1, is no line.
+    Unreadable(u32),
+    /// There is a record 1,001.
+    TooManyLines,
+    /// Memory was refused.
+    OutOfMemory,
+}
+
+/// A script's lines, which are done in their order: those that aren't done yet.
+#[derive(Debug, Drop)]
+pub struct Script {
+    lines: Vec<Line>,
+    position: usize,
+}
+
+impl Model for Script {
+    ghost use Rattle.std.specs.Prelude.{List, drop};
+    ghost use Rattle.operator_desk.specs.declared.line.Line.{Line};
+
+    ghost Value = { List Line };
+
+    ghost view = { λ s. drop s.position s.lines.items };
+}
+
+impl Script {
+    /// Reads a script: at most 1,000 records of four fields, a trigger's word and what it names, and a task's word and
+    /// what it names, as `failed,press2,clear,press2`. The words and their meaning are this project's profile.
+    ///
+    /// The first record that is no line is `Unreadable`, counted from 1; a record 1,001 is `TooManyLines`, whatever it
+    /// holds; `OutOfMemory` comes only where memory was refused.
+    #[tactic(auto, unfolding(crate::specs::Script::lines_after))]
+    pub fn read(alloc: Global, text: &[u8]) -> Result<Script, ScriptError>
+        ensures exact { Gives result (lines_of (rows_of text.now)) }
+        ensures means { Means (rows_of text.now) result }
+    {
+        let mut rows = RowReader::new(alloc, text);
+        let mut lines = Vec::new(alloc);
+        for place in 0..MAX_LINES + 1 {
+            match rows.advance() {
+                Ok(found) => {
+                    if !found {
+                        return Ok(Script { lines, position: 0 });
+                    }
+                }
+                Err(_) => return Err(ScriptError::OutOfMemory),
+            }
+            if place == MAX_LINES {
+                return Err(ScriptError::TooManyLines);
+            }
+            match current_line(&rows) {
+                Some(line) => {
+                    if lines.push(line).is_err() {
+                        return Err(ScriptError::OutOfMemory);
+                    }
+                }
+                None => return Err(ScriptError::Unreadable(place + 1)),
+            }
+        }
+        unreachable!()
+    }
+
+    /// What is to be done next: the action of the first line that isn't done yet, where its trigger holds and the book
+    /// allows the action's entry; else nothing. A station is cleared of the plate that it has in the book.
+    pub fn next(&self, book: &Book) -> Option<Action>
+        ensures { result ≡ next_of self.now book.now }
+    {
+        match self.lines.get(self.position) {
+            Some(line) => action_now(book, *line),
+            None => None,
+        }
+    }
+
+    /// Marks the first line that isn't done yet as done, and no other; nothing where no line is left.
+    pub fn done(&mut self)
+        ensures { self.new ≡ left_after self.old }
+    {
+        if self.position < self.lines.len() {
+            self.position += 1;
+        }
+    }
+}
