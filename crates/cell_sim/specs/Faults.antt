@@ -1,21 +1,13 @@
 -- The planned fault of a record
-use Rattle.std.specs.Prelude.{ℕ, Bool, not, ◌==◌, ◌&&◌, nat_le, List, [], ◌∷◌, length, slice_index, Option, Some, None, option_map, if◌then◌else◌, codes}
+use Rattle.std.specs.Prelude.{ℕ, ◌==◌, List, [], ◌∷◌, length, Option, Some, None, option_map, if◌then◌else◌, codes}
 use Rattle.std.specs.Str.{bytes_eq}
 use Rattle.cell_rows.specs.Rows.{Row}
 use Rattle.cell_types.specs.declared.words.Axis.{Axis}
-use Rattle.cell_types.specs.Numbers.{all_digits, value_of}
+use Rattle.cell_types.specs.Numbers.{number_to}
 use Rattle.cell_types.specs.Texts.{axis_named}
 use Rattle.cell_sim.specs.declared.fault.Fault.{Fault}
 use Rattle.cell_sim.specs.declared.fault.Fault.TheVariants as fault
 use Rattle.cell_sim.specs.declared.fault.PlannedFault.{PlannedFault}
-
--- whether a text is one to seven decimal digits that don't begin with a zero (48)
-abbrev pub is_numeral : List ℕ → Bool
-is_numeral bs = not (length bs == 0) && (nat_le (length bs) 7 && (not (slice_index bs 0 == 48) && all_digits bs))
-
--- the number that a text writes, from 1 to a most one of seven digits or fewer
-abbrev pub number_to : ℕ → List ℕ → Option ℕ
-number_to most bs = if is_numeral bs && nat_le (value_of bs) most then Some (value_of bs) else None
 
 -- the fault of a word that takes no argument
 unfoldable pub plain_fault : List ℕ → Option Fault

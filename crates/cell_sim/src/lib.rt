@@ -2,7 +2,6 @@
 #![tactic(auto)]
 
 mod fault;
-mod number;
 mod read;
 mod script;
 

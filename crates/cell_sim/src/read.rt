@@ -4,8 +4,8 @@ ghost use Rattle.cell_rows.specs.Rows.{current_row};
 ghost use Rattle.cell_sim.specs.Faults.{fault_of, planned_by, plain_fault, read_fault};
 
 use crate::fault::{Fault, PlannedFault};
-use crate::number::read_number;
 use cell_rows::{Four, RowReader};
+use cell_types::number::read_number;
 use cell_types::texts::read_axis;
 use std::io::Read;
 
