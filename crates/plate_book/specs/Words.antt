@@ -1,6 +1,8 @@
 -- What is printed of a refusal: its name, and the word of the machine, axis, zone, station or light that it names
 use Rattle.std.specs.Prelude.{ℕ, ◌∷◌, ◌++◌, List, Option, Some, None, codes}
 use Rattle.cell_types.specs.Texts.{machine_word, axis_word, zone_word, station_word, belt_word}
+use Rattle.plate_book.specs.declared.open_error.OpenError.{OpenError}
+use Rattle.plate_book.specs.declared.open_error.OpenError.TheVariants as opening
 use Rattle.plate_book.specs.declared.refusal.Refusal.{Refusal}
 use Rattle.plate_book.specs.declared.refusal.Refusal.TheVariants.{JournalFull, PlateLimit, MachineFailed, MachineHealthy, OwnerFailed, WrongPose, ZoneTaken, NotHolder, NotNeighbour, StationEmpty, StationFull, WrongPlate, LampRed, LampAlready, NoPress, AlreadyAsked, PlateStillThere, OutOfMemory}
 
@@ -47,3 +49,9 @@ with_word name None = name
 -- a refusal as it is printed
 abbrev pub refusal_text : Refusal → List ℕ
 refusal_text why = with_word (refusal_name why) (refusal_word why)
+
+-- why a book isn't opened, as it is printed
+abbrev pub open_error_text : OpenError → List ℕ
+open_error_text opening.BadLimit = codes "the limit of entries is outside 1..=1,000,000"
+open_error_text opening.BadPlates = codes "the limit of plates is outside 1..=100,000"
+open_error_text opening.OutOfMemory = codes "out of memory"
