@@ -33,7 +33,7 @@ row-line x y ys p =
     ∙ ap (λ (t : List ℕ). x ++ t) (rest-text (y ∷ ys) (All-tail (λ f. needs_quotes default_writer f ≡ false) x (y ∷ ys) p)))
 
 -- one record
-one : (row : Row) (tail : List ℕ) → IsPlain row → rows_from st.StartRecord (line row ++ tail) ≡ row ∷ rows_from st.StartRecord tail
+pub one : (row : Row) (tail : List ℕ) → IsPlain row → rows_from st.StartRecord (line row ++ tail) ≡ row ∷ rows_from st.StartRecord tail
 one [] tail p = absurd (omega (arith, p.0))
 one (x ∷ []) tail p = absurd (omega (arith, p.0))
 one (x ∷ y ∷ ys) tail p =

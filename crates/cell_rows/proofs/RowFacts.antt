@@ -1,15 +1,16 @@
 -- The records that a text has, one record at a time.
-use Rattle.std.proofs.Common.{◌≡◌, ◌≢◌, ◌⊎◌, inl, inr, ◌<◌, ◌+◌, ◌∙◌, ℕ, zero, suc, List, [], ◌∷◌, ◌++◌, length, Option, Some, None, Bool, true, false, refl, ap, subst, arith, add-one}
+use Rattle.std.proofs.Common.{◌≡◌, ◌≢◌, ◌⊎◌, inl, inr, ◌<◌, ◌+◌, ◌∙◌, ℕ, zero, suc, List, [], ◌∷◌, ◌++◌, length, Option, Some, None, Bool, true, false, refl, sym, ap, subst, arith, add-one}
 use Rattle.std.proofs.lemmas.Bool.{cases_Bool}
-use Rattle.std.specs.Prelude.{option_map}
+use Rattle.std.specs.Prelude.{option_map, ◌==◌}
+use Rattle.std.proofs.lemmas.Bool.Decides.{nat_tests}
 use Rattle.csv.specs.Records.{field_at}
 use Rattle.csv.specs.Machine.{Read, ends_at_end, fields_after, is_end, next_record, step}
-use Rattle.csv.specs.Reading.{NextIs, ReadRecord, ReadsNext, default_config, pending_of, records_from, records_next, source_of}
+use Rattle.csv.specs.Reading.{NextIs, ReadRecord, ReadsNext, default_config, pending_of, records_from, records_next, source_of, strip_bom}
 use Rattle.csv.specs.declared.parser.Config.{Config}
 use Rattle.csv.specs.declared.parser.State.{State}
 use Rattle.csv.specs.declared.parser.State.TheVariants as st
 use Rattle.csv.specs.declared.reader.Reader.{Reader}
-use Rattle.cell_rows.specs.Rows.{Row, Takes, TakesRow, rows_from}
+use Rattle.cell_rows.specs.Rows.{Row, Takes, TakesRow, rows_from, rows_of}
 
 -- a record takes bytes, or all of the text
 abbrev pub Shrinks : Read → List ℕ → Type 0
@@ -108,3 +109,28 @@ unfolding field_at
 field-there [] i h = absurd (omega arith)
 field-there (x ∷ fs) zero h = λ e. cc e
 field-there (x ∷ fs) (suc i) h = field-there fs i (omega arith)
+
+-- a byte order mark isn't taken off what begins with another byte than its first
+other_byte : (c : ℕ) → c ≢ 0xEF → (c == 0xEF) ≡ false
+other_byte c h = grind (arith, nat_tests)
+
+pub no_mark : (c : ℕ) (xs : List ℕ) → c ≢ 0xEF → strip_bom (c ∷ xs) ≡ c ∷ xs
+unfolding strip_bom
+no_mark c [] h = refl
+no_mark c (a ∷ []) h = refl
+no_mark c (a ∷ b ∷ xs) h = rw (other_byte c h) refl
+
+pub unmarked : (c : ℕ) (xs : List ℕ) → c ≢ 0xEF → rows_of (c ∷ xs) ≡ rows_from st.StartRecord (c ∷ xs)
+unmarked c xs h = rw (no_mark c xs h) refl
+
+-- a line feed before a text gives no record, and no byte order mark is taken off after it
+skip_feed : (xs : List ℕ) → next_record default_config st.StartRecord [] [] (10 ∷ xs) ≡ next_record default_config st.StartRecord [] [] xs
+unfolding next_record
+skip_feed xs = refl
+
+pub after_feed : (xs : List ℕ) → rows_of (10 ∷ xs) ≡ rows_from st.StartRecord xs
+after_feed xs = unmarked 10 xs (λ e. cc e) ∙ by (next_record default_config st.StartRecord [] [] xs) refl
+  where
+    by : (o : Option Read) → next_record default_config st.StartRecord [] [] xs ≡ o → rows_from st.StartRecord (10 ∷ xs) ≡ rows_from st.StartRecord xs
+    by None e = rows-none st.StartRecord (10 ∷ xs) (skip_feed xs ∙ e) ∙ sym (rows-none st.StartRecord xs e)
+    by (Some p) e = rows-some st.StartRecord (10 ∷ xs) p (skip_feed xs ∙ e) ∙ sym (rows-some st.StartRecord xs p e)

@@ -1,7 +1,7 @@
 -- How records are written as lines, and which records are read back from their lines
 use Rattle.std.specs.Prelude.{◌≡◌, ◌≤◌, false, ℕ, List, [], ◌∷◌, ◌++◌, length, All}
 use Rattle.csv.specs.Writing.{default_writer, needs_quotes}
-use Rattle.cell_rows.specs.Rows.{Row}
+use Rattle.cell_rows.specs.Texts.{Row}
 
 -- the fields of a record after its first, a comma before each, and the line feed
 abbrev pub rest_of_line : Row → List ℕ

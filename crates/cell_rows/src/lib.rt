@@ -5,8 +5,11 @@
 //! skipped. Fields are bytes, which needn't be UTF-8.
 #![tactic(auto)]
 
+mod ahead;
 pub mod laws;
+mod places;
 mod rows;
+mod scan;
 mod watched;
 
 pub use rows::{Four, RowError, RowReader};

@@ -1,12 +1,15 @@
 //! The records of a reader's text.
 ghost use Rattle.std.specs.Prelude.{◌≡◌, ◌<◌, Some, ◌≢◌, ◌∷◌, [], true, length, IfOk, IfSome, IsErrOf, IsNone, OnOk, option_map};
 ghost use Rattle.csv.specs.Records.{field_at, fields_of};
-ghost use Rattle.cell_rows.specs.Rows.{IsOpen, TakesRow, current_row, device_failed, rows_left, rows_of};
+ghost use Rattle.cell_rows.specs.Rows.{IsOpen, TakesRow, current_row, device_failed, failed_in, is_csv, open_in, rows_in, rows_left, rows_of};
+ghost use Rattle.cell_rows.specs.Sights.{bytes_left};
+ghost use Rattle.cell_rows.specs.declared.rows.Source.TheVariants as Source;
 
-use crate::watched::Watched;
+use crate::ahead::ReadAhead;
 use csv::{ByteRecord, ErrorKind, Reader, ReaderBuilder};
 use std::alloc::Global;
 use std::io::Read;
+use std::mem;
 
 /// Why no record came.
 #[derive(Clone, Copy, Debug, PartialEq, Eq)]
@@ -26,11 +29,70 @@ pub struct Four<'a> {
     pub fourth: &'a [u8],
 }
 
+// Where the records of a text come from.
+#[derive(Drop)]
+enum Source<R> {
+    // Only plain lines were read so far, straight from the bytes.
+    Plain(ReadAhead<R>),
+    // csv reads all that is left.
+    Csv(Reader<ReadAhead<R>>),
+    // While the one becomes the other.
+    Moved,
+}
+
 /// The records of a reader's text, with the one that was read last.
+///
+/// Lines of four plain fields are taken straight from the bytes, which is what csv reads there. From the first other line
+/// on, csv reads all that is left.
 #[derive(Drop)]
 pub struct RowReader<R> {
-    reader: Reader<Watched<R>>,
+    alloc: Global,
+    source: Source<R>,
     row: ByteRecord,
+}
+
+// What csv reads of the bytes that are left.
+fn csv_reader<R: Read>(alloc: Global, ahead: ReadAhead<R>) -> Reader<ReadAhead<R>>
+    ensures open { open_in (Source.Csv result) }
+    ensures rows { rows_in R.remaining (Source.Csv result) ≡ option_map rows_of (bytes_left R.remaining ahead) }
+{
+    ReaderBuilder::new()
+        .has_headers(false)
+        .flexible(true)
+        .from_reader(alloc, ahead)
+}
+
+// Reads the next record with csv, and says whether there was one.
+#[tactic(auto, unfolding(crate::specs::Rows::rows_left))]
+fn read_next<R: Read>(
+    reader: &mut Reader<ReadAhead<R>>,
+    row: &mut ByteRecord,
+) -> Result<bool, RowError>
+    requires { open_in (Source.Csv reader.old) }
+    ensures open { OnOk result (open_in (Source.Csv reader.new)) }
+    ensures takes { IfOk result (TakesRow (rows_in R.remaining (Source.Csv reader.old)) (rows_in R.remaining (Source.Csv reader.new)) (fields_of row.new)) }
+    ensures fault { IsErrOf result RowError.ReadFault → failed_in (Source.Csv reader.new) ≡ true }
+{
+    match reader.read_byte_record(row) {
+        Ok(found) => Ok(found),
+        Err(e) => match e.kind() {
+            // csv's clauses don't say that its error of a reader came from the reader, so that is looked up.
+            ErrorKind::Io(_) if reader.get_ref().has_failed() => Err(RowError::ReadFault),
+            ErrorKind::Io(_) | ErrorKind::OutOfMemory => Err(RowError::OutOfMemory),
+            _ => unreachable!(),
+        },
+    }
+}
+
+// Puts a source where one was moved out.
+fn fill<R>(source: &mut Source<R>, next: Source<R>)
+    requires { source.old ≡ Source.Moved }
+    ensures { source.new ≡ next }
+{
+    match mem::replace(source, next) {
+        Source::Moved => {}
+        _ => unreachable!(),
+    }
 }
 
 #[tactic(auto, unfolding(crate::specs::Rows::IsOpen, crate::specs::Rows::rows_left))]
@@ -40,14 +102,42 @@ impl<R: Read> RowReader<R> {
         ensures open { IsOpen result }
         ensures rows { rows_left R.remaining result ≡ option_map rows_of (R.remaining source) }
     {
-        let reader = ReaderBuilder::new()
-            .has_headers(false)
-            .flexible(true)
-            .from_reader(alloc, Watched::new(source));
         RowReader {
-            reader,
+            alloc,
+            source: Source::Plain(ReadAhead::new(source)),
             row: ByteRecord::new(alloc),
         }
+    }
+
+    // Lets csv read all that is left. It stands apart since it moves much, once.
+    #[cold]
+    #[inline(never)]
+    fn hand_over(&mut self)
+        requires { IsOpen self.old }
+        ensures open { IsOpen self.new }
+        ensures rows { rows_left R.remaining self.new ≡ rows_left R.remaining self.old }
+        ensures csv { is_csv self.new.source ≡ true }
+    {
+        let next = match mem::replace(&mut self.source, Source::Moved) {
+            Source::Plain(ahead) => Source::Csv(csv_reader(self.alloc, ahead)),
+            other => other,
+        };
+        fill(&mut self.source, next);
+    }
+
+    // Reads the next record with csv, and says whether there was one.
+    #[inline(never)]
+    fn advance_csv(&mut self) -> Result<bool, RowError>
+        requires open { IsOpen self.old }
+        requires csv { is_csv self.old.source ≡ true }
+        ensures open { OnOk result (IsOpen self.new) }
+        ensures takes { IfOk result (TakesRow (rows_left R.remaining self.old) (rows_left R.remaining self.new) (current_row self.new)) }
+        ensures fault { IsErrOf result RowError.ReadFault → device_failed self.new ≡ true }
+    {
+        let Source::Csv(reader) = &mut self.source else {
+            unreachable!();
+        };
+        read_next(reader, &mut self.row)
     }
 
     /// Reads the next record, and says whether there was one.
@@ -59,15 +149,15 @@ impl<R: Read> RowReader<R> {
         ensures takes { IfOk result (TakesRow (rows_left R.remaining self.old) (rows_left R.remaining self.new) (current_row self.new)) }
         ensures fault { IsErrOf result RowError.ReadFault → device_failed self.new ≡ true }
     {
-        match self.reader.read_byte_record(&mut self.row) {
-            Ok(found) => Ok(found),
-            Err(e) => match e.kind() {
-                // csv's clauses don't say that its error of a reader came from the reader, so that is looked up.
-                ErrorKind::Io(_) if self.reader.get_ref().has_failed() => Err(RowError::ReadFault),
-                ErrorKind::Io(_) | ErrorKind::OutOfMemory => Err(RowError::OutOfMemory),
-                _ => unreachable!(),
-            },
+        if let Source::Plain(ahead) = &mut self.source {
+            match ahead.advance() {
+                Ok(true) => return Ok(true),
+                Ok(false) => {}
+                Err(_) => return Err(RowError::ReadFault),
+            }
         }
+        self.hand_over();
+        self.advance_csv()
     }
 
     /// The fields of the record that was read last, if it has four.
@@ -75,16 +165,27 @@ impl<R: Read> RowReader<R> {
         ensures some { IfSome result (λ four. current_row self.now ≡ four.first.now ∷ four.second.now ∷ four.third.now ∷ four.fourth.now ∷ []) }
         ensures none { IsNone result → length (current_row self.now) ≢ 4 }
     {
-        if self.row.len() != 4 {
-            return None;
+        match &self.source {
+            Source::Plain(ahead) => Some(ahead.four()),
+            Source::Csv(_) | Source::Moved => four_of(&self.row),
         }
-        Some(Four {
-            first: field(&self.row, 0),
-            second: field(&self.row, 1),
-            third: field(&self.row, 2),
-            fourth: field(&self.row, 3),
-        })
     }
+}
+
+// The fields of a record, if it has four.
+fn four_of(row: &ByteRecord) -> Option<Four<'_>>
+    ensures some { IfSome result (λ four. fields_of row.now ≡ four.first.now ∷ four.second.now ∷ four.third.now ∷ four.fourth.now ∷ []) }
+    ensures none { IsNone result → length (fields_of row.now) ≢ 4 }
+{
+    if row.len() != 4 {
+        return None;
+    }
+    Some(Four {
+        first: field(row, 0),
+        second: field(row, 1),
+        third: field(row, 2),
+        fourth: field(row, 3),
+    })
 }
 
 // The field at a place.
