@@ -1,0 +1,317 @@
+//! Worked examples: one plate carried whole through the cell, and what is answered on the way.
+use crate::entries::{book_all, entry_of};
+use crate::journal_of_one_plate::JOURNAL;
+use cell_types::{Axis, Belt, Entry, Machine, Place, PlateId, Pose, Station, Zone};
+use plate_book::{Book, OpenError, Records, Refusal};
+use std::alloc::Global;
+use std::process::Abort;
+
+const ALL_DECLARED: [&str; 6] = [
+    "declared,feed,silent,",
+    "declared,table,silent,",
+    "declared,robot,silent,",
+    "declared,press1,silent,",
+    "declared,press2,silent,",
+    "declared,deposit,silent,",
+];
+
+// A book with the first entries of the journal, and these besides.
+fn begun(rt: &impl Abort, alloc: Global, count: usize, records: &[&str]) -> Book {
+    let Ok(mut book) = Book::new(alloc, 100, 10) else {
+        panic!(rt; "the limits are in range, and there is memory");
+    };
+    for record in JOURNAL.iter().take(count) {
+        book_all(rt, &mut book, &[record]);
+    }
+    book_all(rt, &mut book, records);
+    book
+}
+
+// What a book with the first entries of the journal, and these besides, answers to a last one.
+fn answer(
+    rt: &impl Abort,
+    alloc: Global,
+    count: usize,
+    records: &[&str],
+    last: &str,
+) -> Result<(), Refusal> {
+    let mut book = begun(rt, alloc, count, records);
+    let before = book.journal().len();
+    let allowed = book.allows(entry_of(rt, last));
+    let applied = book.apply(entry_of(rt, last));
+    assert!(rt; allowed == applied, "{last}");
+    let added = book.journal().len() != before;
+    assert!(rt; added == applied.is_ok(), "{last}");
+    applied
+}
+
+#[test]
+fn the_first_refusal_is_answered(rt: HostRuntime) {
+    for (count, record, refusal) in [
+        (3, "conveyed,feed_belt,2,feed_end", Refusal::WrongPlate),
+        (
+            3,
+            "conveyed,feed_belt,1,table",
+            Refusal::WrongPose(Axis::FeedBelt),
+        ),
+        (
+            2,
+            "started,feed_belt,rest,",
+            Refusal::WrongPose(Axis::FeedBelt),
+        ),
+        (2, "lamp,feed,green,", Refusal::StationFull(Station::FeedIn)),
+        (2, "forged,feed,1,", Refusal::NoPress),
+        (
+            2,
+            "quarantined,1,feed_in,",
+            Refusal::MachineHealthy(Machine::Feed),
+        ),
+        (0, "repaired,feed,,", Refusal::MachineHealthy(Machine::Feed)),
+        (16, "claimed,feed,z2,", Refusal::NotNeighbour),
+        (17, "claimed,table,z2,", Refusal::ZoneTaken(Zone::Z2)),
+        (17, "claimed,feed,z2,", Refusal::ZoneTaken(Zone::Z2)),
+        (
+            19,
+            "started,robot_turn,p1_load,",
+            Refusal::WrongPose(Axis::ArmOne),
+        ),
+        (20, "dropped,arm1,1,table", Refusal::NotNeighbour),
+        (
+            24,
+            "started,robot_turn,table1,",
+            Refusal::WrongPose(Axis::RobotTurn),
+        ),
+        (28, "started,press_one,top,", Refusal::NotHolder(Zone::Z3)),
+        (
+            34,
+            "arrived,press_one,top,",
+            Refusal::WrongPose(Axis::PressOne),
+        ),
+        (
+            53,
+            "started,deposit_belt,to_end,",
+            Refusal::NotHolder(Zone::Z5),
+        ),
+        (60, "delivered,1,,", Refusal::LampRed(Belt::Deposit)),
+        (61, "delivered,2,,", Refusal::WrongPlate),
+    ] {
+        let given = answer(&rt, rt.alloc(), count, &[], record);
+        assert!(rt; given == Err(refusal), "after {count}: {record}");
+    }
+}
+
+#[test]
+fn faults_and_repairs_are_answered(rt: HostRuntime) {
+    let stopped: &[&str] = &["declared,press1,operator_stop,"];
+    let stuck: &[&str] = &["declared,press1,missing_motion,"];
+    let both: &[&str] = &[
+        "declared,robot,lost_position,",
+        "declared,press1,operator_stop,",
+    ];
+    let silent: &[&str] = &["declared,feed,silent,"];
+    let repaired: &[&str] = &["declared,feed,silent,", "repaired,feed,,"];
+    let asked: &[&str] = &["stop_asked,feed,,"];
+    for (count, records, record, refusal) in [
+        (
+            28,
+            stopped,
+            "dropped,arm1,1,press1",
+            Refusal::OwnerFailed(Machine::Press1),
+        ),
+        (
+            38,
+            stopped,
+            "claimed,robot,z3,",
+            Refusal::OwnerFailed(Machine::Press1),
+        ),
+        (
+            34,
+            stuck,
+            "repaired,press1,,",
+            Refusal::PlateStillThere(Station::Press1),
+        ),
+        (28, both, "repaired,press1,,", Refusal::ZoneTaken(Zone::Z3)),
+        (
+            1,
+            silent,
+            "admitted,1,,",
+            Refusal::MachineFailed(Machine::Feed),
+        ),
+        (1, repaired, "admitted,1,,", Refusal::LampRed(Belt::Feed)),
+        (
+            1,
+            asked,
+            "stop_asked,feed,,",
+            Refusal::AlreadyAsked(Machine::Feed),
+        ),
+    ] {
+        let given = answer(&rt, rt.alloc(), count, records, record);
+        assert!(rt; given == Err(refusal), "after {count}: {record}");
+    }
+    let other_press: &[&str] = &[
+        "declared,press1,operator_stop,",
+        "started,arm_one,in,",
+        "arrived,arm_one,in,",
+        "yielded,robot,z3,",
+        "claimed,robot,z4,",
+        "started,robot_turn,p2_load,",
+        "arrived,robot_turn,p2_load,",
+        "started,arm_one,out,",
+        "arrived,arm_one,out,",
+    ];
+    let emptied: &[&str] = &[
+        "declared,robot,lost_position,",
+        "declared,press1,operator_stop,",
+        "quarantined,1,arm1,",
+        "repaired,robot,,",
+    ];
+    for (records, record) in [
+        (other_press, "dropped,arm1,1,press2"),
+        (emptied, "repaired,press1,,"),
+    ] {
+        let given = answer(&rt, rt.alloc(), 28, records, record);
+        assert!(rt; given == Ok(()), "{record}");
+    }
+}
+
+#[test]
+fn limits_are_kept(rt: HostRuntime) {
+    for (limit, plates, error) in [
+        (0, 1, OpenError::BadLimit),
+        (0, 0, OpenError::BadLimit),
+        (1_000_001, 1, OpenError::BadLimit),
+        (1, 0, OpenError::BadPlates),
+        (1, 100_001, OpenError::BadPlates),
+    ] {
+        assert!(rt; matches!(Book::new(rt.alloc(), limit, plates), Err(e) if e == error));
+        assert!(rt; matches!(Records::new(rt.alloc(), limit, plates), Err(e) if e == error));
+    }
+}
+
+#[test]
+fn plates_beyond_the_limit_are_refused(rt: HostRuntime) {
+    let Ok(mut book) = Book::new(rt.alloc(), 10, 1) else {
+        panic!(rt; "the limits are in range, and there is memory");
+    };
+    for record in JOURNAL.iter().take(4) {
+        book_all(&rt, &mut book, &[record]);
+    }
+    for (before, record) in [
+        ("stop_asked,table,,", "admitted,2,,"),
+        ("stop_asked,robot,,", "admitted,3,,"),
+        ("declared,feed,silent,", "admitted,3,,"),
+    ] {
+        book_all(&rt, &mut book, &[before]);
+        let given = book.apply(entry_of(&rt, record));
+        assert!(rt; given == Err(Refusal::PlateLimit), "after {before}");
+    }
+}
+
+#[test]
+fn a_full_journal_takes_declarations_alone(rt: HostRuntime) {
+    let Ok(mut book) = Book::new(rt.alloc(), 1, 1) else {
+        panic!(rt; "the limits are in range, and there is memory");
+    };
+    book_all(&rt, &mut book, &["lamp,feed,green,"]);
+    for record in [
+        "lamp,feed,red,",
+        "stop_asked,feed,,",
+        "declared,feed,silent,",
+    ] {
+        let given = book.allows(entry_of(&rt, record));
+        let declared = record == "declared,feed,silent,";
+        assert!(rt; given.is_ok() == declared, "{record}");
+    }
+    book_all(&rt, &mut book, &ALL_DECLARED);
+    assert!(rt; book.journal().len() == 7);
+    for record in JOURNAL.iter().chain(ALL_DECLARED.iter()) {
+        let given = book.apply(entry_of(&rt, record));
+        assert!(rt; given == Err(Refusal::JournalFull), "{record}");
+    }
+}
+
+#[test]
+fn the_book_tells_its_journal(rt: HostRuntime) {
+    let first = PlateId::new(1).expect(&rt, "a plate's number");
+    let loading = begun(&rt, rt.alloc(), 28, &[]);
+    assert!(rt; loading.plate_at(Station::Arm1) == Some(first));
+    assert!(rt; loading.place(first) == Place::At(Station::Arm1));
+    assert!(rt; loading.holder(Zone::Z3) == Some(Machine::Robot));
+    assert!(rt; loading.on_stations().as_slice() == [(Station::Arm1, first)].as_slice());
+    assert!(rt; loading.claimed_since(Zone::Z3, 23) && !loading.claimed_since(Zone::Z3, 24));
+    let whole = begun(&rt, rt.alloc(), 62, &[]);
+    assert!(rt; whole.delivered() == [first].as_slice());
+    assert!(rt; whole.forged_by(Machine::Press1) == 1);
+}
+
+#[test]
+fn a_repaired_press_is_at_home(rt: HostRuntime) {
+    let repaired = begun(
+        &rt,
+        rt.alloc(),
+        34,
+        &[
+            "declared,press1,missing_motion,",
+            "quarantined,1,press1,",
+            "repaired,press1,,",
+        ],
+    );
+    let pose = repaired.pose(Axis::PressOne);
+    assert!(rt; pose.at == Pose::Middle && pose.going.is_none());
+    assert!(rt; repaired.holder(Zone::Z3).is_none());
+    assert!(rt; repaired.totals().forged == 0);
+}
+
+// In a run that refuses one allocation the quarantine's growth may be the one refused. The book is then as it was, and
+// takes the entry when it is asked again.
+#[test]
+fn a_refused_growth_leaves_the_book(rt: HostRuntime) {
+    let Ok(mut book) = Book::new(rt.alloc(), 100, 10).or_else(|_| Book::new(rt.alloc(), 100, 10))
+    else {
+        panic!(rt; "the limits are in range, and there is memory");
+    };
+    for record in JOURNAL.iter().take(7) {
+        book_all(&rt, &mut book, &[record]);
+    }
+    book_all(
+        &rt,
+        &mut book,
+        &["yielded,feed,z1,", "declared,table,operator_stop,"],
+    );
+    let cleared = entry_of(&rt, "quarantined,1,table,");
+    let first = PlateId::new(1).expect(&rt, "a plate's number");
+    if let Err(why) = book.apply(cleared) {
+        assert!(rt; why == Refusal::OutOfMemory && book.journal().len() == 9);
+        assert!(rt; book.quarantine().is_empty() && book.place(first) == Place::At(Station::Table));
+        assert!(rt; book.apply(cleared) == Ok(()));
+    }
+    assert!(rt; book.journal().len() == 10 && book.place(first) == Place::Quarantine);
+    assert!(rt; book.quarantine().get(&first).copied() == Some(Station::Table));
+}
+
+#[test]
+fn records_tell_a_cleared_plate(rt: HostRuntime) {
+    let Ok(mut records) = Records::new(rt.alloc(), 100, 10) else {
+        panic!(rt; "the limits are in range, and there is memory");
+    };
+    let cleared = [
+        "yielded,feed,z1,",
+        "declared,table,operator_stop,",
+        "quarantined,1,table,",
+    ];
+    for record in JOURNAL.iter().take(7).chain(cleared.iter()) {
+        let given = records.apply(entry_of(&rt, record));
+        assert!(rt; given == Ok(()), "{record}");
+    }
+    let first = PlateId::new(1).expect(&rt, "a plate's number");
+    assert!(rt; records.totals().entries == 10);
+    assert!(rt; records.quarantine().get(&first).copied() == Some(Station::Table));
+    assert!(rt; records.place(first) == Place::Quarantine);
+}
+
+#[test]
+fn a_refusal_is_printed_with_its_word(rt: HostRuntime) {
+    assert!(rt; Refusal::LampRed(Belt::Feed).name() == "LampRed");
+    assert!(rt; Refusal::LampRed(Belt::Feed).word() == Some("feed"));
+    assert!(rt; Refusal::WrongPlate.word().is_none());
+}
