@@ -1,0 +1,22 @@
+//! The tests of the crates above the plate book, `cell_policy`, `cell_machines`, `cell_ledger`, `cell_audit` and
+//! `operator_desk`, and of `cell_rows`. There is nothing here but tests.
+#![tactic(auto)]
+
+#[cfg(test)]
+mod audit;
+#[cfg(test)]
+mod entries;
+#[cfg(test)]
+mod journal_of_one_plate;
+#[cfg(test)]
+mod ledger;
+#[cfg(test)]
+mod machines;
+#[cfg(test)]
+mod operator;
+#[cfg(test)]
+mod policy;
+#[cfg(test)]
+mod rows;
+#[cfg(test)]
+mod walk;

@@ -1,0 +1,206 @@
+//! Texts of scripts, and what the operator does along the way of one plate from the feed belt to the table.
+use crate::entries::{begun, book_all};
+use cell_types::{Entry, Machine, PlateId, Station};
+use operator_desk::{Action, Script, ScriptError, entry_of};
+use plate_book::Book;
+use std::alloc::{AllocError, Global};
+use std::process::Abort;
+use std::test::Fail;
+
+const STOPPED_TABLE: &str = "declared,table,operator_stop,";
+
+// Does what a script has next, and books it.
+fn do_next(rt: &impl Abort, script: &mut Script, book: &mut Book) {
+    match script.next(book) {
+        Some(action) => {
+            let answer = book.apply(entry_of(action));
+            assert!(rt; answer == Ok(()));
+            script.done();
+        }
+        None => panic!(rt; "nothing is to be done"),
+    }
+}
+
+// A number of lines that ask for a stop of the feed belt, and then a text.
+fn stops(alloc: Global, count: usize, last: &[u8]) -> Result<Vec<u8>, AllocError> {
+    let mut text = Vec::new(alloc);
+    for _ in 0..count {
+        text.extend_from_slice(b"always,,stop,feed\n")?;
+    }
+    text.extend_from_slice(last)?;
+    Ok(text)
+}
+
+// How a text is refused.
+fn refusal(alloc: Global, text: &[u8]) -> Option<ScriptError> {
+    match Script::read(alloc, text) {
+        Ok(_) => None,
+        Err(error) => Some(error),
+    }
+}
+
+#[test]
+fn reads_the_words_of_lines(rt: HostRuntime) -> Result<(), Fail> {
+    let alloc = rt.alloc();
+    for text in [
+        b"".as_slice(),
+        b"\n\n",
+        b"always,,stop,press1\n",
+        b"admitted,0,stop,feed",
+        b"delivered,100000,repair,deposit\n",
+        b"quarantined,1,clear,dep_end\n",
+        b"failed,press2,clear,press2\nfailed,press2,repair,press2\n",
+        b"\"always\",\"\",\"stop\",\"feed\"\r\n",
+    ] {
+        let shown = String::from_utf8_lossy(alloc, text)?;
+        assert_eq!(rt; refusal(alloc, text), None, "{shown}");
+    }
+    for text in [
+        b"always,1,stop,press1\n".as_slice(),
+        b"always,,stop\n",
+        b"always,,stop,feed,\n",
+        b"always,,stop,",
+        b"Always,,stop,feed\n",
+        b"always,,clear,feed\n",
+        b"always,,stop,feed_in\n",
+        b"always,,expect,1\n",
+        b"admitted,,stop,feed\n",
+        b"admitted,01,stop,feed\n",
+        b"admitted,00,stop,feed\n",
+        b"admitted,+1,stop,feed\n",
+        b"admitted,100001,stop,feed\n",
+        b"admitted,feed,stop,feed\n",
+        b"failed,1,stop,feed\n",
+        b"failed,feed_in,repair,feed\n",
+        b" always,,stop,feed\n",
+        b"\xff",
+        b"always,,stop,\xff\n",
+    ] {
+        let shown = String::from_utf8_lossy(alloc, text)?;
+        assert_eq!(rt;
+            refusal(alloc, text),
+            Some(ScriptError::Unreadable(1)),
+            "{shown}"
+        );
+    }
+    Ok(())
+}
+
+#[test]
+fn counts_records_from_one(rt: HostRuntime) -> Result<(), Fail> {
+    let alloc = rt.alloc();
+    for count in [0usize, 1, 2, 999] {
+        let text = stops(alloc, count, b"brew,,stop,feed\nbrew,,stop,feed\n")?;
+        let place = count as u32 + 1;
+        assert_eq!(rt;
+            refusal(alloc, text.as_slice()),
+            Some(ScriptError::Unreadable(place))
+        );
+    }
+    Ok(())
+}
+
+#[test]
+fn takes_a_thousand_lines(rt: HostRuntime) -> Result<(), Fail> {
+    let alloc = rt.alloc();
+    let most = stops(alloc, 1000, b"")?;
+    assert_eq!(rt; refusal(alloc, most.as_slice()), None);
+    for last in [b"always,,stop,feed\n".as_slice(), b"brew,,,\n", b"\xff"] {
+        let more = stops(alloc, 1000, last)?;
+        assert_eq!(rt;
+            refusal(alloc, more.as_slice()),
+            Some(ScriptError::TooManyLines)
+        );
+    }
+    let unread = stops(alloc, 999, b"brew,,,\nalways,,stop,feed\n")?;
+    assert_eq!(rt;
+        refusal(alloc, unread.as_slice()),
+        Some(ScriptError::Unreadable(1000))
+    );
+    Ok(())
+}
+
+#[test]
+fn waits_for_a_trigger(rt: HostRuntime) -> Result<(), Fail> {
+    let alloc = rt.alloc();
+    let mut script = Script::read(alloc, b"admitted,1,stop,feed\n")?;
+    let mut book = Book::new(alloc, 100, 10)?;
+    assert_eq!(rt; script.next(&book), None);
+    book_all(&rt, &mut book, &["lamp,feed,green,", "admitted,1,,"]);
+    assert_eq!(rt; script.next(&book), Some(Action::Stop(Machine::Feed)));
+    script.done();
+    assert_eq!(rt; script.next(&book), None);
+    script.done();
+    assert_eq!(rt; script.next(&book), None);
+    Ok(())
+}
+
+#[test]
+fn waits_until_its_entry_is_allowed(rt: HostRuntime) -> Result<(), Fail> {
+    let alloc = rt.alloc();
+    let mut script = Script::read(alloc, b"failed,table,clear,table\n")?;
+    let mut book = begun(&rt, alloc, 100, 8);
+    assert_eq!(rt; script.next(&book), None);
+    book_all(&rt, &mut book, &["claimed,feed,z1,", STOPPED_TABLE]);
+    assert_eq!(rt; script.next(&book), None);
+    book_all(&rt, &mut book, &["yielded,feed,z1,"]);
+    let clear = Action::Clear(Station::Table, PlateId::default());
+    assert_eq!(rt; script.next(&book), Some(clear));
+    do_next(&rt, &mut script, &mut book);
+    assert!(rt; book.plate_at(Station::Table).is_none());
+    assert_eq!(rt; script.next(&book), None);
+    Ok(())
+}
+
+#[test]
+fn a_station_under_a_visit_is_not_cleared(rt: HostRuntime) -> Result<(), Fail> {
+    let alloc = rt.alloc();
+    let script = Script::read(alloc, b"failed,table,clear,table\n")?;
+    let mut book = begun(&rt, alloc, 100, 7);
+    book_all(&rt, &mut book, &[STOPPED_TABLE]);
+    assert_eq!(rt; script.next(&book), None);
+    Ok(())
+}
+
+#[test]
+fn books_actions_by_their_entries(rt: HostRuntime) {
+    let machine = Machine::Robot;
+    assert_eq!(rt;
+        entry_of(Action::Stop(machine)),
+        Entry::StopAsked { machine }
+    );
+    assert_eq!(rt;
+        entry_of(Action::Repair(machine)),
+        Entry::Repaired { machine }
+    );
+    let cleared = Entry::Quarantined {
+        plate: PlateId::default(),
+        src: Station::Arm1,
+    };
+    assert_eq!(rt;
+        entry_of(Action::Clear(Station::Arm1, PlateId::default())),
+        cleared
+    );
+}
+
+#[test]
+fn does_lines_in_their_order(rt: HostRuntime) -> Result<(), Fail> {
+    let alloc = rt.alloc();
+    let text = b"failed,table,clear,table\nquarantined,1,repair,table\ndelivered,0,stop,robot\n";
+    let mut script = Script::read(alloc, text)?;
+    let mut book = begun(&rt, alloc, 100, 8);
+    assert_eq!(rt; script.next(&book), None);
+    book_all(&rt, &mut book, &[STOPPED_TABLE]);
+    for wanted in [
+        Action::Clear(Station::Table, PlateId::default()),
+        Action::Repair(Machine::Table),
+        Action::Stop(Machine::Robot),
+    ] {
+        assert_eq!(rt; script.next(&book), Some(wanted));
+        do_next(&rt, &mut script, &mut book);
+    }
+    assert_eq!(rt; script.next(&book), None);
+    assert!(rt; book.asked(Machine::Robot));
+    assert!(rt; !book.failed(Machine::Table));
+    Ok(())
+}

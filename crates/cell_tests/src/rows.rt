@@ -1,0 +1,153 @@
+//! The records of texts, read at once and byte by byte, and readers that fail.
+use cell_rows::{Four, RowError, RowReader};
+use std::alloc::Global;
+use std::io;
+use std::io::Read;
+use std::test::Fail;
+
+// A reader that hands out one byte at a time, is interrupted once, and fails after a number of bytes.
+#[derive(Drop)]
+struct Slow {
+    text: &'static [u8],
+    at: usize,
+    fails_at: usize,
+    interrupted: bool,
+}
+
+impl Slow {
+    fn new(text: &'static [u8], fails_at: usize) -> Slow {
+        Slow {
+            text,
+            at: 0,
+            fails_at,
+            interrupted: false,
+        }
+    }
+}
+
+impl Read for Slow {
+    fn read(&mut self, buf: &mut [u8]) -> io::Result<usize> {
+        if !self.interrupted {
+            self.interrupted = true;
+            return Err(io::Error::from(io::ErrorKind::Interrupted));
+        }
+        if self.at >= self.fails_at {
+            return Err(io::Error::from(io::ErrorKind::Other));
+        }
+        match (self.text.get(self.at), buf.first_mut()) {
+            (Some(byte), Some(cell)) => {
+                *cell = *byte;
+                self.at = self.at.saturating_add(1);
+                Ok(1)
+            }
+            _ => Ok(0),
+        }
+    }
+}
+
+// Writes each field of a record with a bar after it, or a question mark where there aren't four.
+fn write_row(list: &mut Vec<u8>, row: Option<Four<'_>>) -> Result<(), Fail> {
+    match row {
+        Some(four) => {
+            for field in [four.first, four.second, four.third, four.fourth] {
+                list.extend_from_slice(field)?;
+                list.push(b'|')?;
+            }
+        }
+        None => list.push(b'?')?,
+    }
+    list.push(b';')?;
+    Ok(())
+}
+
+// The records of a reader, each with a semicolon after it.
+fn listed<R: Read + Drop>(alloc: Global, reader: R) -> Result<Vec<u8>, Fail> {
+    let mut rows = RowReader::new(alloc, reader);
+    let mut list = Vec::new(alloc);
+    for _ in 0..100 {
+        match rows.advance() {
+            Ok(found) => {
+                if !found {
+                    return Ok(list);
+                }
+            }
+            Err(error) => {
+                list.extend_from_slice(match error {
+                    RowError::ReadFault => b"fault".as_slice(),
+                    RowError::OutOfMemory => b"memory".as_slice(),
+                })?;
+                return Ok(list);
+            }
+        }
+        write_row(&mut list, rows.four())?;
+    }
+    Ok(list)
+}
+
+#[test]
+fn reads_records(rt: HostRuntime) -> Result<(), Fail> {
+    let alloc = rt.alloc();
+    for (name, text, wanted) in [
+        ("no bytes", b"".as_slice(), b"".as_slice()),
+        ("blank fields", b",,,\n", b"||||;"),
+        (
+            "quoted fields",
+            b"\"a\",\"b,\"\"c\",\"d\ne\",f\n",
+            b"a|b,\"c|d\ne|f|;",
+        ),
+        (
+            "blank lines",
+            b"\n\r\na,b,c,d\n\n\ne,f,g,h\n\n",
+            b"a|b|c|d|;e|f|g|h|;",
+        ),
+        (
+            "records of any length",
+            b"a\na,b,c\na,b,c,d\na,b,c,d,e\n",
+            b"?;?;a|b|c|d|;?;",
+        ),
+        (
+            "a last line without an end",
+            b"a,b,c,d\ne,f,g,h",
+            b"a|b|c|d|;e|f|g|h|;",
+        ),
+        (
+            "a last line cut after a field",
+            b"a,b,c,d\ne,f,",
+            b"a|b|c|d|;?;",
+        ),
+        (
+            "line ends of two bytes",
+            b"a,b,c,d\r\ne,f,g,h\r\n",
+            b"a|b|c|d|;e|f|g|h|;",
+        ),
+        ("no trimming", b" a,b ,\tc,d\n", b" a|b |\tc|d|;"),
+        (
+            "bytes that aren't UTF-8",
+            b"\xff,\x80b,c,d\n",
+            b"\xff|\x80b|c|d|;",
+        ),
+        ("a byte order mark", b"\xef\xbb\xbfa,b,c,d\n", b"a|b|c|d|;"),
+    ] {
+        let at_once = listed(alloc, text)?;
+        assert_eq!(rt; at_once.as_slice(), wanted, "{name}");
+        let bytewise = listed(alloc, Slow::new(text, usize::MAX))?;
+        assert_eq!(rt; bytewise.as_slice(), wanted, "{name}, byte by byte");
+    }
+    Ok(())
+}
+
+#[test]
+fn tells_that_the_reader_failed(rt: HostRuntime) -> Result<(), Fail> {
+    let text = b"a,b,c,d\ne,f,g,h\n".as_slice();
+    for (fails_at, wanted) in [
+        (0, b"fault".as_slice()),
+        (7, b"fault"),
+        (8, b"a|b|c|d|;fault"),
+        (15, b"a|b|c|d|;fault"),
+        (16, b"a|b|c|d|;e|f|g|h|;fault"),
+    ] {
+        let list = listed(rt.alloc(), Slow::new(text, fails_at))?;
+        assert_eq!(rt; list.as_slice(), wanted, "after {fails_at} bytes");
+    }
+    Ok(())
+}
