@@ -9,6 +9,3 @@ mod write;
 pub use error::AuditError;
 pub use judge::{audit, audit_rows};
 pub use write::{WriteError, write_journal};
-
-#[cfg(test)]
-mod tests;

@@ -21,6 +21,3 @@ pub use motion::Motion;
 pub use reading::Reading;
 pub use rest_watch::RestWatch;
 pub use verdict::Verdict;
-
-#[cfg(test)]
-mod tests;

@@ -6,8 +6,6 @@ mod counts;
 pub mod kept;
 pub mod run;
 pub mod shares;
-#[cfg(test)]
-mod tests;
 
 pub use blanks::Blanks;
 pub use kept::Kept;

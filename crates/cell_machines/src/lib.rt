@@ -10,9 +10,5 @@ mod proposals;
 mod robot;
 mod rows;
 mod table;
-#[cfg(test)]
-mod tests;
-#[cfg(test)]
-mod walk;
 
 pub use proposals::propose;

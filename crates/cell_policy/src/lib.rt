@@ -4,8 +4,6 @@
 pub mod lights;
 pub mod reads;
 pub mod router;
-#[cfg(test)]
-mod tests;
 
 pub use lights::{deposit_light_wanted, feed_light_wanted};
 pub use reads::{is_at_rest, is_held_by, is_occupied, rests_at};

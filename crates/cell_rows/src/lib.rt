@@ -13,6 +13,3 @@ mod scan;
 mod watched;
 
 pub use rows::{Four, RowError, RowReader};
-
-#[cfg(test)]
-mod tests;

@@ -8,8 +8,6 @@ pub mod number;
 pub mod plate_id;
 pub mod read;
 pub mod tables;
-#[cfg(test)]
-mod tests;
 pub mod texts;
 pub mod words;
 

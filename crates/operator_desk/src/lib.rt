@@ -10,6 +10,3 @@ mod script;
 pub use action::{Action, entry_of};
 pub use line::{Line, Task, Trigger};
 pub use script::{Script, ScriptError};
-
-#[cfg(test)]
-mod tests;

@@ -10,14 +10,10 @@ pub mod limits;
 mod lists;
 mod moves;
 pub mod open_error;
-#[cfg(test)]
-mod order_tests;
 pub mod records;
 pub mod refusal;
 mod registers;
 mod rules;
-#[cfg(test)]
-mod tests;
 mod visits;
 
 pub use book::Book;
