@@ -207,6 +207,14 @@ fn plates_beyond_the_limit_are_refused(rt: HostRuntime) {
     }
 }
 
+// None of these records is booked, since the journal is full.
+fn none_is_booked(rt: &impl Abort, book: &mut Book, records: &[&str]) {
+    for record in records {
+        let given = book.apply(entry_of(rt, record));
+        assert!(rt; given == Err(Refusal::JournalFull), "{record}");
+    }
+}
+
 #[test]
 fn a_full_journal_takes_declarations_alone(rt: HostRuntime) {
     let Ok(mut book) = Book::new(rt.alloc(), 1, 1) else {
@@ -224,24 +232,37 @@ fn a_full_journal_takes_declarations_alone(rt: HostRuntime) {
     }
     book_all(&rt, &mut book, &ALL_DECLARED);
     assert!(rt; book.journal().len() == 7);
-    for record in JOURNAL.iter().chain(ALL_DECLARED.iter()) {
-        let given = book.apply(entry_of(&rt, record));
-        assert!(rt; given == Err(Refusal::JournalFull), "{record}");
-    }
+    none_is_booked(&rt, &mut book, &JOURNAL);
+    none_is_booked(&rt, &mut book, &ALL_DECLARED);
+}
+
+// The plate is in the first arm, and nowhere else.
+fn plate_is_told(rt: &impl Abort, book: &Book, plate: PlateId) {
+    assert!(rt; book.plate_at(Station::Arm1) == Some(plate));
+    assert!(rt; book.place(plate) == Place::At(Station::Arm1));
+    assert!(rt; book.on_stations().as_slice() == [(Station::Arm1, plate)].as_slice());
+}
+
+// The robot holds the zone of the first press since the entry of number 23.
+fn visit_is_told(rt: &impl Abort, book: &Book) {
+    assert!(rt; book.holder(Zone::Z3) == Some(Machine::Robot));
+    assert!(rt; book.claimed_since(Zone::Z3, 23));
+    assert!(rt; !book.claimed_since(Zone::Z3, 24));
+}
+
+// The first press forged the one plate that was delivered.
+fn delivery_is_told(rt: &impl Abort, book: &Book, plate: PlateId) {
+    assert!(rt; book.delivered() == [plate].as_slice());
+    assert!(rt; book.forged_by(Machine::Press1) == 1);
 }
 
 #[test]
 fn the_book_tells_its_journal(rt: HostRuntime) {
     let first = PlateId::new(1).expect(&rt, "a plate's number");
     let loading = begun(&rt, rt.alloc(), 28, &[]);
-    assert!(rt; loading.plate_at(Station::Arm1) == Some(first));
-    assert!(rt; loading.place(first) == Place::At(Station::Arm1));
-    assert!(rt; loading.holder(Zone::Z3) == Some(Machine::Robot));
-    assert!(rt; loading.on_stations().as_slice() == [(Station::Arm1, first)].as_slice());
-    assert!(rt; loading.claimed_since(Zone::Z3, 23) && !loading.claimed_since(Zone::Z3, 24));
-    let whole = begun(&rt, rt.alloc(), 62, &[]);
-    assert!(rt; whole.delivered() == [first].as_slice());
-    assert!(rt; whole.forged_by(Machine::Press1) == 1);
+    plate_is_told(&rt, &loading, first);
+    visit_is_told(&rt, &loading);
+    delivery_is_told(&rt, &begun(&rt, rt.alloc(), 62, &[]), first);
 }
 
 #[test]
@@ -262,8 +283,17 @@ fn a_repaired_press_is_at_home(rt: HostRuntime) {
     assert!(rt; repaired.totals().forged == 0);
 }
 
-// In a run that refuses one allocation the quarantine's growth may be the one refused. The book is then as it was, and
-// takes the entry when it is asked again.
+// Clears a plate from the table. Where the growth of the quarantine is refused, the book is as it was, and takes the entry
+// when it is asked again.
+fn clear(rt: &impl Abort, book: &mut Book, plate: PlateId, cleared: Entry) {
+    if let Err(why) = book.apply(cleared) {
+        assert!(rt; why == Refusal::OutOfMemory && book.journal().len() == 9);
+        assert!(rt; book.quarantine().is_empty() && book.place(plate) == Place::At(Station::Table));
+        assert!(rt; book.apply(cleared) == Ok(()));
+    }
+}
+
+// In a run that refuses one allocation the quarantine's growth may be the one refused.
 #[test]
 fn a_refused_growth_leaves_the_book(rt: HostRuntime) {
     let Ok(mut book) = Book::new(rt.alloc(), 100, 10).or_else(|_| Book::new(rt.alloc(), 100, 10))
@@ -278,13 +308,9 @@ fn a_refused_growth_leaves_the_book(rt: HostRuntime) {
         &mut book,
         &["yielded,feed,z1,", "declared,table,operator_stop,"],
     );
-    let cleared = entry_of(&rt, "quarantined,1,table,");
     let first = PlateId::new(1).expect(&rt, "a plate's number");
-    if let Err(why) = book.apply(cleared) {
-        assert!(rt; why == Refusal::OutOfMemory && book.journal().len() == 9);
-        assert!(rt; book.quarantine().is_empty() && book.place(first) == Place::At(Station::Table));
-        assert!(rt; book.apply(cleared) == Ok(()));
-    }
+    let cleared = entry_of(&rt, "quarantined,1,table,");
+    clear(&rt, &mut book, first, cleared);
     assert!(rt; book.journal().len() == 10 && book.place(first) == Place::Quarantine);
     assert!(rt; book.quarantine().get(&first).copied() == Some(Station::Table));
 }

@@ -2,7 +2,7 @@
 //! answered while both conditions hold. docs/ORDER.md lists the pairs, in the order of these cases.
 use crate::entries::{book_all, entry_of};
 use crate::journal_of_one_plate::JOURNAL;
-use plate_book::Book;
+use plate_book::{Book, Refusal};
 use std::alloc::Global;
 use std::process::Abort;
 
@@ -284,133 +284,121 @@ fn number(rt: &impl Abort, line: &str, place: usize) -> u32 {
     text.parse::<u32>().ok().expect(rt, line)
 }
 
-// Books all but the last record of a case, and compares the answer to it.
-fn answers(rt: &impl Abort, alloc: Global, case: &str) {
-    let mut parts = case.split('|');
-    let numbers = parts.next().unwrap_or("");
-    let records = parts.next().unwrap_or("");
-    let last = parts.next().unwrap_or("");
-    let wanted = parts.next().unwrap_or("");
+// A book of the limits of a case, with as many of the journal's entries.
+fn begun(rt: &impl Abort, alloc: Global, numbers: &str) -> Book {
     let Ok(mut book) = Book::new(alloc, number(rt, numbers, 0), number(rt, numbers, 1)) else {
-        panic!(rt; "{case}");
+        panic!(rt; "{numbers}");
     };
     for record in JOURNAL.iter().take(number(rt, numbers, 2) as usize) {
         book_all(rt, &mut book, &[record]);
     }
-    for record in records.split(' ') {
+    book
+}
+
+// Books the records of a line.
+fn book_line(rt: &impl Abort, book: &mut Book, line: &str) {
+    for record in line.split(' ') {
         if !record.is_empty() {
-            book_all(rt, &mut book, &[record]);
+            book_all(rt, book, &[record]);
         }
     }
-    let Err(refusal) = book.apply(entry_of(rt, last)) else {
-        panic!(rt; "{case}");
-    };
+}
+
+// Compares a refusal to the wanted name and word.
+fn is_wanted(rt: &impl Abort, refusal: Refusal, wanted: &str, case: &str) {
     let mut words = wanted.split(' ');
     assert!(rt; refusal.name() == words.next().unwrap_or(""), "{case}");
     assert!(rt; refusal.word() == words.next(), "{case}");
 }
 
+// Books all but the last record of a case, and compares the answer to it.
+fn answers(rt: &impl Abort, alloc: Global, case: &str) {
+    let mut parts = case.split('|');
+    let mut book = begun(rt, alloc, parts.next().unwrap_or(""));
+    book_line(rt, &mut book, parts.next().unwrap_or(""));
+    let Err(refusal) = book.apply(entry_of(rt, parts.next().unwrap_or(""))) else {
+        panic!(rt; "{case}");
+    };
+    is_wanted(rt, refusal, parts.next().unwrap_or(""), case);
+}
+
+fn all_answer(rt: &impl Abort, alloc: Global, cases: &[&str]) {
+    for case in cases {
+        answers(rt, alloc, case);
+    }
+}
+
 #[test]
 fn admitted_meets_the_lower_first(rt: HostRuntime) {
-    for case in ADMITTED {
-        answers(&rt, rt.alloc(), case);
-    }
+    all_answer(&rt, rt.alloc(), &ADMITTED);
 }
 
 #[test]
 fn arrived_meets_the_lower_first(rt: HostRuntime) {
-    for case in ARRIVED {
-        answers(&rt, rt.alloc(), case);
-    }
+    all_answer(&rt, rt.alloc(), &ARRIVED);
 }
 
 #[test]
 fn claimed_meets_the_lower_first(rt: HostRuntime) {
-    for case in CLAIMED {
-        answers(&rt, rt.alloc(), case);
-    }
+    all_answer(&rt, rt.alloc(), &CLAIMED);
 }
 
 #[test]
 fn conveyed_meets_the_lower_first(rt: HostRuntime) {
-    for case in CONVEYED {
-        answers(&rt, rt.alloc(), case);
-    }
+    all_answer(&rt, rt.alloc(), &CONVEYED);
 }
 
 #[test]
 fn delivered_meets_the_lower_first(rt: HostRuntime) {
-    for case in DELIVERED {
-        answers(&rt, rt.alloc(), case);
-    }
+    all_answer(&rt, rt.alloc(), &DELIVERED);
 }
 
 #[test]
 fn dropped_meets_the_lower_first(rt: HostRuntime) {
-    for case in DROPPED {
-        answers(&rt, rt.alloc(), case);
-    }
+    all_answer(&rt, rt.alloc(), &DROPPED);
 }
 
 #[test]
 fn forged_meets_the_lower_first(rt: HostRuntime) {
-    for case in FORGED {
-        answers(&rt, rt.alloc(), case);
-    }
+    all_answer(&rt, rt.alloc(), &FORGED);
 }
 
 #[test]
 fn gripped_meets_the_lower_first(rt: HostRuntime) {
-    for case in GRIPPED {
-        answers(&rt, rt.alloc(), case);
-    }
+    all_answer(&rt, rt.alloc(), &GRIPPED);
 }
 
 #[test]
 fn lamp_meets_the_lower_first(rt: HostRuntime) {
-    for case in LAMP {
-        answers(&rt, rt.alloc(), case);
-    }
+    all_answer(&rt, rt.alloc(), &LAMP);
 }
 
 #[test]
 fn quarantined_meets_the_lower_first(rt: HostRuntime) {
-    for case in QUARANTINED {
-        answers(&rt, rt.alloc(), case);
-    }
+    all_answer(&rt, rt.alloc(), &QUARANTINED);
 }
 
 #[test]
 fn repaired_meets_the_lower_first(rt: HostRuntime) {
-    for case in REPAIRED {
-        answers(&rt, rt.alloc(), case);
-    }
+    all_answer(&rt, rt.alloc(), &REPAIRED);
 }
 
 #[test]
 fn started_meets_the_lower_first(rt: HostRuntime) {
-    for case in STARTED {
-        answers(&rt, rt.alloc(), case);
-    }
+    all_answer(&rt, rt.alloc(), &STARTED);
 }
 
 #[test]
 fn stop_asked_meets_the_lower_first(rt: HostRuntime) {
-    for case in STOP_ASKED {
-        answers(&rt, rt.alloc(), case);
-    }
+    all_answer(&rt, rt.alloc(), &STOP_ASKED);
 }
 
 #[test]
 fn yielded_meets_the_lower_first(rt: HostRuntime) {
-    for case in YIELDED {
-        answers(&rt, rt.alloc(), case);
-    }
+    all_answer(&rt, rt.alloc(), &YIELDED);
 }
 
 #[test]
 fn declared_meets_the_lower_first(rt: HostRuntime) {
-    for case in DECLARED {
-        answers(&rt, rt.alloc(), case);
-    }
+    all_answer(&rt, rt.alloc(), &DECLARED);
 }

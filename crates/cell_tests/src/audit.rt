@@ -8,6 +8,7 @@ use plate_book::Refusal;
 use std::alloc::{AllocError, Global};
 use std::io;
 use std::io::{Read, Write};
+use std::process::Abort;
 use std::test::Fail;
 
 // The text of the journal of one plate.
@@ -97,10 +98,23 @@ fn joined(alloc: Global, first: &[u8], second: &[u8]) -> Result<Vec<u8>, AllocEr
     Ok(text)
 }
 
+// Each of these texts is judged so.
+fn all_are_judged(
+    rt: &impl Abort,
+    alloc: Global,
+    cases: &[(&[u8], Result<Totals, AuditError>)],
+) -> Result<(), Fail> {
+    for (text, wanted) in cases {
+        let shown = String::from_utf8_lossy(alloc, text)?;
+        assert_eq!(rt; audit(alloc, *text), *wanted, "{shown}");
+    }
+    Ok(())
+}
+
 #[test]
 fn judges_texts(rt: HostRuntime) -> Result<(), Fail> {
     let unreadable = Err(AuditError::Unreadable(1));
-    for (text, wanted) in [
+    let cases = [
         (b"".as_slice(), Err(AuditError::Unreadable(0))),
         (b"profile,2,,\n", Err(AuditError::Unreadable(0))),
         (b"profile,1,\n", Err(AuditError::Unreadable(0))),
@@ -148,11 +162,8 @@ fn judges_texts(rt: HostRuntime) -> Result<(), Fail> {
         (b"profile,1,,\nadmitted,01,,\n", unreadable),
         (b"profile,1,,\nadmitted,100001,,\n", unreadable),
         (b"profile,1,,\nexpected,1,,\n", unreadable),
-    ] {
-        let shown = String::from_utf8_lossy(rt.alloc(), text)?;
-        assert_eq!(rt; audit(rt.alloc(), text), wanted, "{shown}");
-    }
-    Ok(())
+    ];
+    all_are_judged(&rt, rt.alloc(), &cases)
 }
 
 #[test]

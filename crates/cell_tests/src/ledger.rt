@@ -9,14 +9,16 @@ use plate_book::{Book, Refusal};
 use std::marker::Brand;
 use std::process::Abort;
 
-fn totals(entries: u32, admitted: u32, forged: u32, quarantined: u32, delivered: u32) -> Totals {
-    Totals {
+// What was counted: so many entries, so many of them admissions, and nothing else.
+fn counts_are(rt: &impl Abort, counts: Totals, entries: u32, admitted: u32) {
+    let wanted = Totals {
         entries,
         admitted,
-        forged,
-        quarantined,
-        delivered,
-    }
+        forged: 0,
+        quarantined: 0,
+        delivered: 0,
+    };
+    assert!(rt; counts == wanted);
 }
 
 fn is_small(counts: Totals) -> bool
@@ -50,24 +52,24 @@ fn two_shares<R: Run>(rt: &impl Abort, book: Book, blanks: Blanks)
     requires delivered { (blanks.delivered.name ≡ R.delivered_name) × (blanks.delivered.parts ≡ R.parts) }
 {
     let (mut kept, shares) = Kept::<R>::new(book, blanks);
-    assert!(rt; shares.counts() == totals(4, 1, 0, 0, 0));
+    counts_are(rt, shares.counts(), 4, 1);
     let (first, mut second) = shares.split();
-    assert!(rt; first.counts() == totals(4, 1, 0, 0, 0));
-    assert!(rt; second.counts() == totals(0, 0, 0, 0, 0));
+    counts_are(rt, first.counts(), 4, 1);
+    counts_are(rt, second.counts(), 0, 0);
     keep_all(rt, &mut kept, &mut second, &JOURNAL[4..7]);
-    assert!(rt; second.counts() == totals(3, 0, 0, 0, 0));
+    counts_are(rt, second.counts(), 3, 0);
     let refused = kept.apply(&mut second, entry_of(rt, "admitted,2,,"));
     assert!(rt; refused == Err(Refusal::LampRed(cell_types::Belt::Feed)));
-    assert!(rt; second.counts() == totals(3, 0, 0, 0, 0));
+    counts_are(rt, second.counts(), 3, 0);
     if !is_small(first.counts()) || !is_small(second.counts()) {
         panic!(rt; "few entries were booked");
     }
     let mut all = first.join(second);
-    assert!(rt; all.counts() == totals(7, 1, 0, 0, 0));
+    counts_are(rt, all.counts(), 7, 1);
     kept.is_lawful();
     kept.audit(&mut all);
     keep_all(rt, &mut kept, &mut all, &JOURNAL[7..8]);
-    assert!(rt; all.counts() == totals(8, 1, 0, 0, 0));
+    counts_are(rt, all.counts(), 8, 1);
     assert!(rt; kept.book().totals() == all.counts());
     assert!(rt; kept.into_book().journal().len() == 8);
 }

@@ -4,6 +4,7 @@ use crate::entries::{begun, book_all, entry_of};
 use cell_machines::propose;
 use cell_types::{Actor, Entry, Machine, actor_of};
 use plate_book::Book;
+use std::alloc::Global;
 use std::process::Abort;
 
 /// The six machines.
@@ -195,17 +196,26 @@ fn proposes_one_of(
     is_listed == is_wanted && answer.is_some() == is_wanted
 }
 
+// After so many of the journal's entries each machine proposes one of the useful entries that are its own.
+fn each_proposes_one_of(rt: &impl Abort, alloc: Global, count: usize, plan: u32, useful: &str) {
+    let book = begun(rt, alloc, 100, count);
+    for machine in MACHINES {
+        assert!(rt;
+            proposes_one_of(rt, machine, &book, plan, useful),
+            "after {count}"
+        );
+    }
+}
+
+fn all_are_proposed(rt: &impl Abort, alloc: Global, cases: &[(usize, u32, &str)]) {
+    for (count, plan, useful) in cases {
+        each_proposes_one_of(rt, alloc, *count, *plan, useful);
+    }
+}
+
 #[test]
 fn useful_entries_are_proposed(rt: HostRuntime) {
-    for (count, plan, useful) in USEFUL {
-        let book = begun(&rt, rt.alloc(), 100, count);
-        for machine in MACHINES {
-            assert!(rt;
-                proposes_one_of(&rt, machine, &book, plan, useful),
-                "after {count}"
-            );
-        }
-    }
+    all_are_proposed(&rt, rt.alloc(), &USEFUL);
 }
 
 #[test]

@@ -39,10 +39,23 @@ fn refusal(alloc: Global, text: &[u8]) -> Option<ScriptError> {
     }
 }
 
+// Each of these texts is refused so.
+fn all_are_refused(
+    rt: &impl Abort,
+    alloc: Global,
+    texts: &[&[u8]],
+    wanted: Option<ScriptError>,
+) -> Result<(), Fail> {
+    for text in texts {
+        let shown = String::from_utf8_lossy(alloc, text)?;
+        assert_eq!(rt; refusal(alloc, text), wanted, "{shown}");
+    }
+    Ok(())
+}
+
 #[test]
 fn reads_the_words_of_lines(rt: HostRuntime) -> Result<(), Fail> {
-    let alloc = rt.alloc();
-    for text in [
+    let right = [
         b"".as_slice(),
         b"\n\n",
         b"always,,stop,press1\n",
@@ -51,11 +64,8 @@ fn reads_the_words_of_lines(rt: HostRuntime) -> Result<(), Fail> {
         b"quarantined,1,clear,dep_end\n",
         b"failed,press2,clear,press2\nfailed,press2,repair,press2\n",
         b"\"always\",\"\",\"stop\",\"feed\"\r\n",
-    ] {
-        let shown = String::from_utf8_lossy(alloc, text)?;
-        assert_eq!(rt; refusal(alloc, text), None, "{shown}");
-    }
-    for text in [
+    ];
+    let wrong = [
         b"always,1,stop,press1\n".as_slice(),
         b"always,,stop\n",
         b"always,,stop,feed,\n",
@@ -75,15 +85,9 @@ fn reads_the_words_of_lines(rt: HostRuntime) -> Result<(), Fail> {
         b" always,,stop,feed\n",
         b"\xff",
         b"always,,stop,\xff\n",
-    ] {
-        let shown = String::from_utf8_lossy(alloc, text)?;
-        assert_eq!(rt;
-            refusal(alloc, text),
-            Some(ScriptError::Unreadable(1)),
-            "{shown}"
-        );
-    }
-    Ok(())
+    ];
+    all_are_refused(&rt, rt.alloc(), &right, None)?;
+    all_are_refused(&rt, rt.alloc(), &wrong, Some(ScriptError::Unreadable(1)))
 }
 
 #[test]
