@@ -311,18 +311,27 @@ impl Write for Full {
     }
 }
 
+// What is written of a journal, which is this text.
+fn written(
+    rt: &impl Abort,
+    alloc: Global,
+    journal: &Journal,
+    wanted: &[u8],
+) -> Result<Vec<u8>, Fail> {
+    let mut text = Vec::new(alloc);
+    assert_eq!(rt; write_journal(alloc, journal, &mut text), Ok(()));
+    assert_eq!(rt; text.as_slice(), wanted);
+    Ok(text)
+}
+
 #[test]
 fn writes_the_text_that_is_audited(rt: HostRuntime) -> Result<(), Fail> {
     let alloc = rt.alloc();
     let empty = Journal::with_limit(alloc, 1)?;
-    let mut text = Vec::new(alloc);
-    assert_eq!(rt; write_journal(alloc, &empty, &mut text), Ok(()));
-    assert_eq!(rt; text.as_slice(), b"profile,1,,\n".as_slice());
+    written(&rt, alloc, &empty, b"profile,1,,\n")?;
     let book = begun(&rt, alloc, 100, 62);
-    let mut text = Vec::new(alloc);
-    assert_eq!(rt; write_journal(alloc, book.journal(), &mut text), Ok(()));
     let carried = carried_text(alloc)?;
-    assert_eq!(rt; text.as_slice(), carried.as_slice());
+    let text = written(&rt, alloc, book.journal(), carried.as_slice())?;
     assert_eq!(rt; audit(alloc, text.as_slice()), totals(62, 1, 1, 0, 1));
     Ok(())
 }

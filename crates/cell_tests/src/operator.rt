@@ -9,6 +9,11 @@ use std::test::Fail;
 
 const STOPPED_TABLE: &str = "declared,table,operator_stop,";
 
+// A script has this next, or nothing.
+fn next_is(rt: &impl Abort, script: &Script, book: &Book, wanted: Option<Action>) {
+    assert_eq!(rt; script.next(book), wanted);
+}
+
 // Does what a script has next, and books it.
 fn do_next(rt: &impl Abort, script: &mut Script, book: &mut Book) {
     match script.next(book) {
@@ -129,13 +134,13 @@ fn waits_for_a_trigger(rt: HostRuntime) -> Result<(), Fail> {
     let alloc = rt.alloc();
     let mut script = Script::read(alloc, b"admitted,1,stop,feed\n")?;
     let mut book = Book::new(alloc, 100, 10)?;
-    assert_eq!(rt; script.next(&book), None);
+    next_is(&rt, &script, &book, None);
     book_all(&rt, &mut book, &["lamp,feed,green,", "admitted,1,,"]);
-    assert_eq!(rt; script.next(&book), Some(Action::Stop(Machine::Feed)));
+    next_is(&rt, &script, &book, Some(Action::Stop(Machine::Feed)));
     script.done();
-    assert_eq!(rt; script.next(&book), None);
+    next_is(&rt, &script, &book, None);
     script.done();
-    assert_eq!(rt; script.next(&book), None);
+    next_is(&rt, &script, &book, None);
     Ok(())
 }
 
@@ -144,15 +149,15 @@ fn waits_until_its_entry_is_allowed(rt: HostRuntime) -> Result<(), Fail> {
     let alloc = rt.alloc();
     let mut script = Script::read(alloc, b"failed,table,clear,table\n")?;
     let mut book = begun(&rt, alloc, 100, 8);
-    assert_eq!(rt; script.next(&book), None);
+    next_is(&rt, &script, &book, None);
     book_all(&rt, &mut book, &["claimed,feed,z1,", STOPPED_TABLE]);
-    assert_eq!(rt; script.next(&book), None);
+    next_is(&rt, &script, &book, None);
     book_all(&rt, &mut book, &["yielded,feed,z1,"]);
     let clear = Action::Clear(Station::Table, PlateId::default());
-    assert_eq!(rt; script.next(&book), Some(clear));
+    next_is(&rt, &script, &book, Some(clear));
     do_next(&rt, &mut script, &mut book);
     assert!(rt; book.plate_at(Station::Table).is_none());
-    assert_eq!(rt; script.next(&book), None);
+    next_is(&rt, &script, &book, None);
     Ok(())
 }
 
@@ -162,7 +167,7 @@ fn a_station_under_a_visit_is_not_cleared(rt: HostRuntime) -> Result<(), Fail> {
     let script = Script::read(alloc, b"failed,table,clear,table\n")?;
     let mut book = begun(&rt, alloc, 100, 7);
     book_all(&rt, &mut book, &[STOPPED_TABLE]);
-    assert_eq!(rt; script.next(&book), None);
+    next_is(&rt, &script, &book, None);
     Ok(())
 }
 
@@ -193,17 +198,17 @@ fn does_lines_in_their_order(rt: HostRuntime) -> Result<(), Fail> {
     let text = b"failed,table,clear,table\nquarantined,1,repair,table\ndelivered,0,stop,robot\n";
     let mut script = Script::read(alloc, text)?;
     let mut book = begun(&rt, alloc, 100, 8);
-    assert_eq!(rt; script.next(&book), None);
+    next_is(&rt, &script, &book, None);
     book_all(&rt, &mut book, &[STOPPED_TABLE]);
     for wanted in [
         Action::Clear(Station::Table, PlateId::default()),
         Action::Repair(Machine::Table),
         Action::Stop(Machine::Robot),
     ] {
-        assert_eq!(rt; script.next(&book), Some(wanted));
+        next_is(&rt, &script, &book, Some(wanted));
         do_next(&rt, &mut script, &mut book);
     }
-    assert_eq!(rt; script.next(&book), None);
+    next_is(&rt, &script, &book, None);
     assert!(rt; book.asked(Machine::Robot));
     assert!(rt; !book.failed(Machine::Table));
     Ok(())
