@@ -4,6 +4,8 @@ use Rattle.std.specs.List.{list_any}
 use Rattle.cell_rows.specs.Rows.{Row}
 use Rattle.cell_types.specs.Same.{same_axis}
 use Rattle.cell_sim.specs.Faults.{read_fault}
+use Rattle.cell_types.specs.declared.words.Axis.{Axis}
+use Rattle.cell_sim.specs.declared.fault.Fault.{Fault}
 use Rattle.cell_sim.specs.declared.fault.PlannedFault.{PlannedFault}
 use Rattle.cell_sim.specs.declared.script.FaultError.{FaultError}
 use Rattle.cell_sim.specs.declared.script.FaultError.TheVariants as error
@@ -11,6 +13,11 @@ use Rattle.cell_sim.specs.declared.script.FaultError.TheVariants as error
 -- whether a fault is planned for the same motion already
 abbrev pub is_planned : PlannedFault → List PlannedFault → Bool
 is_planned f faults = list_any (λ (g : PlannedFault). same_axis g.axis f.axis && (g.motion == f.motion)) faults
+
+-- the fault that is planned for a motion of an axis
+abbrev pub fault_in : Axis → ℕ → List PlannedFault → Option Fault
+fault_in a n [] = None
+fault_in a n (f ∷ faults) = if same_axis f.axis a && (f.motion == n) then Some f.fault else fault_in a n faults
 
 abbrev pub unless_planned : List PlannedFault → Option PlannedFault → Option PlannedFault
 unless_planned faults None = None

@@ -1,12 +1,20 @@
-//! The simulated cell. So far: the script of its faults.
+//! The simulated cell: machines that move, show their switches and sensors and go wrong by a script, and the hands that
+//! clear and repair them. Its physics is this project's own profile. No clause says how the world moves: tests show it.
 #![tactic(auto)]
 
+mod axis;
 mod fault;
+mod motion;
+mod port;
 mod read;
 mod script;
+mod tables;
+mod world;
 
 pub use fault::{Fault, PlannedFault};
+pub use port::{SimOperator, SimPort};
 pub use script::{FaultError, FaultScript};
+pub use world::World;
 
 #[cfg(test)]
 mod tests;

@@ -2,9 +2,9 @@
 ghost use Rattle.std.specs.Prelude.{◌≡◌};
 ghost use Rattle.cell_rows.specs.Rows.{current_row, rows_of};
 ghost use Rattle.cell_types.specs.Same.{same_axis};
-ghost use Rattle.cell_sim.specs.Script.{Gives, faults_of, is_planned, next_fault};
+ghost use Rattle.cell_sim.specs.Script.{Gives, fault_in, faults_of, is_planned, next_fault};
 
-use crate::fault::PlannedFault;
+use crate::fault::{Fault, PlannedFault};
 use crate::read::current_fault;
 use cell_rows::RowReader;
 use cell_types::Axis;
@@ -110,5 +110,17 @@ impl FaultScript {
             }
         }
         unreachable!()
+    }
+
+    /// The fault that is planned for a motion of an axis, counted from 1; `None` where none is.
+    pub(crate) fn fault_of(&self, axis: Axis, motion: u32) -> Option<Fault>
+        ensures { result ≡ fault_in axis motion self.now }
+    {
+        for planned in &self.faults {
+            if is_same_axis(planned.axis, axis) && planned.motion == motion {
+                return Some(planned.fault);
+            }
+        }
+        None
     }
 }

@@ -1,0 +1,43 @@
+//! One axis as it is.
+use crate::motion::{Motion, Path};
+use crate::tables::switch_bit;
+use cell_types::{Axis, Pose, home};
+
+/// An axis as it is: which pose it has, which motion it is in and how many commands have begun one. A belt has the pose
+/// `Rest` always: where it has carried a plate is told by the plate's station.
+#[derive(Clone, Copy, Debug)]
+pub(crate) struct AxisInWorld {
+    pub pose: Pose,
+    pub motion: Option<Motion>,
+    /// How many commands to move it came, those that failed included. At `u32::MAX` the count stays.
+    pub commands: u32,
+}
+
+impl AxisInWorld {
+    /// An axis at home that hasn't moved yet.
+    pub(crate) fn new(axis: Axis) -> AxisInWorld {
+        AxisInWorld {
+            pose: home(axis),
+            motion: None,
+            commands: 0,
+        }
+    }
+
+    /// The switches that it shows.
+    pub(crate) fn switches(self, axis: Axis) -> u8 {
+        let Some(motion) = self.motion else {
+            return self.switch_at_rest(axis);
+        };
+        match motion.path {
+            Path::Poses { from, to } => motion.shown_switches(axis, from, to),
+            Path::Stations { .. } => 0,
+        }
+    }
+
+    fn switch_at_rest(self, axis: Axis) -> u8 {
+        match axis {
+            Axis::FeedBelt | Axis::DepositBelt => 0,
+            _ => switch_bit(self.pose),
+        }
+    }
+}

@@ -1,0 +1,131 @@
+//! The motion of one axis, and how it goes on from reading to reading.
+use crate::fault::Fault;
+use crate::tables::{all_switches, switch_bit};
+use cell_types::{Axis, Pose, Station};
+
+/// Where a motion leads.
+#[derive(Clone, Copy, Debug, PartialEq, Eq)]
+pub(crate) enum Path {
+    /// An axis with switches goes from one of its poses to another.
+    Poses {
+        from: Pose,
+        to: Pose,
+    },
+    /// A belt carries the plate that lay at a station, if one did, to another.
+    Stations {
+        from: Station,
+        to: Station,
+        plate: Option<u32>,
+    },
+}
+
+/// How far a motion is. Each reading that is given takes it to the next phase, unless it was stopped.
+#[derive(Clone, Copy, Debug, PartialEq, Eq)]
+pub(crate) enum Phase {
+    /// No reading was given yet.
+    Begun,
+    /// The first reading was given. It shows where the motion begins.
+    Seen,
+    /// The second reading was given, which shows nothing, and so many further empty ones come before the end.
+    Between(u32),
+    /// The end was reached. All readings show it.
+    Arrived,
+}
+
+/// A motion of an axis, which goes on until another begins, the axis is put at home or, for a belt, it is turned off.
+#[derive(Clone, Copy, Debug, PartialEq, Eq)]
+pub(crate) struct Motion {
+    pub path: Path,
+    pub fault: Option<Fault>,
+    pub phase: Phase,
+    /// How many readings are still missing before the motion is read at all.
+    pub missing: u32,
+    /// Whether all motors of the machine were stopped since. The motion then stays in its phase.
+    pub stopped: bool,
+}
+
+impl Motion {
+    /// A motion that begins.
+    pub(crate) fn begin(path: Path, fault: Option<Fault>) -> Motion {
+        let missing = match fault {
+            Some(Fault::Silent(readings)) => readings,
+            _ => 0,
+        };
+        Motion {
+            path,
+            fault,
+            phase: Phase::Begun,
+            missing,
+            stopped: false,
+        }
+    }
+
+    /// The phase after one more reading is given.
+    pub(crate) fn next_phase(self) -> Phase {
+        if self.stopped {
+            return self.phase;
+        }
+        match self.phase {
+            Phase::Begun => Phase::Seen,
+            Phase::Seen => self.phase_after_leaving(),
+            Phase::Between(0) | Phase::Arrived => Phase::Arrived,
+            Phase::Between(readings) => Phase::Between(readings - 1),
+        }
+    }
+
+    fn phase_after_leaving(self) -> Phase {
+        match self.fault {
+            Some(Fault::NoMotion) => Phase::Seen,
+            Some(Fault::Slow(readings)) => Phase::Between(readings),
+            _ => Phase::Between(0),
+        }
+    }
+
+    /// Whether the axis has left where the motion began, so that a fault of its switches or sensors shows.
+    pub(crate) fn has_left(self) -> bool {
+        matches!(self.phase, Phase::Between(_) | Phase::Arrived)
+    }
+
+    /// The switches that an axis shows in this motion from one of its poses to another.
+    pub(crate) fn shown_switches(self, axis: Axis, from: Pose, to: Pose) -> u8 {
+        let moved = match self.phase {
+            Phase::Begun | Phase::Seen => switch_bit(from),
+            Phase::Between(_) => 0,
+            Phase::Arrived => switch_bit(to),
+        };
+        match self.fault {
+            Some(Fault::KeepsOld) => moved | switch_bit(from),
+            Some(Fault::Both) if self.has_left() => all_switches(axis),
+            _ => moved,
+        }
+    }
+
+    /// Whether a fault of this motion shows a plate at a station, be one there or not: at where a plate was carried from,
+    /// or at both ends.
+    pub(crate) fn shows_by_fault(self, station: Station) -> bool {
+        let Path::Stations { from, to, plate } = self.path else {
+            return false;
+        };
+        match self.fault {
+            Some(Fault::KeepsOld) => self.has_left() && plate.is_some() && station == from,
+            Some(Fault::Both) => self.has_left() && (station == from || station == to),
+            _ => false,
+        }
+    }
+
+    /// Whether this plate at a station isn't shown, since it is carried and on its way.
+    pub(crate) fn hides(self, station: Station, shown: Option<u32>) -> bool {
+        let Path::Stations { from, to: _, plate } = self.path else {
+            return false;
+        };
+        matches!(self.phase, Phase::Between(_)) && station == from && shown == plate
+    }
+
+    /// The plate that this motion carries from a station, if it does.
+    pub(crate) fn plate_from(self, station: Station) -> Option<u32> {
+        match self.path {
+            Path::Stations { from, to: _, plate } if from == station => plate,
+            _ => None,
+        }
+    }
+}

@@ -1,0 +1,445 @@
+//! The simulated cell as it is.
+//!
+//! A motion begins with the command to move an axis and goes on with the readings of its machine. The first reading shows
+//! the pose that the axis leaves, the second nothing, the third and all later ones the pose that it reaches, and at the
+//! third the axis has that pose. A belt shows the plate that it carries at the stations where the motion begins and ends
+//! in place of switches. All else is shown as it is.
+use crate::axis::AxisInWorld;
+use crate::fault::Fault;
+use crate::motion::{Motion, Path, Phase};
+use crate::script::FaultScript;
+use crate::tables::{
+    AXES, faced_station, is_pose_of, place_of_axis, place_of_station, stations_of_motion,
+};
+use cell_diagnosis::Reading;
+use cell_types::{
+    Arm, Axis, Belt, Colour, Command, Machine, Pose, STATIONS, Station, axis_of_arm, home,
+    machine_of_axis, machine_of_station, station_of_arm,
+};
+use cell_workers::PortFault;
+
+/// A simulated cell: where its axes and plates are, which motions go on, its lights, and how often machines met.
+#[derive(Debug, Drop)]
+pub struct World {
+    axes: [AxisInWorld; 9],
+    /// The plate at each station, by the number at which it was laid, from 1.
+    plates: [Option<u32>; 9],
+    feed_light: Colour,
+    deposit_light: Colour,
+    /// How many plates are to be laid.
+    plan: u32,
+    /// How many were laid.
+    laid: u32,
+    collisions: u32,
+}
+
+impl World {
+    /// A cell at the opening: all axes at home, no plate in it, both lights red. At the beginning of the feed belt up to
+    /// `plates` plates are laid, one at a time, where the feed light is green.
+    pub fn new(plates: u32) -> World {
+        World {
+            axes: [
+                AxisInWorld::new(Axis::FeedBelt),
+                AxisInWorld::new(Axis::TableLift),
+                AxisInWorld::new(Axis::TableTurn),
+                AxisInWorld::new(Axis::RobotTurn),
+                AxisInWorld::new(Axis::ArmOne),
+                AxisInWorld::new(Axis::ArmTwo),
+                AxisInWorld::new(Axis::PressOne),
+                AxisInWorld::new(Axis::PressTwo),
+                AxisInWorld::new(Axis::DepositBelt),
+            ],
+            plates: [None; 9],
+            feed_light: Colour::Red,
+            deposit_light: Colour::Red,
+            plan: plates,
+            laid: 0,
+            collisions: 0,
+        }
+    }
+
+    /// How often an axis of the table, a press or the deposit belt was told to move while an arm was out there, and how
+    /// often an arm was told to lay a plate down where there is no station or a full one. At `u32::MAX` the count stays.
+    pub fn collisions(&self) -> u32 {
+        self.collisions
+    }
+
+    fn axis(&self, axis: Axis) -> AxisInWorld {
+        self.axes[place_of_axis(axis)]
+    }
+
+    fn set_motion(&mut self, axis: Axis, motion: Option<Motion>) {
+        self.axes[place_of_axis(axis)].motion = motion;
+    }
+
+    fn set_pose(&mut self, axis: Axis, pose: Pose) {
+        self.axes[place_of_axis(axis)].pose = pose;
+    }
+
+    fn plate(&self, station: Station) -> Option<u32> {
+        self.plates[place_of_station(station)]
+    }
+
+    fn set_plate(&mut self, station: Station, plate: Option<u32>) {
+        self.plates[place_of_station(station)] = plate;
+    }
+
+    fn count_collision(&mut self) {
+        self.collisions = self.collisions.saturating_add(1);
+    }
+}
+
+/// What commands do.
+impl World {
+    /// Carries out a command. It fails only where it is to move an axis and this motion's fault is that its command fails.
+    pub(crate) fn command(
+        &mut self,
+        command: Command,
+        faults: &FaultScript,
+    ) -> Result<(), PortFault> {
+        match command {
+            Command::Lamp(belt, colour) => self.set_light(belt, colour),
+            Command::On(axis, to) => return self.start(axis, to, faults),
+            Command::Off(axis) => self.end(axis),
+            Command::MagnetOn(arm) => self.grip(arm),
+            Command::MagnetOff(arm) => self.lay_down(arm),
+            Command::AllOff(machine) => self.stop(machine),
+        }
+        Ok(())
+    }
+
+    fn set_light(&mut self, belt: Belt, colour: Colour) {
+        match belt {
+            Belt::Feed => self.feed_light = colour,
+            Belt::Deposit => self.deposit_light = colour,
+        }
+    }
+
+    // A motion begins in place of the one before. A command that fails counts as a motion, and nothing else comes of it.
+    // One to a pose that the axis doesn't have begins no motion.
+    fn start(&mut self, axis: Axis, to: Pose, faults: &FaultScript) -> Result<(), PortFault> {
+        let place = place_of_axis(axis);
+        let number = self.axes[place].commands.saturating_add(1);
+        self.axes[place].commands = number;
+        let fault = faults.fault_of(axis, number);
+        if matches!(fault, Some(Fault::RefuseCommand)) {
+            return Err(PortFault);
+        }
+        if self.has_arm_at(machine_of_axis(axis)) {
+            self.count_collision();
+        }
+        if let Some(path) = self.path(axis, to) {
+            self.set_motion(axis, Some(Motion::begin(path, fault)));
+        }
+        Ok(())
+    }
+
+    // Where a command to move an axis leads.
+    fn path(&self, axis: Axis, to: Pose) -> Option<Path> {
+        if let Some((from, to)) = stations_of_motion(axis, to) {
+            let plate = self.plate(from);
+            return Some(Path::Stations { from, to, plate });
+        }
+        if is_belt(axis) || !is_pose_of(axis, to) {
+            return None;
+        }
+        let from = self.axis(axis).pose;
+        Some(Path::Poses { from, to })
+    }
+
+    // Whether an arm is out at a machine.
+    fn has_arm_at(&self, machine: Machine) -> bool {
+        self.is_out_at(Arm::Arm1, machine) || self.is_out_at(Arm::Arm2, machine)
+    }
+
+    fn is_out_at(&self, arm: Arm, machine: Machine) -> bool {
+        match self.station_before(arm) {
+            Some(station) => machine_of_station(station) == machine,
+            None => false,
+        }
+    }
+
+    // The station that an arm faces, where the arm is out.
+    fn station_before(&self, arm: Arm) -> Option<Station> {
+        if self.axis(axis_of_arm(arm)).pose != Pose::Out {
+            return None;
+        }
+        faced_station(arm, self.axis(Axis::RobotTurn).pose)
+    }
+
+    // The motion of a belt ends. Other axes stay where their motion has brought them.
+    fn end(&mut self, axis: Axis) {
+        if is_belt(axis) {
+            self.set_motion(axis, None);
+        }
+    }
+
+    // The plate before an arm is on the arm, unless that holds one already.
+    fn grip(&mut self, arm: Arm) {
+        if let Some(station) = self.station_before(arm) {
+            self.move_plate(station, station_of_arm(arm));
+        }
+    }
+
+    // The plate on an arm is at the empty station before it. Over a full station or none nothing moves.
+    fn lay_down(&mut self, arm: Arm) {
+        match self.station_before(arm) {
+            Some(station) if self.plate(station).is_none() => {
+                self.move_plate(station_of_arm(arm), station);
+            }
+            _ => self.count_collision(),
+        }
+    }
+
+    // A plate moves from a station to another one, which is empty.
+    fn move_plate(&mut self, from: Station, to: Station) {
+        if self.plate(to).is_some() {
+            return;
+        }
+        let plate = self.plate(from);
+        self.set_plate(from, None);
+        self.set_plate(to, plate);
+    }
+
+    // All motions of a machine stop where they are, and its light is red.
+    fn stop(&mut self, machine: Machine) {
+        match machine {
+            Machine::Feed => self.feed_light = Colour::Red,
+            Machine::Deposit => self.deposit_light = Colour::Red,
+            _ => {}
+        }
+        for axis in AXES {
+            if machine_of_axis(axis) == machine {
+                self.stop_motion(axis);
+            }
+        }
+    }
+
+    fn stop_motion(&mut self, axis: Axis) {
+        if let Some(motion) = self.axis(axis).motion {
+            let stopped = Motion {
+                stopped: true,
+                ..motion
+            };
+            self.set_motion(axis, Some(stopped));
+        }
+    }
+}
+
+/// What readings do and show.
+impl World {
+    /// What a machine shows; `None` where the reading is missing. First a plate is laid or taken where the machine's light
+    /// is green.
+    pub(crate) fn read(&mut self, machine: Machine) -> Option<Reading> {
+        match machine {
+            Machine::Feed => self.lay_plate(),
+            Machine::Deposit => self.take_plate(),
+            _ => {}
+        }
+        if self.is_missing(machine) {
+            return None;
+        }
+        self.advance_machine(machine);
+        Some(Reading {
+            switches: self.switches(machine),
+            presence: self.presence(machine),
+        })
+    }
+
+    // Where the feed light is green, the belt is empty and a plate is left, it is laid at the belt's beginning.
+    fn lay_plate(&mut self) {
+        let is_empty = self.plate(Station::FeedIn).is_none()
+            && self.plate(Station::FeedEnd).is_none();
+        if self.feed_light == Colour::Green && is_empty && self.laid < self.plan {
+            self.laid += 1;
+            self.set_plate(Station::FeedIn, Some(self.laid));
+        }
+    }
+
+    // Where the deposit light is green, the plate at the belt's end is taken.
+    fn take_plate(&mut self) {
+        if self.deposit_light == Colour::Green {
+            self.set_plate(Station::DepEnd, None);
+        }
+    }
+
+    // Whether a machine's reading is missing, since one is due that a motion of it doesn't give.
+    fn is_missing(&mut self, machine: Machine) -> bool {
+        let mut is_missing = false;
+        for axis in AXES {
+            if machine_of_axis(axis) == machine && self.skip_reading(axis) {
+                is_missing = true;
+            }
+        }
+        is_missing
+    }
+
+    fn skip_reading(&mut self, axis: Axis) -> bool {
+        let Some(motion) = self.axis(axis).motion else {
+            return false;
+        };
+        if motion.missing == 0 {
+            return false;
+        }
+        let skipped = Motion {
+            missing: motion.missing - 1,
+            ..motion
+        };
+        self.set_motion(axis, Some(skipped));
+        true
+    }
+
+    fn advance_machine(&mut self, machine: Machine) {
+        for axis in AXES {
+            if machine_of_axis(axis) == machine {
+                self.advance(axis);
+            }
+        }
+    }
+
+    // The motion of an axis goes on by one reading.
+    fn advance(&mut self, axis: Axis) {
+        let Some(motion) = self.axis(axis).motion else {
+            return;
+        };
+        let phase = motion.next_phase();
+        self.set_motion(axis, Some(Motion { phase, ..motion }));
+        match (motion.phase, phase) {
+            (Phase::Seen, Phase::Between(_)) => self.leave(axis, motion.fault),
+            (Phase::Between(_), Phase::Arrived) => self.arrive(axis, motion.path),
+            _ => {}
+        }
+    }
+
+    // An axis leaves. Where it is its motion's fault, the plates of its machine or of the arm are gone.
+    fn leave(&mut self, axis: Axis, fault: Option<Fault>) {
+        if !matches!(fault, Some(Fault::LosePlate)) {
+            return;
+        }
+        match axis {
+            Axis::ArmOne => self.set_plate(Station::Arm1, None),
+            Axis::ArmTwo => self.set_plate(Station::Arm2, None),
+            _ => self.lose_plates(machine_of_axis(axis)),
+        }
+    }
+
+    fn lose_plates(&mut self, machine: Machine) {
+        for station in STATIONS {
+            if machine_of_station(station) == machine {
+                self.set_plate(station, None);
+            }
+        }
+    }
+
+    // An axis is where its motion leads. The plate that a belt carries is there too, unless it was taken from the belt
+    // or another plate lies there.
+    fn arrive(&mut self, axis: Axis, path: Path) {
+        match path {
+            Path::Poses { from: _, to } => self.set_pose(axis, to),
+            Path::Stations { from, to, plate } => {
+                if self.plate(from) == plate {
+                    self.move_plate(from, to);
+                }
+            }
+        }
+    }
+
+    fn switches(&self, machine: Machine) -> [u8; 3] {
+        match machine {
+            Machine::Feed | Machine::Deposit => [0, 0, 0],
+            Machine::Table => [
+                self.switches_of(Axis::TableLift),
+                self.switches_of(Axis::TableTurn),
+                0,
+            ],
+            Machine::Robot => [
+                self.switches_of(Axis::RobotTurn),
+                self.switches_of(Axis::ArmOne),
+                self.switches_of(Axis::ArmTwo),
+            ],
+            Machine::Press1 => [self.switches_of(Axis::PressOne), 0, 0],
+            Machine::Press2 => [self.switches_of(Axis::PressTwo), 0, 0],
+        }
+    }
+
+    fn switches_of(&self, axis: Axis) -> u8 {
+        self.axis(axis).switches(axis)
+    }
+
+    fn presence(&self, machine: Machine) -> u8 {
+        match machine {
+            Machine::Feed => {
+                self.sensor(Axis::FeedBelt, Station::FeedIn, 1)
+                    | self.sensor(Axis::FeedBelt, Station::FeedEnd, 2)
+                    | self.sensor(Axis::FeedBelt, Station::Table, 4)
+            }
+            Machine::Table => self.plate_bit(Station::Table, 1),
+            Machine::Robot => self.plate_bit(Station::Arm1, 1) | self.plate_bit(Station::Arm2, 2),
+            Machine::Press1 => self.plate_bit(Station::Press1, 1),
+            Machine::Press2 => self.plate_bit(Station::Press2, 1),
+            Machine::Deposit => {
+                self.sensor(Axis::DepositBelt, Station::DepIn, 1)
+                    | self.sensor(Axis::DepositBelt, Station::DepEnd, 2)
+            }
+        }
+    }
+
+    // The bit of a station where a plate is.
+    fn plate_bit(&self, station: Station, bit: u8) -> u8 {
+        if self.plate(station).is_some() { bit } else { 0 }
+    }
+
+    // The bit of a station as a belt's machine shows it. While the belt is between two stations it doesn't show the plate
+    // that it carries; a fault of the motion can keep the first station's bit or show both.
+    fn sensor(&self, belt: Axis, station: Station, bit: u8) -> u8 {
+        let Some(motion) = self.axis(belt).motion else {
+            return self.plate_bit(station, bit);
+        };
+        if motion.shows_by_fault(station) {
+            return bit;
+        }
+        if motion.hides(station, self.plate(station)) {
+            return 0;
+        }
+        self.plate_bit(station, bit)
+    }
+}
+
+/// What the operator does by hand.
+impl World {
+    /// Takes out the plate at a station. Where there is none and a belt's motion from there wasn't ended, it takes out the
+    /// plate that this motion carried, wherever it is. Where there is none either, nothing happens.
+    pub(crate) fn remove(&mut self, station: Station) {
+        if self.plate(station).is_some() {
+            self.set_plate(station, None);
+            return;
+        }
+        for belt in [Axis::FeedBelt, Axis::DepositBelt] {
+            if let Some(motion) = self.axis(belt).motion {
+                self.take_out(motion.plate_from(station));
+            }
+        }
+    }
+
+    fn take_out(&mut self, plate: Option<u32>) {
+        for station in STATIONS {
+            if plate.is_some() && self.plate(station) == plate {
+                self.set_plate(station, None);
+            }
+        }
+    }
+
+    /// Puts the axes of a machine at home and ends its motions.
+    pub(crate) fn home(&mut self, machine: Machine) {
+        for axis in AXES {
+            if machine_of_axis(axis) == machine {
+                self.set_motion(axis, None);
+                self.set_pose(axis, home(axis));
+            }
+        }
+    }
+}
+
+fn is_belt(axis: Axis) -> bool {
+    matches!(axis, Axis::FeedBelt | Axis::DepositBelt)
+}
