@@ -59,6 +59,18 @@ fn is_planned(faults: &[PlannedFault], fault: PlannedFault) -> bool
     false
 }
 
+// The fault that is planned for a motion of an axis.
+fn fault_in(faults: &[PlannedFault], axis: Axis, motion: u32) -> Option<Fault>
+    ensures { result ≡ fault_in axis motion faults.now }
+{
+    for planned in faults {
+        if is_same_axis(planned.axis, axis) && planned.motion == motion {
+            return Some(planned.fault);
+        }
+    }
+    None
+}
+
 // The fault of the record that was read, after these faults.
 #[tactic(auto, unfolding(crate::specs::Script::next_fault))]
 fn next_fault<R: Read>(faults: &[PlannedFault], rows: &RowReader<R>) -> Option<PlannedFault>
@@ -116,11 +128,6 @@ impl FaultScript {
     pub(crate) fn fault_of(&self, axis: Axis, motion: u32) -> Option<Fault>
         ensures { result ≡ fault_in axis motion self.now }
     {
-        for planned in &self.faults {
-            if is_same_axis(planned.axis, axis) && planned.motion == motion {
-                return Some(planned.fault);
-            }
-        }
-        None
+        fault_in(self.faults.as_slice(), axis, motion)
     }
 }
