@@ -38,9 +38,9 @@ pub(crate) struct Motion {
     pub path: Path,
     pub fault: Option<Fault>,
     pub phase: Phase,
-    /// How many readings are still missing before the motion is read at all.
+    /// How many readings are still missing before the motion is read at all, also after a stop.
     pub missing: u32,
-    /// Whether all motors of the machine were stopped since. The motion then stays in its phase.
+    /// Whether all motors of the machine were stopped since. The motion then stays in its phase, and shows what it showed.
     pub stopped: bool,
 }
 
@@ -81,7 +81,8 @@ impl Motion {
         }
     }
 
-    /// Whether the axis has left where the motion began, so that a fault of its switches or sensors shows.
+    /// Whether the axis has left where the motion began, so that a fault of its switches or sensors shows. Such a fault
+    /// changes what is shown alone: the axis moves.
     pub(crate) fn has_left(self) -> bool {
         matches!(self.phase, Phase::Between(_) | Phase::Arrived)
     }

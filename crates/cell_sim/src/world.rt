@@ -2,8 +2,11 @@
 //!
 //! A motion begins with the command to move an axis and goes on with the readings of its machine. The first reading shows
 //! the pose that the axis leaves, the second nothing, the third and all later ones the pose that it reaches, and at the
-//! third the axis has that pose. A belt shows the plate that it carries at the stations where the motion begins and ends
-//! in place of switches. All else is shown as it is.
+//! third the axis has that pose. A belt shows the plate that it carries, at the stations where the motion begins and ends,
+//! in place of switches; from the third reading on the plate is where the motion ends. All else is shown as it is.
+//!
+//! A stopped motion goes on showing what it last showed. A motion ends where another of its axis begins or the axis is
+//! put at home, and that of a belt also where the belt is turned off.
 use crate::axis::AxisInWorld;
 use crate::fault::Fault;
 use crate::motion::{Motion, Path, Phase};
@@ -115,8 +118,8 @@ impl World {
         }
     }
 
-    // A motion begins in place of the one before. A command that fails counts as a motion, and nothing else comes of it.
-    // One to a pose that the axis doesn't have begins no motion.
+    // A motion begins in place of the one before. A command that fails counts as a motion, and nothing else comes of it,
+    // no collision either. One to a pose that the axis doesn't have begins no motion.
     fn start(&mut self, axis: Axis, to: Pose, faults: &FaultScript) -> Result<(), PortFault> {
         let place = place_of_axis(axis);
         let number = self.axes[place].commands.saturating_add(1);
@@ -167,7 +170,7 @@ impl World {
         faced_station(arm, self.axis(Axis::RobotTurn).pose)
     }
 
-    // The motion of a belt ends. Other axes stay where their motion has brought them.
+    // The motion of a belt ends. That of an axis with switches goes on.
     fn end(&mut self, axis: Axis) {
         if is_belt(axis) {
             self.set_motion(axis, None);
@@ -181,7 +184,8 @@ impl World {
         }
     }
 
-    // The plate on an arm is at the empty station before it. Over a full station or none nothing moves.
+    // The plate on an arm is at the empty station before it. Over a full station or none a collision is counted, whether
+    // the arm holds a plate or not, and nothing moves.
     fn lay_down(&mut self, arm: Arm) {
         match self.station_before(arm) {
             Some(station) if self.plate(station).is_none() => {
@@ -201,7 +205,7 @@ impl World {
         self.set_plate(to, plate);
     }
 
-    // All motions of a machine stop where they are, and its light is red.
+    // All motions of a machine stop where they are, and its light is red. Its magnets hold what they held.
     fn stop(&mut self, machine: Machine) {
         match machine {
             Machine::Feed => self.feed_light = Colour::Red,
@@ -228,8 +232,8 @@ impl World {
 
 /// What readings do and show.
 impl World {
-    /// What a machine shows; `None` where the reading is missing. First a plate is laid or taken where the machine's light
-    /// is green.
+    /// What a machine shows; `None` where the reading is missing. Before each reading, also a missing one, a plate is laid
+    /// or taken where the machine's light is green.
     pub(crate) fn read(&mut self, machine: Machine) -> Option<Reading> {
         match machine {
             Machine::Feed => self.lay_plate(),
@@ -263,7 +267,7 @@ impl World {
         }
     }
 
-    // Whether a machine's reading is missing, since one is due that a motion of it doesn't give.
+    // Whether a machine's reading is missing: one of its motions is silent still. Its motions then don't go on.
     fn is_missing(&mut self, machine: Machine) -> bool {
         let mut is_missing = false;
         for axis in AXES {
@@ -311,7 +315,7 @@ impl World {
         }
     }
 
-    // An axis leaves. Where it is its motion's fault, the plates of its machine or of the arm are gone.
+    // An axis leaves. Where it is its motion's fault, the plates that its machine holds now, or the arm, are gone.
     fn leave(&mut self, axis: Axis, fault: Option<Fault>) {
         if !matches!(fault, Some(Fault::LosePlate)) {
             return;
@@ -386,7 +390,11 @@ impl World {
 
     // The bit of a station where a plate is.
     fn plate_bit(&self, station: Station, bit: u8) -> u8 {
-        if self.plate(station).is_some() { bit } else { 0 }
+        if self.plate(station).is_some() {
+            bit
+        } else {
+            0
+        }
     }
 
     // The bit of a station as a belt's machine shows it. While the belt is between two stations it doesn't show the plate

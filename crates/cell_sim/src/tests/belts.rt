@@ -1,7 +1,7 @@
 //! Belts, and the plates that are laid on them, carried, taken out by hand and delivered.
+use crate::World;
 use crate::tests::steps::Step::{Home, Read, Remove, Send, Shows};
 use crate::tests::steps::{Step, follow, run, script};
-use crate::World;
 use cell_types::Axis::FeedBelt;
 use cell_types::Command::{AllOff, Lamp, Off, On};
 use cell_types::Machine::{Deposit, Feed, Table};
