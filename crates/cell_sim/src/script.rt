@@ -2,6 +2,7 @@
 ghost use Rattle.std.specs.Prelude.{◌≡◌};
 ghost use Rattle.cell_rows.specs.Rows.{current_row, rows_of};
 ghost use Rattle.cell_types.specs.Same.{same_axis};
+ghost use Rattle.cell_sim.specs.Meaning.{Means};
 ghost use Rattle.cell_sim.specs.Script.{Gives, fault_in, faults_of, is_planned, next_fault};
 
 use crate::fault::{Fault, PlannedFault};
@@ -96,7 +97,8 @@ impl FaultScript {
     /// The first record that is no fault, or the second for one motion, is `Unreadable`, counted from 1; a record 1,001
     /// is `TooManyLines`, whatever it holds; `OutOfMemory` comes only where memory was refused.
     pub fn read(alloc: Global, text: &[u8]) -> Result<FaultScript, FaultError>
-        ensures { Gives result (faults_of (rows_of text.now)) }
+        ensures exact { Gives result (faults_of (rows_of text.now)) }
+        ensures means { Means (rows_of text.now) result }
     {
         let mut rows = RowReader::new(alloc, text);
         let mut faults = Vec::new(alloc);

@@ -207,6 +207,23 @@ const BELT_TO_TABLE: [Step; 8] = [
     Shows(Table, [1, 1, 0], 1),
 ];
 
+// Nothing lies on the belt: no plate stays shown, but both sensors show one where they are broken.
+const BARE_KEEPS_OLD: [Step; 5] = [
+    Send(On(FeedBelt, Pose::ToEnd)),
+    Shows(Feed, NONE, 0),
+    Shows(Feed, NONE, 0),
+    Shows(Feed, NONE, 0),
+    Shows(Feed, NONE, 0),
+];
+
+const BARE_BOTH: [Step; 5] = [
+    Send(On(FeedBelt, Pose::ToTable)),
+    Shows(Feed, NONE, 0),
+    Shows(Feed, NONE, 6),
+    Shows(Feed, NONE, 6),
+    Shows(Table, [1, 1, 0], 0),
+];
+
 const BELT_REFUSED: [Step; 5] = [
     Send(Lamp(Belt::Feed, Colour::Green)),
     Shows(Feed, NONE, 1),
@@ -231,11 +248,11 @@ fn a_fault_shows_at_sensors(rt: HostRuntime) {
         follow(&rt, &mut world, &faults, &STARTED);
         follow(&rt, &mut world, &faults, steps);
     }
-    run(
-        &rt,
-        rt.alloc(),
-        1,
-        "feed_belt,1,refuse_command,\n",
-        &BELT_REFUSED,
-    );
+    for (text, steps) in [
+        ("feed_belt,1,keeps_old,\n", BARE_KEEPS_OLD.as_slice()),
+        ("feed_belt,1,both,\n", &BARE_BOTH),
+        ("feed_belt,1,refuse_command,\n", &BELT_REFUSED),
+    ] {
+        run(&rt, rt.alloc(), 1, text, steps);
+    }
 }

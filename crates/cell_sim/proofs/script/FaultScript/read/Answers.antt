@@ -1,20 +1,25 @@
 use Rattle.std.proofs.Common.{◌≡◌, ◌≤◌, ◌<◌, length, rules, arith, true, ◌∷◌, [], length-append}
 use Rattle.std.specs.Result.{is_ok}
 use Rattle.cell_sim.proofs.Facts.{due-end, due-many, due-more, due-unread}
+use Rattle.cell_sim.proofs.Laws.{due-means}
 use Rattle.cell_sim.proofs.script.FaultScript.read.Goals as goal
 
 pub returns-then-not-found : goal.returns-then-not-found
-returns-then-not-found c = due-end _ _ _ _ _ c.loop-place.invariant.due c.in-Ok.found (search rules) c.in-Ok.ensures.takes
+returns-then-not-found c =
+    let exact = due-end _ _ _ _ _ c.loop-place.invariant.due c.in-Ok.found (search rules) c.in-Ok.ensures.takes in
+    record { exact = exact; means = due-means _ _ exact }
 
 pub returns-then-place-eq-MAX_LINES : goal.returns-then-place-eq-MAX_LINES
 returns-then-place-eq-MAX_LINES c =
     let most : 1000 ≤ length c.loop-place.faults.items = rw c.loop-place.invariant.counted (search rules) in
-    due-many _ _ _ _ _ c.loop-place.invariant.due c.in-Ok.found (search rules) c.in-Ok.ensures.takes most
+    let exact = due-many _ _ _ _ _ c.loop-place.invariant.due c.in-Ok.found (search rules) c.in-Ok.ensures.takes most in
+    record { exact = exact; means = due-means _ _ exact }
 
 pub returns-in-None : goal.returns-in-None
 returns-in-None c =
     let few : length c.loop-place.faults.items < 1000 = rw c.loop-place.invariant.counted (omega (arith, c.loop-place.invariant.few)) in
-    rw (← c.loop-place.invariant.counted) (due-unread _ _ _ _ _ c.loop-place.invariant.due c.in-Ok.found (search rules) c.in-Ok.ensures.takes few (search rules))
+    let exact = due-unread _ _ _ _ _ c.loop-place.invariant.due c.in-Ok.found (search rules) c.in-Ok.ensures.takes few (search rules) in
+    rw (← c.loop-place.invariant.counted) (record { exact = exact; means = due-means _ _ exact })
 
 pub loop-place-preserved : goal.loop-place-preserved
 loop-place-preserved c =
