@@ -1,5 +1,5 @@
 //! The tables of the cell as the simulator reads them. They are those of this project's profile.
-ghost use Rattle.std.specs.Prelude.{◌≡◌, ◌<◌, ◌^◌, Some, IfSome, option_map};
+ghost use Rattle.std.specs.Prelude.{◌≡◌, ◌<◌, ◌+◌, ◌^◌, Some, IfSome, length, option_map};
 ghost use Rattle.std.specs.List.{list_any};
 ghost use Rattle.cell_types.specs.Cell.{faced, motion_to, poses};
 ghost use Rattle.cell_types.specs.Same.{axis_number, same_pose, station_number};
@@ -76,16 +76,14 @@ pub(crate) fn switch_bit(pose: Pose) -> u8
     }
 }
 
-/// The bits of all switches of an axis; none for a belt, which has no switches.
-pub(crate) fn all_switches(axis: Axis) -> u8 {
+/// The bits of all poses of an axis.
+pub(crate) fn all_switches(axis: Axis) -> u8
+    ensures { result + 1 ≡ 2 ^ length (poses axis) }
+{
     match axis {
-        Axis::FeedBelt | Axis::DepositBelt => 0,
-        Axis::TableLift | Axis::TableTurn | Axis::ArmOne | Axis::ArmTwo => {
-            switch_bit(Pose::In) | switch_bit(Pose::Out)
-        }
-        Axis::PressOne | Axis::PressTwo => {
-            switch_bit(Pose::Middle) | switch_bit(Pose::Top) | switch_bit(Pose::Bottom)
-        }
+        Axis::FeedBelt | Axis::DepositBelt => 1,
+        Axis::TableLift | Axis::TableTurn | Axis::ArmOne | Axis::ArmTwo => 3,
+        Axis::PressOne | Axis::PressTwo => 7,
         Axis::RobotTurn => 63,
     }
 }
