@@ -45,6 +45,20 @@ impl Read for Slow {
     }
 }
 
+// A reader that hands out so many bytes at a time at most.
+#[derive(Drop)]
+struct Pieces<'a> {
+    text: &'a [u8],
+    size: usize,
+}
+
+impl Read for Pieces<'_> {
+    fn read(&mut self, buf: &mut [u8]) -> io::Result<usize> {
+        let end = buf.len().min(self.size);
+        self.text.read(&mut buf[..end])
+    }
+}
+
 // Writes each field of a record with a bar after it, or a question mark where there aren't four.
 fn write_row(list: &mut Vec<u8>, row: Option<Four<'_>>) -> Result<(), Fail> {
     match row {
@@ -127,6 +141,16 @@ fn reads_records(rt: HostRuntime) -> Result<(), Fail> {
             b"\xff|\x80b|c|d|;",
         ),
         ("a byte order mark", b"\xef\xbb\xbfa,b,c,d\n", b"a|b|c|d|;"),
+        (
+            "a byte order mark in mid-text",
+            b"a,b,c,d\n\xef\xbb\xbfe,f,g,h\n",
+            b"a|b|c|d|;\xef\xbb\xbfe|f|g|h|;",
+        ),
+        (
+            "quoted fields between plain lines",
+            b"a,b,c,d\n\"e\",f,g,h\ni,j,k,l\n",
+            b"a|b|c|d|;e|f|g|h|;i|j|k|l|;",
+        ),
     ] {
         let at_once = listed(alloc, text)?;
         assert_eq!(rt; at_once.as_slice(), wanted, "{name}");
@@ -148,6 +172,56 @@ fn tells_that_the_reader_failed(rt: HostRuntime) -> Result<(), Fail> {
     ] {
         let list = listed(rt.alloc(), Slow::new(text, fails_at))?;
         assert_eq!(rt; list.as_slice(), wanted, "after {fails_at} bytes");
+    }
+    Ok(())
+}
+
+// A text of 3,000 lines, of which one has a quoted field and one ends in two bytes.
+fn long_text(alloc: Global) -> Result<Vec<u8>, Fail> {
+    let mut text = Vec::new(alloc);
+    for line in 0..3000 {
+        text.extend_from_slice(match line {
+            1500 => b"\"a,b\",c,d,e\n".as_slice(),
+            2500 => b"f,g,h,i\r\n",
+            _ => b"claimed,table,z1,\n",
+        })?;
+    }
+    Ok(text)
+}
+
+// Whether these are the fields of the line that stands 2,998 times in the text.
+fn is_claim(four: Four<'_>) -> bool {
+    four.first == b"claimed".as_slice()
+        && four.second == b"table".as_slice()
+        && four.third == b"z1".as_slice()
+        && four.fourth.is_empty()
+}
+
+// How many records a reader has, and how many of those are that line.
+fn count_rows<R: Read + Drop>(alloc: Global, reader: R) -> Result<(u32, u32), Fail> {
+    let mut rows = RowReader::new(alloc, reader);
+    let mut same: u32 = 0;
+    for count in 0..4000 {
+        if !rows.advance().or(Err("a record can't be read"))? {
+            return Ok((count, same));
+        }
+        if rows.four().is_some_and(is_claim) {
+            same = same.saturating_add(1);
+        }
+    }
+    Ok((4000, same))
+}
+
+#[test]
+fn pieces_of_any_size_give_the_same_records(rt: HostRuntime) -> Result<(), Fail> {
+    let text = long_text(rt.alloc())?;
+    for size in [1, 2, 17, 18, 1000, 16_383, 16_384, 16_385, 100_000].as_slice() {
+        let pieces = Pieces {
+            text: text.as_slice(),
+            size: *size,
+        };
+        let counts = count_rows(rt.alloc(), pieces)?;
+        assert_eq!(rt; counts, (3000, 2998), "{size} bytes at a time");
     }
     Ok(())
 }
