@@ -1,5 +1,5 @@
 -- The entry that a turn decides on is a CommandFault exactly where the last command failed
-use Rattle.std.proofs.Common.{◌≡◌, ℕ, ◌+◌, Bool, true, false, ◌&&◌, nat_lt, Option, Some, None, List, if◌then◌else◌, refl, sym, ◌∙◌, subst}
+use Rattle.std.proofs.Common.{◌≡◌, ℕ, ◌+◌, Bool, true, false, ◌&&◌, nat_lt, Option, Some, None, List, IfSome, if◌then◌else◌, refl, sym, ap, ◌∙◌, subst}
 use Rattle.std.specs.Option.{option_map}
 use Rattle.std.specs.List.{count_by}
 use Rattle.cell_types.specs.declared.words.Machine.{Machine}
@@ -30,9 +30,12 @@ use Rattle.cell_workers.specs.declared.ruling.Ruling.TheVariants.{Nothing, Books
 use Rattle.cell_workers.specs.Sent.{is_command_fault}
 use Rattle.cell_workers.specs.Moving.{motion_of_machine}
 use Rattle.cell_workers.specs.Signs.{shows_sign}
-use Rattle.cell_workers.specs.Minds.{Mind}
+use Rattle.cell_workers.specs.declared.memory.Memory.{Memory}
+use Rattle.cell_workers.specs.declared.watch.Watch.{Watch}
+use Rattle.cell_workers.specs.Minds.{Mind, FitsMind, has_failed_command}
 use Rattle.cell_workers.specs.Rulings.{axis_noted, axis_verdict, rest_noted, ending, books, signed, by_sign, by_arrival, by_rest, by_axis, ruling_by, ruling}
 use Rattle.cell_workers.specs.Turns.{IsRuled, IsDecided}
+use Rattle.cell_workers.proofs.Minds.{of_some}
 use Rattle.cell_workers.proofs.Faults.{is_command_verdict, of_following, of_rest}
 
 -- what is decided is a CommandFault just as `failed` says
@@ -150,3 +153,9 @@ of_ruled l J m plates failed (Books x) e f h = subst (λ (o : Option Entry). on_
 -- a turn books a CommandFault exactly where the last command failed
 pub fault_decided : (l : Limits) (J : List Entry) (m : Machine) (p : Plan) (s : Mind) (r : Option Reading) (e : Entry) → IsDecided l J m p s r (Some e) → is_command_fault e ≡ s.memory.command_failed
 fault_decided l J m p s r e h = of_ruled l J m p.plates s.memory.command_failed (ruling J m p s r) e (of_ruling J m p s r) h
+
+-- the same of a watch
+pub fault_booked : (l : Limits) (J : List Entry) (m : Machine) (p : Plan) (w : Watch) (r : Option Reading) (o : Option Entry)
+    → ((s : Mind) → FitsMind w s → IsDecided l J m p s r o) → IfSome o (λ e. is_command_fault e ≡ has_failed_command w)
+fault_booked l J m p w r None h = tt
+fault_booked l J m p w r (Some e) h = of_some w (is_command_fault e) (has_failed_command w) (λ s fit. fault_decided l J m p s r e (h s fit) ∙ sym (ap (λ (k : Memory). k.command_failed) fit.memory))

@@ -10,7 +10,7 @@ use Rattle.cell_diagnosis.specs.Readings.{Seen}
 use Rattle.cell_diagnosis.specs.AxisRules.{judged, verdict, has_arrived, is_stuck_at_end, is_stuck, is_contradictory, is_stray, is_silent, has_not_left, is_late}
 use Rattle.cell_diagnosis.specs.RestFacts.{Noted, disagrees, shows_several_at}
 use Rattle.cell_diagnosis.specs.RestRules.{is_silent_at_rest, axis_fault, is_plate_lost, is_plate_strange, plate_fault, judged_at_rest, rest}
-use Rattle.cell_workers.specs.Minds.{Following}
+use Rattle.cell_workers.specs.Following.{Following}
 use Rattle.cell_workers.specs.Rulings.{axis_verdict}
 
 -- the verdict is that a command failed, which no reading shows

@@ -1,12 +1,11 @@
 -- What a port is sent, with one entry more
-use Rattle.std.proofs.Common.{◌≡◌, ◌+◌, List, [], ◌∷◌, ◌++◌, Bool, true, false, if◌then◌else◌, Option, Some, None, option_to_list, not, refl, sym, ap, ap₂, ◌∙◌, append_assoc, append-nil, arith, cond, zero-add}
+use Rattle.std.proofs.Common.{◌≡◌, ℕ, ◌+◌, List, [], ◌∷◌, ◌++◌, Bool, true, false, if◌then◌else◌, Option, Some, None, option_to_list, is_some, IfSome, subst, refl, sym, ap, ap₂, ◌∙◌, append_assoc, append-nil, arith, cond, zero-add}
 use Rattle.std.proofs.lemmas.List.Sums.{sum_by-append}
 use Rattle.cell_types.specs.declared.words.Command.{Command}
 use Rattle.cell_types.specs.declared.words.Entry.{Entry}
 use Rattle.cell_types.specs.Entries.{command_of}
-use Rattle.cell_diagnosis.specs.declared.reading.Reading.{Reading}
-use Rattle.cell_workers.specs.Logs.{Log, after_read, after_command}
-use Rattle.cell_workers.specs.Sent.{is_command_fault, fails_before, sent_for, command_faults, Sends}
+use Rattle.cell_workers.specs.Logs.{Log, after_sending}
+use Rattle.cell_workers.specs.Sent.{is_command_fault, fails_before, sent_for, command_faults, one_where, Sends}
 
 pub sent_for-push : (failed : Bool) (es : List Entry) (e : Entry) → sent_for failed (es ++ e ∷ []) ≡ sent_for (is_command_fault e) es ++ (if failed then [] else option_to_list (command_of e))
 sent_for-push failed [] e = append-nil (if failed then [] else option_to_list (command_of e))
@@ -21,38 +20,59 @@ sent_for-push failed (x ∷ es) e =
 faults-push : (es : List Entry) (e : Entry) → command_faults (es ++ e ∷ []) ≡ command_faults es + (if is_command_fault e then 1 else 0)
 faults-push es e = sum_by-append (λ (x : Entry). cond (is_command_fault x) 1 0) es (e ∷ []) ∙ ap (λ k. command_faults es + k) (zero-add (cond (is_command_fault e) 1 0))
 
--- the command of a booked entry was sent, or failed
-pub sends_command : (before now after : Log) (es : List Entry) (e : Entry) (c : Command) (ok : Bool)
-    → command_of e ≡ Some c → after ≡ after_command now c ok → Sends before now es (is_command_fault e) → Sends before after (es ++ e ∷ []) (not ok)
-sends_command before now after es e c ok is next s = record {
-  sent = ap (λ (l : Log). l.sent) next ∙ ap (λ l. l ++ (if ok then c ∷ [] else [])) s.sent ∙ append_assoc before.sent (sent_for (is_command_fault e) es) (if ok then c ∷ [] else [])
-      ∙ ap (λ l. before.sent ++ l) (ap (λ l. sent_for (is_command_fault e) es ++ l) (last ok) ∙ sym (sent_for-push (not ok) es e));
-  failures = ap (λ (l : Log). l.failures) next ∙ counted ok (s.failures) (faults-push es e);
-}
+begins_push : (was failed last : Bool) (es : List Entry) (e : Entry) → fails_before last es ≡ was → is_command_fault e ≡ last → fails_before failed (es ++ e ∷ []) ≡ was
+begins_push was failed last [] e h is = is ∙ h
+begins_push was failed last (x ∷ es) e h is = h
+
+sent_after : (log : Log) (o : Option Command) (failed : Bool) → (failed ≡ true → is_some o ≡ true) → (after_sending log o failed).sent ≡ log.sent ++ (if failed then [] else option_to_list o)
+sent_after log None false some = sym (append-nil log.sent)
+sent_after log None true some = absurd (differ (some refl))
   where
-    last : (ok : Bool) → (if ok then c ∷ [] else []) ≡ (if not ok then [] else option_to_list (command_of e))
-    last true = ap option_to_list (sym is)
-    last false = refl
+    differ : false ≡ true → ⊥
+    differ q = cc
+sent_after log (Some c) false some = refl
+sent_after log (Some c) true some = refl
 
-    counted : (ok : Bool) → now.failures ≡ before.failures + (command_faults es + (if is_command_fault e then 1 else 0)) → command_faults (es ++ e ∷ []) ≡ command_faults es + (if is_command_fault e then 1 else 0)
-        → now.failures + (if ok then 0 else 1) ≡ before.failures + (command_faults (es ++ e ∷ []) + (if not ok then 1 else 0))
-    counted true p q = omega (arith, p, q)
-    counted false p q = omega (arith, p, q)
+failures_after : (log : Log) (o : Option Command) (failed : Bool) → (failed ≡ true → is_some o ≡ true) → (after_sending log o failed).failures ≡ log.failures + one_where failed
+failures_after log None false some = omega arith
+failures_after log None true some = absurd (differ (some refl))
+  where
+    differ : false ≡ true → ⊥
+    differ q = cc
+failures_after log (Some c) false some = refl
+failures_after log (Some c) true some = refl
 
--- an entry with no command was booked
-pub sends_none : (before now : Log) (es : List Entry) (e : Entry) → command_of e ≡ None → Sends before now es (is_command_fault e) → Sends before now (es ++ e ∷ []) false
-sends_none before now es e is s = record {
-  sent = s.sent ∙ ap (λ l. before.sent ++ l) (sym (append-nil (sent_for (is_command_fault e) es)) ∙ ap (λ l. sent_for (is_command_fault e) es ++ l) (ap option_to_list (sym is)) ∙ sym (sent_for-push false es e));
-  failures = omega (arith, s.failures, faults-push es e);
-}
+-- one entry more was booked, and its command was sent, or failed, if it has one
+pub sends_push : (before now after : Log) (was last failed : Bool) (es : List Entry) (e : Entry)
+    → is_command_fault e ≡ last → after ≡ after_sending now (command_of e) failed → (failed ≡ true → is_some (command_of e) ≡ true)
+    → Sends before was now es last → Sends before was after (es ++ e ∷ []) failed
+sends_push before now after was last failed es e is next some s =
+    let more = if failed then [] else option_to_list (command_of e) in
+    let grew = ap (λ (l : Log). l.failures) next ∙ failures_after now (command_of e) failed some in
+    let faults = faults-push es e ∙ ap (λ b. command_faults es + one_where b) is in
+    record {
+      begins = begins_push was failed last es e s.begins is;
+      sent = ap (λ (l : Log). l.sent) next ∙ sent_after now (command_of e) failed some ∙ ap (λ l. l ++ more) s.sent ∙ append_assoc before.sent (sent_for last es) more
+          ∙ ap (λ l. before.sent ++ l) (ap (λ b. sent_for b es ++ more) (sym is) ∙ sym (sent_for-push failed es e));
+      failures = counted after.failures now.failures before.failures (one_where was) (command_faults (es ++ e ∷ [])) (command_faults es) (one_where last) (one_where failed) grew s.failures faults;
+    }
+  where
+    counted : (a n b w f' f l x : ℕ) → a ≡ n + x → n + w ≡ b + (f + l) → f' ≡ f + l → a + w ≡ b + (f' + x)
+    counted a n b w f' f l x p q r = omega arith
 
-pub sends_or_fails : (before now after : Log) (es : List Entry) (e : Entry) (c : Command) (ok failed : Bool)
-    → command_of e ≡ Some c → after ≡ after_command now c ok → ok ≡ not failed → Sends before now es (is_command_fault e) → Sends before after (es ++ e ∷ []) failed
-sends_or_fails before now after es e c ok true is next b s = sends_command before now after es e c false is (next ∙ ap (after_command now c) b) s
-sends_or_fails before now after es e c ok false is next b s = sends_command before now after es e c true is (next ∙ ap (after_command now c) b) s
+-- before a list's first entry
+pub sends_start : (log : Log) (was : Bool) (es : List Entry) → es ≡ [] → Sends log was log es was
+sends_start log was es e = rw e (record { begins = refl; sent = sym (append-nil log.sent); failures = omega arith })
 
-pub sends_read : (before now after : Log) (es : List Entry) (failed : Bool) (r : Option Reading) → after ≡ after_read now r → Sends before now es failed → Sends before after es failed
-sends_read before now after es failed r is s = record { sent = ap (λ (l : Log). l.sent) is ∙ s.sent; failures = ap (λ (l : Log). l.failures) is ∙ s.failures }
+-- a turn that booked nothing
+pub sends_on : (before now after : Log) (was last failed : Bool) (es es' : List Entry) → after ≡ now → failed ≡ last → es' ≡ es → Sends before was now es last → Sends before was after es' failed
+sends_on before now after was last failed es es' same still list s = rw (same, still, list) s
 
-pub sends_start : (log : Log) (es : List Entry) → es ≡ [] → Sends log log es false
-sends_start log es e = rw e (record { sent = sym (append-nil log.sent); failures = omega arith })
+-- a turn that booked an entry, as the code has it
+pub sends_booked : (before now after : Log) (was last failed flag : Bool) (es es' : List Entry) (o : Option Entry) (e : Entry)
+    → o ≡ Some e → IfSome o (λ x. is_command_fault x ≡ last) → es' ≡ es ++ option_to_list o
+    → after ≡ after_sending now (command_of e) failed → (failed ≡ true → is_some (command_of e) ≡ true) → flag ≡ failed
+    → Sends before was now es last → Sends before was after es' flag
+sends_booked before now after was last failed flag es es' o e is fault list next some same s =
+    let first : is_command_fault e ≡ last = subst (λ (x : Option Entry). IfSome x (λ y. is_command_fault y ≡ last)) is fault in
+    rw (same, list ∙ ap (λ (x : Option Entry). es ++ option_to_list x) is) (sends_push before now after was last failed es e first next some s)

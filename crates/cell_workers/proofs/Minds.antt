@@ -1,5 +1,7 @@
 -- What a turn does to the readings that a watch fits
-use Rattle.std.proofs.Common.{◌≡◌, ◌&&◌, ◌||◌, Bool, not, Option, None, List, [], ◌++◌, option_to_list, if◌then◌else◌, ap, ◌∙◌, subst}
+use Rattle.std.proofs.Common.{◌≡◌, ◌&&◌, ◌||◌, Bool, not, Option, None, List, [], ◌++◌, option_to_list, if◌then◌else◌, refl, ap, ◌∙◌, subst}
+use Rattle.std.proofs.Math.Logic.{∥∥₁_map, ∥∥₁_elim}
+use mathlib.Core.Bool.{Bool-set}
 use Rattle.std.specs.Prelude.{is_none}
 use Rattle.cell_types.specs.declared.words.Machine.{Machine}
 use Rattle.cell_types.specs.declared.words.Entry.{Entry}
@@ -18,7 +20,8 @@ use Rattle.cell_workers.specs.declared.ruling.Ruling.{Ruling}
 use Rattle.cell_workers.specs.declared.watch.Watch.{Watch}
 use Rattle.cell_workers.specs.Moving.{motion_of_machine}
 use Rattle.cell_workers.specs.Signs.{shows_sign}
-use Rattle.cell_workers.specs.Minds.{Following, Mind, FitsAxis, FitsMind, remembered}
+use Rattle.cell_workers.specs.Following.{Following, FitsAxis, IsFitted}
+use Rattle.cell_workers.specs.Minds.{Mind, FitsMind, remembered}
 use Rattle.cell_workers.specs.Rulings.{axis_noted, axis_verdict, rest_noted, ruling_by, ruling}
 use Rattle.cell_workers.specs.Turns.{IsRuled, IsDecided, begins_anew, ends_motion, memory_after, mind_after}
 
@@ -98,3 +101,13 @@ fits_turned w J J' p s r e w' noted_axis noted_rest anew sign anew_is sign_is jo
     ∙ ap (λ (K : List Entry). remembered K w.machine (is_none e && w.memory.command_failed) (not anew && (not w.memory.sign && sign))) journal_is
     ∙ ap (λ (b : Bool). remembered (J ++ option_to_list e) w.machine (is_none e && w.memory.command_failed) (not b && (not w.memory.sign && sign))) anew_is
     ∙ ap (λ (b : Bool). remembered (J ++ option_to_list e) w.machine (is_none e && w.memory.command_failed) (not (begins_anew J w.machine w.memory) && (not w.memory.sign && b))) sign_is)
+
+-- some readings fit the watches again after each noted one more, or began anew
+pub fitted_again : (axis axis' : Option AxisWatch) (rest rest' : RestWatch) (F : Option Following → Option Following) (N : List Noted → List Noted)
+    → ((f : Option Following) → FitsAxis axis f → FitsAxis axis' (F f)) → ((L : List Noted) → RestFits rest L → RestFits rest' (N L))
+    → ∥ IsFitted axis rest ∥₁ → ∥ IsFitted axis' rest' ∥₁
+fitted_again axis axis' rest rest' F N a r h = ∥∥₁_map h (λ (x : IsFitted axis rest). record { following = F x.following; noted = N x.noted; axis_fits = a x.following x.axis_fits; rest_fits = r x.noted x.rest_fits })
+
+-- some readings fit a watch, so what all that fit it have is so
+pub of_some : (w : Watch) (a b : Bool) → ((s : Mind) → FitsMind w s → a ≡ b) → a ≡ b
+of_some w a b h = ∥∥₁_elim w.fitted (Bool-set a b) (λ (x : IsFitted w.axis w.rest). h (record { axis = x.following; rest = x.noted; memory = w.memory }) (record { axis = x.axis_fits; rest = x.rest_fits; memory = refl }))

@@ -20,6 +20,13 @@ hands (e ∷ es) = option_to_list (act_of e) ++ hands es
 pub record Did (before now : ActLog) (es : List Entry) : Type 0 where
   pub acts : now.acts ≡ before.acts ++ hands es
 
+-- nothing, or one act
+pub record ActedAtMostOnce (before now : ActLog) : Type 0 where
+  pub more : List Act
+  pub few : length more ≤ 1
+  pub acts : now.acts ≡ before.acts ++ more
+  pub failures : now.failures ≡ before.failures
+
 -- the same, and at most one act more
 pub record DidMore (before now : ActLog) (es : List Entry) : Type 0 where
   pub more : List Act

@@ -1,5 +1,5 @@
 -- What a port was asked
-use Rattle.std.specs.Prelude.{ℕ, ◌+◌, Bool, List, [], ◌∷◌, ◌++◌, Option, if◌then◌else◌}
+use Rattle.std.specs.Prelude.{ℕ, ◌+◌, Bool, not, List, [], ◌∷◌, ◌++◌, Option, Some, None, if◌then◌else◌}
 use Rattle.cell_types.specs.declared.words.Command.{Command}
 use Rattle.cell_diagnosis.specs.declared.reading.Reading.{Reading}
 use Rattle.cell_workers.specs.declared.port.Act.{Act}
@@ -25,6 +25,11 @@ after_command log c ok =
       failures = log.failures + (if ok then 0 else 1);
     }
 
+-- after an entry's command, if it has one
+abbrev pub after_sending : Log → Option Command → Bool → Log
+after_sending log None failed = log
+after_sending log (Some c) failed = after_command log c (not failed)
+
 -- what the operator did by hand, and how many acts failed
 pub record ActLog : Type 0 where
   pub acts : List Act
@@ -40,3 +45,8 @@ after_act log a ok =
       acts = log.acts ++ (if ok then a ∷ [] else []);
       failures = log.failures + (if ok then 0 else 1);
     }
+
+-- after the act that an entry wants, if it wants one
+abbrev pub after_hand : ActLog → Option Act → Bool → ActLog
+after_hand log None ok = log
+after_hand log (Some a) ok = after_act log a ok

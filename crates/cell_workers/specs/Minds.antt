@@ -1,24 +1,16 @@
 -- What a machine's watch stands for from one turn to the next: the readings that its two watches noted, and what it keeps
 -- besides. Nothing stores the readings.
-use Rattle.std.specs.Prelude.{◌≡◌, ◌&&◌, Bool, true, false, not, Option, Some, None, List, [], length}
+use Rattle.std.specs.Prelude.{◌≡◌, ◌&&◌, Bool, true, false, not, Option, None, List, [], length}
 use Rattle.cell_types.specs.declared.words.Machine.{Machine}
 use Rattle.cell_types.specs.declared.words.Entry.{Entry}
 use Rattle.cell_views.specs.Views.{is_failed}
-use Rattle.cell_diagnosis.specs.declared.motion.Motion.{Motion}
-use Rattle.cell_diagnosis.specs.declared.axis_watch.AxisWatch.{AxisWatch}
 use Rattle.cell_diagnosis.specs.Ends.{last_are}
-use Rattle.cell_diagnosis.specs.Readings.{Seen}
 use Rattle.cell_diagnosis.specs.RestFacts.{Noted, agrees}
-use Rattle.cell_diagnosis.specs.AxisWatches.{motion_of, Fits}
 use Rattle.cell_diagnosis.specs.RestWatches.{RestFits}
 use Rattle.cell_workers.specs.Visits.{is_visited}
+use Rattle.cell_workers.specs.Following.{Following, FitsAxis}
 use Rattle.cell_workers.specs.declared.memory.Memory.{Memory}
 use Rattle.cell_workers.specs.declared.watch.Watch.{Watch}
-
--- a motion that is followed, and its readings so far
-pub record Following : Type 0 where
-  pub motion : Motion
-  pub readings : List Seen
 
 pub record Mind : Type 0 where
   -- the motion that the axis watch follows
@@ -50,12 +42,6 @@ with_failure s = let memory = s.memory in record s { memory = record memory { co
 -- the last reading was present and agreed with what was expected of it, and no sign is open
 abbrev pub is_quiet : Mind → Bool
 is_quiet s = last_are 1 agrees s.rest && not s.memory.sign
-
--- an axis watch, if there is one, follows the motion and fits its readings
-abbrev pub FitsAxis : Option AxisWatch → Option Following → Type 0
-FitsAxis None None = Unit {0}
-FitsAxis (Some w) (Some f) = (motion_of w ≡ f.motion) × Fits w f.readings
-FitsAxis _ _ = ⊥
 
 -- the machine that a watch is of
 abbrev pub machine_of_watch : Watch → Machine

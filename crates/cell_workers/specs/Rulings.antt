@@ -31,7 +31,8 @@ use Rattle.cell_workers.specs.Moving.{motion_of_machine}
 use Rattle.cell_workers.specs.Visits.{is_visited, was_claimed}
 use Rattle.cell_workers.specs.Expected.{expected_of}
 use Rattle.cell_workers.specs.Signs.{shows_sign}
-use Rattle.cell_workers.specs.Minds.{Following, Mind}
+use Rattle.cell_workers.specs.Following.{Following}
+use Rattle.cell_workers.specs.Minds.{Mind}
 
 -- the axis watch's readings
 

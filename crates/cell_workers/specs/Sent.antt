@@ -29,7 +29,12 @@ commands es = sent_for false es
 abbrev pub command_faults : List Entry → ℕ
 command_faults es = count_by is_command_fault es
 
--- from one log to another the commands of the entries were sent; `failed` says whether that of the last entry failed
-pub record Sends (before now : Log) (es : List Entry) (failed : Bool) : Type 0 where
-  pub sent : now.sent ≡ before.sent ++ sent_for failed es
-  pub failures : now.failures ≡ before.failures + (command_faults es + (if failed then 1 else 0))
+abbrev pub one_where : Bool → ℕ
+one_where test = if test then 1 else 0
+
+-- from one log to another the commands of these entries were sent. `was` and `failed` say whether the last command failed,
+-- before them and after them: the first of the entries is a CommandFault exactly where it had.
+pub record Sends (before : Log) (was : Bool) (after : Log) (es : List Entry) (failed : Bool) : Type 0 where
+  pub begins : fails_before failed es ≡ was
+  pub sent : after.sent ≡ before.sent ++ sent_for failed es
+  pub failures : after.failures + one_where was ≡ before.failures + (command_faults es + one_where failed)

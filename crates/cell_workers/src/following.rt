@@ -3,7 +3,7 @@ ghost use Rattle.std.specs.Prelude.{◌≡◌, [], Option};
 ghost use Rattle.std.specs.Option.{option_map};
 ghost use Rattle.cell_types.specs.Same.{same_axis, same_pose};
 ghost use Rattle.cell_diagnosis.specs.AxisWatches.{motion_of, Fits};
-ghost use Rattle.cell_workers.specs.Minds.{Following, FitsAxis};
+ghost use Rattle.cell_workers.specs.Following.{Following, FitsAxis};
 ghost use Rattle.cell_workers.specs.Rulings.{same_motion, followed, with_reading, axis_verdict};
 
 use cell_diagnosis::{AxisWatch, Motion, Reading, Verdict};

@@ -3,6 +3,7 @@
 
 mod expected;
 mod following;
+mod hands;
 pub mod memory;
 mod moving;
 mod noticing;
@@ -10,6 +11,7 @@ pub mod plan;
 pub mod port;
 pub mod ruling;
 pub mod schedule;
+pub mod scheduling;
 mod sending;
 mod signs;
 pub mod six;
@@ -18,11 +20,14 @@ mod tests;
 pub mod turns;
 mod visits;
 pub mod watch;
+pub mod watches;
 mod watching;
 
 pub use plan::Plan;
 pub use port::{Act, OperatorPort, Port, PortFault};
-pub use schedule::Step;
-pub use six::Six;
+pub use schedule::{OutOfMemory, Step};
+pub use scheduling::{Ran, run_schedule};
+pub use six::{Ports, Six};
 pub use turns::{TurnError, turn};
 pub use watch::Watch;
+pub use watches::Watches;

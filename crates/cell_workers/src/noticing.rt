@@ -5,7 +5,7 @@ ghost use Rattle.cell_diagnosis.specs.RestRules.{rest};
 ghost use Rattle.cell_diagnosis.specs.RestWatches.{machine_of, RestFits};
 ghost use Rattle.cell_workers.specs.Moving.{motion_of_machine};
 ghost use Rattle.cell_workers.specs.Signs.{shows_sign};
-ghost use Rattle.cell_workers.specs.Minds.{Following, FitsAxis};
+ghost use Rattle.cell_workers.specs.Following.{Following, FitsAxis, IsFitted};
 ghost use Rattle.std.specs.Option.{option_map};
 ghost use Rattle.cell_workers.specs.Rulings.{with_reading, followed, axis_noted, axis_verdict, is_unvisited, rest_noted, ruling_by};
 
@@ -60,6 +60,7 @@ pub fn notice(watch: &Watch, book: &Book, reading: Option<Reading>, plan: &Plan)
     ensures rest { (L : List Noted) → RestFits watch.now.rest L → RestFits result.rest (rest_noted book.now.entries watch.now.machine watch.now.memory L reading) }
     ensures at_rest { (L : List Noted) → RestFits watch.now.rest L → result.at_rest ≡ rest (rest_noted book.now.entries watch.now.machine watch.now.memory L reading) }
     ensures machine { machine_of result.rest ≡ watch.now.machine }
+    ensures fitted { ∥ IsFitted result.axis result.rest ∥₁ }
     ensures motion { result.motion ≡ motion_of_machine book.now.entries plan.now watch.now.machine }
     ensures sign { result.sign ≡ shows_sign book.now.entries watch.now.machine reading }
 {

@@ -1,8 +1,7 @@
 //! The command of an entry that was booked.
-ghost use Rattle.std.specs.Prelude.{◌≡◌, ◌∷◌, ◌++◌, [], true, false, List, if◌then◌else◌};
-ghost use Rattle.cell_types.specs.declared.words.Entry.{Entry as EntryValue};
-ghost use Rattle.cell_workers.specs.Logs.{Log};
-ghost use Rattle.cell_workers.specs.Sent.{is_command_fault, Sends};
+ghost use Rattle.std.specs.Prelude.{◌≡◌, true, false, is_some, if◌then◌else◌};
+ghost use Rattle.cell_types.specs.Entries.{command_of};
+ghost use Rattle.cell_workers.specs.Logs.{after_sending};
 ghost use Rattle.cell_workers.specs.Minds.{Mind, FitsMind, machine_of_watch, has_failed_command, with_failure};
 
 use crate::{Port, Watch};
@@ -13,8 +12,8 @@ use cell_types::{Entry, command_of};
 pub fn send<P: Port>(port: &mut P, watch: &mut Watch, entry: &Entry) -> bool
     requires { has_failed_command watch.old ≡ false }
     ensures still { P.tells port.new ≡ true → P.tells port.old ≡ true }
-    ensures sends { P.tells port.new ≡ true → (before : Log) (es : List EntryValue) → Sends before (P.log port.old) es (is_command_fault entry.now) → Sends before (P.log port.new) (es ++ entry.now ∷ []) result }
-    ensures answers { P.tells port.new ≡ true → (P.log port.new).answers ≡ (P.log port.old).answers }
+    ensures told { P.tells port.new ≡ true → P.log port.new ≡ after_sending (P.log port.old) (command_of entry.now) result }
+    ensures commanded { result ≡ true → is_some (command_of entry.now) ≡ true }
     ensures failed { has_failed_command watch.new ≡ result }
     ensures machine { machine_of_watch watch.new ≡ machine_of_watch watch.old }
     ensures fits { (s : Mind) → FitsMind watch.old s → FitsMind watch.new (if result then with_failure s else s) }

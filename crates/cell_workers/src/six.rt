@@ -16,6 +16,9 @@ pub struct Six<T> {
     pub deposit: T,
 }
 
+/// The six machines' ports.
+pub type Ports<P> = Six<P>;
+
 impl<T> Six<T> {
     /// That of one machine.
     pub fn pick(&mut self, machine: Machine) -> &mut T

@@ -8,7 +8,9 @@ ghost use Rattle.cell_views.specs.Views.{count_of};
 ghost use Rattle.plate_book.specs.Telling.{first_of};
 ghost use Rattle.cell_ledger.specs.Counts.{plus};
 ghost use Rattle.cell_ledger.specs.Held.{held};
-ghost use Rattle.cell_workers.specs.Minds.{Mind, Following, FitsAxis, FitsMind, machine_of_watch, has_failed_command, remembered};
+ghost use Rattle.cell_workers.specs.Following.{Following, FitsAxis, IsFitted};
+ghost use Rattle.cell_workers.specs.Minds.{Mind, FitsMind, machine_of_watch, has_failed_command, remembered};
+ghost use Rattle.cell_workers.specs.Sent.{is_command_fault};
 ghost use Rattle.cell_workers.specs.Turns.{IsRuled, IsDecided, IsTurnedAway, IsUnbooked, IsExcused, begins_anew, ends_motion, mind_after, Turned};
 ghost use Rattle.cell_workers.specs.declared.ruling.Ruling.TheVariants.{PastLast};
 
@@ -52,7 +54,7 @@ fn decide(
 }
 
 /// Books an entry, if there is one, and lists it.
-fn book_entry<R: Run>(
+pub fn book_entry<R: Run>(
     kept: &mut Kept<R>,
     shares: &mut Shares<R>,
     entries: &mut Vec<Entry>,
@@ -117,7 +119,8 @@ fn rest_after(machine: Machine, noticed: &Noticed, anew: bool) -> RestWatch
 
 /// The watch after a turn that left the book like this.
 fn after(watch: &Watch, book: &Book, noticed: &Noticed, anew: bool, booked: &Option<Entry>) -> Watch
-    requires { machine_of noticed.now.rest ≡ watch.now.machine }
+    requires machine { machine_of noticed.now.rest ≡ watch.now.machine }
+    requires fitted { ∥ IsFitted noticed.now.axis noticed.now.rest ∥₁ }
     ensures axis { (f : Option Following) → FitsAxis noticed.now.axis f → FitsAxis result.axis (if anew || ends_motion booked.now then None else f) }
     ensures rest { (L : List NotedValue) → RestFits noticed.now.rest L → RestFits result.rest (if anew then [] else L) }
     ensures memory { result.memory ≡ remembered book.now.entries watch.now.machine (is_none booked.now && watch.now.memory.command_failed) (not anew && (not watch.now.memory.sign && noticed.now.sign)) }
@@ -154,7 +157,8 @@ pub fn book_turn<R: Run>(
     ensures actor { IfOk result (λ e. IfSome e (λ x. actor_of x ≡ actors.Machine machine)) }
     ensures decided { IfOk result (λ e. (s : Mind) → FitsMind watch.old s → IsDecided kept.old.limits kept.old.entries machine plan.now s reading e) }
     ensures fits { IfOk result (λ e. (s : Mind) → FitsMind watch.old s → FitsMind watch.new (mind_after kept.old.entries machine plan.now s reading e)) }
-    ensures flag { IfOk result (λ e. IfSome e (λ _. has_failed_command watch.new ≡ false)) }
+    ensures fault { IfOk result (λ e. IfSome e (λ x. is_command_fault x ≡ has_failed_command watch.old)) }
+    ensures flag { IfOk result (λ e. has_failed_command watch.new ≡ (is_none e && has_failed_command watch.old)) }
     ensures machine { machine_of_watch watch.new ≡ machine }
     ensures excused { IfErr result (λ e. IsExcused kept.old.limits kept.old.entries machine plan.now reading watch.old e) }
     ensures memory { result ≡ Err TurnError.OutOfMemory → vec_capacity entries.old ≡ vec_len entries.old }

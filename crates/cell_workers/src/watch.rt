@@ -1,6 +1,7 @@
 //! What a machine's worker remembers from one turn to the next.
 ghost use Rattle.std.specs.Prelude.{◌≡◌};
 ghost use Rattle.cell_diagnosis.specs.RestWatches.{machine_of};
+ghost use Rattle.cell_workers.specs.Following.{IsFitted};
 
 use crate::memory::Memory;
 use cell_diagnosis::{AxisWatch, RestWatch};
@@ -16,4 +17,5 @@ pub struct Watch {
     pub(crate) rest: RestWatch,
     pub(crate) memory: Memory,
     ghost same_machine: { machine_of rest ≡ machine },
+    ghost fitted: { ∥ IsFitted axis rest ∥₁ },
 }

@@ -1,6 +1,7 @@
 use Rattle.std.proofs.Common.{ap, ◌∙◌, sym}
 use Rattle.plate_book.specs.History.{History}
 use Rattle.cell_workers.proofs.Minds.{ruling_is, decided, fits_turned}
+use Rattle.cell_workers.proofs.Declared.{fault_booked}
 use Rattle.cell_workers.proofs.Rooms.{own_actor, own_turn, excused, past_last}
 use Rattle.cell_workers.proofs.turns.book_turn.Goals as goal
 
@@ -46,3 +47,10 @@ returns-in-Err-book_entry-clause-excused g c =
     (own_turn c.book-book.result.now.limits c.args.watch.now c.book-book.result.now.entries c.args.plan.now c.args.reading c.rule-ruling.result c.in-Ok.entry noticed.result.motion noticed.result.sign noticed.result.at_axis noticed.result.at_rest
     c.useful_is_own.ensures c.useful_is_bookable.ensures (rw c.book-book.ensures c.is_lawful.ensures.told) noticed.ensures.motion noticed.ensures.sign c.rule-ruling.ensures c.in-Ok.ensures.ok)
     (rw c.book-book.ensures c.in-Err-book_entry.ensures.refused))
+
+pub returns-clause-fault : goal.returns-clause-fault
+returns-clause-fault g c =
+    let noticed = c.notice-noticed in
+    fault_booked c.book-book.result.now.limits c.book-book.result.now.entries c.args.watch.now.machine c.args.plan.now c.args.watch.now c.args.reading c.in-Ok.entry
+    (λ s fit. decided c.book-book.result.now.limits c.args.watch.now c.book-book.result.now.entries c.args.plan.now s c.args.reading c.rule-ruling.result c.in-Ok.entry noticed.result.motion noticed.result.sign noticed.result.at_axis noticed.result.at_rest
+    noticed.ensures.motion noticed.ensures.sign c.rule-ruling.ensures fit noticed.ensures.at_axis noticed.ensures.at_rest c.in-Ok.ensures.ok)
