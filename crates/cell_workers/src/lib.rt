@@ -5,12 +5,16 @@ mod expected;
 mod following;
 mod hands;
 pub mod memory;
+#[cfg(test)]
+mod memory_ports;
 mod moving;
 mod noticing;
 pub mod plan;
 pub mod port;
 pub mod ruling;
 pub mod schedule;
+#[cfg(test)]
+mod schedule_tests;
 pub mod scheduling;
 mod sending;
 mod signs;

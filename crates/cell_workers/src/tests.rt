@@ -79,7 +79,7 @@ const JOURNAL: [&str; 62] = [
 
 const FEED_GREEN: Command = Command::Lamp(Belt::Feed, Colour::Green);
 
-fn entry_of(rt: &impl Abort, record: &str) -> Entry {
+pub fn entry_of(rt: &impl Abort, record: &str) -> Entry {
     let mut fields = record.split(',');
     let kind = fields.next().unwrap_or("").as_bytes();
     let first = fields.next().unwrap_or("").as_bytes();
@@ -89,7 +89,7 @@ fn entry_of(rt: &impl Abort, record: &str) -> Entry {
 }
 
 // A book with the first entries of the journal.
-fn begun(rt: &impl Abort, alloc: Global, limit: u32, max_plates: u32, count: usize) -> Book {
+pub fn begun(rt: &impl Abort, alloc: Global, limit: u32, max_plates: u32, count: usize) -> Book {
     let Ok(mut book) = Book::new(alloc, limit, max_plates) else {
         panic!(rt; "the limits are in range, and there is memory");
     };
@@ -100,7 +100,7 @@ fn begun(rt: &impl Abort, alloc: Global, limit: u32, max_plates: u32, count: usi
 }
 
 // A plan with 3 and 20 as limits of each motion.
-fn plan_of(rt: &impl Abort, plates: u32) -> Plan
+pub fn plan_of(rt: &impl Abort, plates: u32) -> Plan
     requires { (1 ≤ plates) × (plates ≤ 100000) }
 {
     let Some(limits) = Limits::new(3, 20) else {
@@ -115,7 +115,7 @@ fn plan_of(rt: &impl Abort, plates: u32) -> Plan
 }
 
 // A present reading with these presence bits, and no switch.
-fn showing(presence: u8) -> Option<Reading> {
+pub fn showing(presence: u8) -> Option<Reading> {
     Some(Reading {
         switches: [0, 0, 0],
         presence,
@@ -145,6 +145,7 @@ fn take_turns<R: Run>(
     let (mut kept, mut shares) = Kept::<R>::new(book, blanks);
     let mut watch = Watch::start(machine, kept.book());
     let mut entries = Vec::new(alloc);
+    let before = kept.book().journal().len() as usize;
     assert!(rt; !watch.quiet());
     for i in 0..turns.len() {
         if i == fault {
@@ -162,7 +163,9 @@ fn take_turns<R: Run>(
         assert!(rt; answer == turns[i].1, "turn {i}");
     }
     assert!(rt; shares.counts() == kept.book().totals());
-    kept.book().journal().len() as usize
+    let length = kept.book().journal().len() as usize;
+    assert!(rt; before <= length && length - before == entries.len());
+    length
 }
 
 #[test]
@@ -233,6 +236,24 @@ fn two_present_readings_show_that_a_plate_was_taken(rt: HostRuntime) {
         &turns,
     );
     assert!(rt; length == 62);
+}
+
+#[test]
+fn a_feed_belt_first_sets_its_light(rt: HostRuntime) {
+    let book = begun(&rt, rt.alloc(), 100, 10, 0);
+    let plan = plan_of(&rt, 5);
+    let turns = [(showing(0), Ok(Some(FEED_GREEN)))];
+    let length = take_turns::<Brand>(
+        &rt,
+        rt.alloc(),
+        book,
+        Blanks::new(1),
+        Machine::Feed,
+        &plan,
+        1,
+        &turns,
+    );
+    assert!(rt; length == 1);
 }
 
 #[test]
