@@ -1,7 +1,7 @@
 -- A schedule, one step longer
 use Rattle.std.proofs.Common.{◌≡◌, ℕ, ◌+◌, List, [], ◌∷◌, ◌++◌, Bool, true, false, Option, Some, None, IfSome, length, refl, sym, ap, ap₂, ◌∙◌, subst, cond, append_assoc, append-nil, length-append, add-zero, add_assoc, arith}
 use mir.Val.{bool_byte}
-use Rattle.std.specs.Prelude.{if◌then◌else◌, option_to_list, is_some, filter}
+use Rattle.std.specs.Prelude.{if◌then◌else◌, option_to_list, is_some}
 use Rattle.std.specs.List.{count_by}
 use Rattle.std.proofs.lemmas.List.Elements.{filter-append}
 use Rattle.std.proofs.lemmas.List.Sums.{sum_by-append}
@@ -32,7 +32,7 @@ use Rattle.cell_workers.specs.Acts.{act_of, hands, ActedAtMostOnce, Did, DidMore
 use Rattle.cell_workers.specs.Minds.{Mind, FitsMind}
 use Rattle.cell_workers.specs.Handing.{IsHanded, handed_entry, handed_log}
 use Rattle.cell_workers.specs.Turns.{IsDecided, IsTurnedAway, mind_after}
-use Rattle.cell_workers.specs.Schedules.{Now, now, mind_sent, TurnsTo, Leads, FitAll, Led, Scheduled, same_actor, entries_of, Grown}
+use Rattle.cell_workers.specs.Schedules.{Now, now, mind_sent, FitAll, Led, Scheduled, same_actor, entries_of, Grown}
 use Rattle.cell_workers.specs.Schedules.Leads.{stays, turns, refuses, hands as booked, spares, fails}
 use Rattle.cell_workers.specs.Steps.{TurnedAt, TurnedAway, GrewBy}
 use Rattle.cell_workers.proofs.Sixes.{put_at, all_put, put_more}

@@ -1,5 +1,5 @@
 -- Schedules: which states the steps lead to, and what they did
-use Rattle.std.specs.Prelude.{ℕ, ◌≡◌, ◌+◌, Bool, true, false, Option, None, List, [], ◌∷◌, ◌++◌, take, filter, option_to_list, is_some, if◌then◌else◌}
+use Rattle.std.specs.Prelude.{ℕ, ◌≡◌, ◌+◌, Bool, true, false, Option, List, [], ◌∷◌, ◌++◌, take, filter, option_to_list, is_some, if◌then◌else◌}
 use Rattle.std.specs.Option.{option_and_then}
 use Rattle.cell_types.specs.declared.words.Machine.{Machine}
 use Rattle.cell_types.specs.declared.words.Actor.{Actor}
@@ -22,7 +22,7 @@ use Rattle.cell_workers.specs.declared.watch.Watch.{Watch}
 use Rattle.cell_workers.specs.Six.{at, put}
 use Rattle.cell_workers.specs.Logs.{Log, ActLog}
 use Rattle.cell_workers.specs.Sent.{Sends}
-use Rattle.cell_workers.specs.Acts.{act_of, Did, DidMore}
+use Rattle.cell_workers.specs.Acts.{act_of, DidMore}
 use Rattle.cell_workers.specs.Handing.{IsHis, IsSpared}
 use Rattle.cell_workers.specs.Minds.{Mind, FitsMind, has_failed_command, with_failure}
 use Rattle.cell_workers.specs.Turns.{IsDecided, IsTurnedAway, mind_after}

@@ -69,6 +69,7 @@ pub fn hand<O: OperatorPort, R: Run>(
     ensures shares { IfOk result (λ how. shares.new ≡ held shares.old.parts (plus shares.old.counts (count_of (option_to_list (handed_entry how entry))))) }
     ensures told { O.tells operator.new ≡ true → IfOk result (λ how. O.log operator.new ≡ handed_log how (O.log operator.old) entry) }
     ensures still { O.tells operator.new ≡ true → O.tells operator.old ≡ true }
+    ensures his { OnErr result (IsHis kept.old.limits kept.old.entries entry) }
     ensures unchanged { OnErr result ((entries.new.items ≡ entries.old.items) × (kept.new ≡ kept.old) × (shares.new ≡ shares.old)) }
     ensures acted { O.tells operator.new ≡ true → OnErr result (ActedAtMostOnce (O.log operator.old) (O.log operator.new)) }
 {

@@ -1,13 +1,9 @@
-use Rattle.std.proofs.Common.{◌≡◌, ◌<◌, ◌≤◌, [], ◌∷◌, length, Vec, List, true, None, refl, sym, ap, ◌∙◌, append-nil, arith, rules, take}
+use Rattle.std.proofs.Common.{◌<◌, length, Vec, sym, ◌∙◌, arith, rules, take}
 use Rattle.std.proofs.lemmas.List.{take_more}
 use Rattle.cell_types.specs.declared.words.Machine.{Machine}
-use Rattle.cell_types.specs.declared.words.Machine.TheVariants.{Feed}
 use Rattle.cell_types.specs.declared.words.Entry.{Entry}
-use Rattle.cell_workers.specs.declared.schedule.Step.{Step}
-use Rattle.cell_workers.specs.declared.schedule.Step.TheVariants.{Turn}
 use Rattle.cell_workers.specs.Six.{at, map_six}
 use Rattle.cell_workers.specs.Minds.{has_failed_command}
-use Rattle.cell_workers.specs.Schedules.{Scheduled}
 use Rattle.cell_workers.proofs.Logs.{sends_start}
 use Rattle.cell_workers.proofs.Acts.{did_start}
 use Rattle.cell_workers.proofs.Sixes.{map_at}

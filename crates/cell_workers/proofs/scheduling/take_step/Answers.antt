@@ -1,13 +1,12 @@
-use Rattle.std.proofs.Common.{◌≡◌, Vec, List, ◌∷◌, true, refl, ap, ◌∙◌}
+use Rattle.std.proofs.Common.{◌≡◌, Vec, List, true, refl, ap, ◌∙◌}
 use Rattle.cell_types.specs.declared.words.Machine.{Machine}
 use Rattle.cell_types.specs.declared.words.Entry.{Entry}
 use Rattle.cell_workers.specs.declared.watch.Watch.{Watch}
 use Rattle.cell_workers.specs.Six.{put, at, map_six}
 use Rattle.cell_workers.specs.Sent.{Sends}
-use Rattle.cell_workers.specs.Handing.{handed_entry}
 use Rattle.cell_workers.specs.Minds.{machine_of_watch, has_failed_command}
 use Rattle.cell_workers.proofs.Sixes.{put_at, map_put, map_at, all_put, all_picked}
-use Rattle.cell_workers.proofs.Schedules.{scheduled_turn, scheduled_hand, grown_turn, grown_hand, did_hand, his_entry}
+use Rattle.cell_workers.proofs.Schedules.{scheduled_turn, scheduled_hand, grown_turn, did_hand}
 use Rattle.cell_workers.proofs.scheduling.take_step.Goals as goal
 
 pub returns-in-Err-clause-machines : goal.returns-in-Err-clause-machines
