@@ -15,6 +15,7 @@ use Rattle.cell_types.specs.Same.{same_machine}
 use Rattle.cell_views.specs.Views.{is_admitted, is_forged, is_quarantined, is_delivered, count_of}
 use Rattle.plate_book.specs.declared.limits.Limits.{Limits}
 use Rattle.plate_book.specs.History.{History}
+use Rattle.plate_book.specs.Telling.{first_of}
 use Rattle.cell_ledger.specs.Counts.{plus}
 use Rattle.cell_ledger.specs.Held.{Held, held}
 use Rattle.cell_diagnosis.specs.declared.reading.Reading.{Reading}
@@ -55,6 +56,7 @@ led_turn l p s steps refused failed cur next ws m r w' limits t led =
         booked = t.booked;
         lost = t.lost;
         decided = subst (λ (k : Limits). IsDecided k cur.entries m p mind r t.booked) limits (t.decided mind fit);
+        allowed = subst (λ (k : Limits). IfSome t.booked (λ e. first_of k cur.entries e ≡ None)) limits t.allowed;
         commanded = t.commanded;
         journal = ap (λ (h : History). h.entries) t.journal;
         minds = refl;

@@ -1,5 +1,5 @@
 -- Schedules: which states the steps lead to, and what they did
-use Rattle.std.specs.Prelude.{ℕ, ◌≡◌, ◌+◌, Bool, true, false, Option, List, [], ◌∷◌, ◌++◌, take, filter, option_to_list, is_some, if◌then◌else◌}
+use Rattle.std.specs.Prelude.{ℕ, ◌≡◌, ◌+◌, Bool, true, false, Option, None, List, [], ◌∷◌, ◌++◌, take, filter, option_to_list, is_some, IfSome, if◌then◌else◌}
 use Rattle.std.specs.Option.{option_and_then}
 use Rattle.cell_types.specs.declared.words.Machine.{Machine}
 use Rattle.cell_types.specs.declared.words.Actor.{Actor}
@@ -11,6 +11,7 @@ use Rattle.cell_views.specs.Views.{count_of}
 use Rattle.plate_book.specs.declared.limits.Limits.{Limits}
 use Rattle.plate_book.specs.declared.refusal.Refusal.{Refusal}
 use Rattle.plate_book.specs.History.{History}
+use Rattle.plate_book.specs.Telling.{first_of}
 use Rattle.cell_ledger.specs.Counts.{plus}
 use Rattle.cell_ledger.specs.Held.{Held, held}
 use Rattle.cell_diagnosis.specs.declared.reading.Reading.{Reading}
@@ -44,6 +45,7 @@ pub record TurnsTo (l : Limits) (p : Plan) (m : Machine) (r : Option Reading) (s
   pub booked : Option Entry
   pub lost : Bool
   pub decided : IsDecided l s.journal m p (at s.minds m) r booked
+  pub allowed : IfSome booked (λ e. first_of l s.journal e ≡ None)
   pub commanded : lost ≡ true → is_some (option_and_then command_of booked) ≡ true
   pub journal : t.journal ≡ s.journal ++ option_to_list booked
   pub minds : t.minds ≡ put s.minds m (mind_sent lost (mind_after s.journal m p (at s.minds m) r booked))

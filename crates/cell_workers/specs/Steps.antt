@@ -1,5 +1,5 @@
 -- What one step does, whatever the watches fit
-use Rattle.std.specs.Prelude.{◌≡◌, Bool, true, Option, List, ◌++◌, option_to_list, is_some, IfSome}
+use Rattle.std.specs.Prelude.{◌≡◌, Bool, true, Option, None, List, ◌++◌, option_to_list, is_some, IfSome}
 use Rattle.std.specs.Option.{option_and_then}
 use Rattle.cell_types.specs.declared.words.Machine.{Machine}
 use Rattle.cell_types.specs.declared.words.Actor.{Actor}
@@ -8,6 +8,7 @@ use Rattle.cell_types.specs.Entries.{actor_of, command_of}
 use Rattle.cell_views.specs.Views.{count_of}
 use Rattle.plate_book.specs.declared.refusal.Refusal.{Refusal}
 use Rattle.plate_book.specs.History.{History}
+use Rattle.plate_book.specs.Telling.{first_of}
 use Rattle.cell_ledger.specs.Counts.{plus}
 use Rattle.cell_ledger.specs.Held.{Held, held}
 use Rattle.cell_diagnosis.specs.declared.reading.Reading.{Reading}
@@ -22,6 +23,7 @@ pub record TurnedAt (p : Plan) (m : Machine) (r : Option Reading) (before after 
   pub booked : Option Entry
   pub lost : Bool
   pub decided : (s : Mind) → FitsMind w s → IsDecided before.limits before.entries m p s r booked
+  pub allowed : IfSome booked (λ e. first_of before.limits before.entries e ≡ None)
   pub commanded : lost ≡ true → is_some (option_and_then command_of booked) ≡ true
   pub journal : after ≡ record { limits = before.limits; entries = before.entries ++ option_to_list booked }
   pub fits : (s : Mind) → FitsMind w s → FitsMind w' (mind_sent lost (mind_after before.entries m p s r booked))
