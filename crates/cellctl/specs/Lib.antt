@@ -4,3 +4,4 @@ pub mod Orders
 pub mod Keys
 pub mod Settings
 pub mod Checked
+pub mod Runs

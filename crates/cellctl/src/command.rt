@@ -1,13 +1,13 @@
 //! The command line that the program knows, and its help.
-ghost use Rattle.std.specs.Prelude.{◌≡◌, IfOk, false};
+ghost use Rattle.std.specs.Prelude.{◌≡◌, IfOk, codes, false};
 ghost use Rattle.clap.specs.Words.{app_of, rule_of, with_subcommand};
 ghost use Rattle.clap.specs.declared.builder.command.Command.TheViews.{out-Command};
-ghost use Rattle.cellctl.specs.Shape.{audit, cellctl, check, path_rule};
+ghost use Rattle.cellctl.specs.Shape.{audit, cellctl, check, journal_rule, path_rule, run};
 
-use clap::{Arg, Command};
+use clap::{Arg, ArgAction, Command};
 use std::alloc::{AllocError, Global};
 
-const ABOUT: &str = "Keeps the journal of a fault-tolerant production cell.";
+const ABOUT: &str = "Simulates a fault-tolerant production cell, and judges its journals.";
 
 const AUDIT_ABOUT: &str = "Says whether a journal is legal, and what it counts";
 
@@ -48,9 +48,50 @@ The faults are, in this order, NotToml, UnknownKey, and then key by key Missing,
 
 Exit status: 0 good, 1 a fault, 2 wrong arguments, 3 a read or a write failed, 4 out of memory.";
 
+const SIM_ABOUT: &str = "Runs the simulated cell on one thread";
+
+const SIM_HELP: &str = "\
+Runs the simulated cell on one thread, in rounds, until nothing more is to be done in it. It reads three files:
+  SETTINGS  TOML, as of the command check: plates = 6
+  FAULTS    what goes wrong, in records of four fields: an axis, which of its motions, the fault, its argument
+            press_two,1,no_motion,
+            The faults are no_motion, keeps_old, both, slow (readings, 1 to 1000), lose_plate, silent (readings) and
+            refuse_command.
+  OPERATOR  what the operator does, one after another, in records of four fields: when, its argument, what, where
+            failed,press2,clear,press2
+            failed,press2,repair,press2
+            When: always, admitted, delivered or quarantined (so many plates), failed (a machine). What: stop or repair
+            (a machine), clear (a station). A line that isn't allowed yet waits.
+An empty file has no faults, or no lines for the operator.
+
+Prints how the run ended, finished, stalled, turn limit, memory or full, and what it counted:
+  finished
+  admitted 6
+  forged 5
+  quarantined 1
+  delivered 5
+or, with --journal, the run's journal alone, which the command audit reads; or what is wrong with the first text that is
+refused:
+  settings OutOfRange plates
+  faults unreadable 1
+  operator too long
+
+Exit status: 0 finished, 1 another end or a text refused, 2 wrong arguments, 3 a read or a write failed, 4 out of memory.";
+
+const JOURNAL_HELP: &str = "Print the run's journal alone";
+
 const SETTINGS_HELP: &str = "The file with the settings";
 
-const EXAMPLE: &str = "Example: cellctl audit < journal.csv";
+const FAULTS_HELP: &str = "The file with the script of faults";
+
+const OPERATOR_HELP: &str = "The file with the operator's script";
+
+const EXAMPLE: &str = "Example: cellctl audit < examples/whole.journal";
+
+const CHECK_EXAMPLE: &str = "Example: cellctl check examples/cell.toml";
+
+const SIM_EXAMPLE: &str =
+    "Example: cellctl sim examples/press_fails.toml examples/press_fails.faults examples/press_fails.operator";
 
 fn audit_command<'a>(alloc: Global) -> Command<'a>
     ensures app { app_of result ≡ audit }
@@ -83,7 +124,48 @@ fn check_command<'a>(alloc: Global) -> Result<Command<'a>, AllocError>
         "SETTINGS",
         SETTINGS_HELP,
     ))?;
-    Ok(command.about(CHECK_ABOUT).long_about(CHECK_HELP))
+    Ok(
+        command
+            .about(CHECK_ABOUT)
+            .long_about(CHECK_HELP)
+            .after_help(CHECK_EXAMPLE),
+    )
+}
+
+// The flag for the journal's text.
+fn journal<'a>(alloc: Global) -> Arg<'a>
+    ensures rule { rule_of result ≡ journal_rule }
+    ensures local { result.global ≡ false }
+{
+    Arg::new(alloc, "journal")
+        .long("journal")
+        .action(ArgAction::SetTrue)
+        .help(JOURNAL_HELP)
+}
+
+// A command that runs the cell by three files.
+fn run_command<'a>(alloc: Global, name: &'a str) -> Result<Command<'a>, AllocError>
+    ensures app { IfOk result (λ c. app_of c ≡ run name.entry.now) }
+    ensures local { IfOk result (λ c. (out-Command c).has_globals ≡ false) }
+{
+    Command::new(alloc, name)
+        .arg(journal(alloc))?
+        .arg(path(alloc, "settings", "SETTINGS", SETTINGS_HELP))?
+        .arg(path(alloc, "faults", "FAULTS", FAULTS_HELP))?
+        .arg(path(alloc, "operator", "OPERATOR", OPERATOR_HELP))
+}
+
+fn sim_command<'a>(alloc: Global) -> Result<Command<'a>, AllocError>
+    ensures app { IfOk result (λ c. app_of c ≡ run (codes "sim")) }
+    ensures local { IfOk result (λ c. (out-Command c).has_globals ≡ false) }
+{
+    let command = run_command(alloc, "sim")?;
+    Ok(
+        command
+            .about(SIM_ABOUT)
+            .long_about(SIM_HELP)
+            .after_help(SIM_EXAMPLE),
+    )
 }
 
 // Adds a command.
@@ -103,7 +185,8 @@ pub(crate) fn command<'a>(alloc: Global) -> Result<Command<'a>, AllocError>
 {
     let bare = Command::new(alloc, "cellctl");
     let one = add(bare, audit_command(alloc))?;
-    let command = add(one, check_command(alloc)?)?;
+    let two = add(one, check_command(alloc)?)?;
+    let command = add(two, sim_command(alloc)?)?;
     Ok(
         command
             .about(ABOUT)

@@ -15,7 +15,7 @@ use std::io::{Read, Write};
 pub struct WriteFault;
 
 // Writes a word, a number and a line feed.
-fn write_number<W: Write>(writer: &mut W, word: &str, number: u32) -> io::Result<()>
+pub(crate) fn write_number<W: Write>(writer: &mut W, word: &str, number: u32) -> io::Result<()>
     ensures { OnOk result (Appends (W.contents writer.old) (W.contents writer.new) (number_line word.now number)) }
 {
     writeln!(writer, "{word} {number}")

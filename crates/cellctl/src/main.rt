@@ -1,20 +1,23 @@
-//! `cellctl`: the audit of a production cell's journal, and the check of a run's settings.
+//! `cellctl`: the audit of a production cell's journal, the check of a run's settings, and the run of the simulated cell.
 #![tactic(auto)]
 
 mod command;
 mod lines;
 mod order;
 mod settings;
+mod sim;
 
 use clap::Error;
 use clap::error::ErrorKind;
 use lines::{WriteFault, audit_lines};
-use order::{Order, read_words};
+use order::{Order, Paths, read_words};
 use settings::check_lines;
+use sim::run_texts;
 use std::env::Env;
 use std::io::Write;
 use std::process::ExitCode;
 use std::rt::Files;
+use std::sync::Wait;
 use std::{env, fs, io};
 
 #[cfg(test)]
@@ -73,8 +76,36 @@ fn check_file<R: AllocGlobal + Files + Print>(rt: &R, path: &str) -> io::Result<
     }
 }
 
+// Runs the simulated cell by three files, which are all read before any is judged. All that is printed is written out
+// before the status is given.
+fn simulate_files<R: AllocGlobal + Files + Print + Wait>(
+    rt: &R,
+    journal: bool,
+    paths: Paths<'_>,
+) -> io::Result<u8> {
+    let settings = fs::read(rt, paths.settings)?;
+    let faults = fs::read(rt, paths.faults)?;
+    let operator = fs::read(rt, paths.operator)?;
+    let mut output = io::BufWriter::new(rt.alloc(), io::writer(rt))?;
+    match run_texts(
+        rt,
+        settings.as_slice(),
+        faults.as_slice(),
+        operator.as_slice(),
+        false,
+        journal,
+        &mut output,
+    ) {
+        Ok(status) => {
+            output.flush()?;
+            Ok(status)
+        }
+        Err(WriteFault) => Ok(READ_FAULT),
+    }
+}
+
 // Reads the words, does what they say, and gives the status.
-fn run<R: AllocGlobal + Env + Files + Input + Print + Eprint>(rt: &R) -> io::Result<u8> {
+fn run<R: AllocGlobal + Env + Files + Input + Print + Eprint + Wait>(rt: &R) -> io::Result<u8> {
     let alloc = rt.alloc();
     let arguments = match env::args(rt) {
         Ok(arguments) => arguments,
@@ -92,6 +123,7 @@ fn run<R: AllocGlobal + Env + Files + Input + Print + Eprint>(rt: &R) -> io::Res
     match read_words(alloc, texts.as_slice()) {
         Ok(Order::Audit) => audit_input(rt),
         Ok(Order::Check(path)) => check_file(rt, path),
+        Ok(Order::Sim(journal, paths)) => simulate_files(rt, journal, paths),
         Err(error) => Ok(refuse(rt, &error)),
     }
 }

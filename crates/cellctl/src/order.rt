@@ -1,13 +1,21 @@
 //! The words of the command line.
-ghost use Rattle.std.specs.Prelude.{IfOk, IfSome, map};
+ghost use Rattle.std.specs.Prelude.{IfOk, IfSome, codes, map};
 ghost use Rattle.clap.specs.Kinds.{FailsBy};
 ghost use Rattle.clap.specs.Words.{fault_of, found_of, rows_of};
 ghost use Rattle.cellctl.specs.Shape.{cellctl};
-ghost use Rattle.cellctl.specs.Orders.{Fits, HasPath, IsOrdered};
+ghost use Rattle.cellctl.specs.Orders.{Fits, HasFlag, HasPath, HasPaths, IsOrdered};
 
 use crate::command::command;
 use clap::{ArgMatches, Error};
 use std::alloc::{AllocError, Global};
+
+/// Where a run's files are.
+#[derive(Clone, Copy, Debug, PartialEq, Eq)]
+pub struct Paths<'a> {
+    pub settings: &'a str,
+    pub faults: &'a str,
+    pub operator: &'a str,
+}
 
 /// What the program is to do.
 #[derive(Clone, Copy, Debug, PartialEq, Eq)]
@@ -16,6 +24,8 @@ pub enum Order<'a> {
     Audit,
     /// Check the settings in the file of this path.
     Check(&'a str),
+    /// Run the simulated cell on one thread by these files, and print its journal where this is true.
+    Sim(bool, Paths<'a>),
 }
 
 // The path at an id.
@@ -25,6 +35,27 @@ fn path<'a>(matches: &ArgMatches<'a>, id: &str) -> Option<&'a str>
     matches.get_str(id)
 }
 
+// Whether the journal is wanted.
+fn journal(matches: &ArgMatches<'_>) -> bool
+    ensures { HasFlag (rows_of (found_of matches.now)) (codes "journal") result }
+{
+    matches.get_flag("journal")
+}
+
+// The paths of a run.
+fn three_paths<'a>(matches: &ArgMatches<'a>) -> Option<Paths<'a>>
+    ensures { IfSome result (HasPaths (rows_of (found_of matches.now))) }
+{
+    let settings = path(matches, "settings")?;
+    let faults = path(matches, "faults")?;
+    let operator = path(matches, "operator")?;
+    Some(Paths {
+        settings,
+        faults,
+        operator,
+    })
+}
+
 // The order of a command's name and its matches.
 fn order_of<'a>(name: &str, matches: &ArgMatches<'a>) -> Option<Order<'a>>
     ensures { IfSome result (Fits name.now (rows_of (found_of matches.now))) }
@@ -32,6 +63,7 @@ fn order_of<'a>(name: &str, matches: &ArgMatches<'a>) -> Option<Order<'a>>
     match name {
         "audit" => Some(Order::Audit),
         "check" => Some(Order::Check(path(matches, "settings")?)),
+        "sim" => Some(Order::Sim(journal(matches), three_paths(matches)?)),
         _ => None,
     }
 }

@@ -8,6 +8,7 @@ mod numbers;
 mod read;
 
 pub use check::check_lines;
+pub(crate) use check::write_checked;
 pub use error::SettingsError;
 pub use key_path::KeyPath;
 pub use read::read_settings;

@@ -265,7 +265,16 @@ fn reads_the_words_of_the_command_line(rt: HostRuntime) {
     }
     for (words, kind) in [
         (["cellctl", "brew"].as_slice(), ErrorKind::InvalidSubcommand),
-        (&["cellctl", "sim"], ErrorKind::InvalidSubcommand),
+        (&["cellctl", "run"], ErrorKind::InvalidSubcommand),
+        (&["cellctl", "sim"], ErrorKind::MissingRequiredArgument),
+        (
+            &["cellctl", "sim", "one.toml", "two.faults"],
+            ErrorKind::MissingRequiredArgument,
+        ),
+        (
+            &["cellctl", "sim", "--journey", "a", "b", "c"],
+            ErrorKind::UnknownArgument,
+        ),
         (&["cellctl", "check"], ErrorKind::MissingRequiredArgument),
         (
             &["cellctl", "check", "one.toml", "two.toml"],

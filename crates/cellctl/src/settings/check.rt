@@ -28,7 +28,10 @@ fn write_line<W: Write>(writer: &mut W, answer: &Result<Plan, SettingsError>) ->
 }
 
 // Writes the line of an answer, and gives its status.
-fn write_checked<W: Write>(writer: &mut W, answer: &Result<Plan, SettingsError>) -> io::Result<u8>
+pub(crate) fn write_checked<W: Write>(
+    writer: &mut W,
+    answer: &Result<Plan, SettingsError>,
+) -> io::Result<u8>
     ensures { IfOk result (WritesLine (W.contents writer.old) (W.contents writer.new) answer.now) }
 {
     write_line(writer, answer)?;
