@@ -42,7 +42,7 @@ struct Cell<R: Run> {
     lost: bool,
 }
 
-// One step, and how many entries the operator booked in it; the end that it sets.
+// One step. It answers whether the operator booked an entry in it, or the end that the step sets.
 fn take_step<P: Port, O: OperatorPort, R: Run>(
     alloc: Global,
     step: Step,

@@ -1,5 +1,6 @@
 //! Runs of the simulated cell by their texts.
 mod faults;
+mod hands;
 mod refusals;
 mod runs;
 
@@ -9,7 +10,7 @@ use crate::sim::ends::End;
 use crate::sim::run_texts;
 use crate::sim::texts::simulate;
 use cell_audit::{audit, write_journal};
-use cell_sim::{FaultScript, World};
+use cell_sim::{FaultScript, SimOperator, World};
 use cell_types::{Axis, Entry, Totals};
 use operator_desk::Script;
 use std::alloc::{AllocError, Global};
@@ -83,7 +84,8 @@ fn run_in_world<R: AllocGlobal + Wait + Abort>(
         panic!(rt; "the operator's script is readable");
     };
     let world = Mutex::new(World::new(plan.plates));
-    let Ok(outcome) = simulate(rt, &plan, &faults, script, &world) else {
+    let mut hands = SimOperator::new(rt, &world);
+    let Ok(outcome) = simulate(rt, &plan, &faults, script, &world, &mut hands) else {
         panic!(rt; "there is memory");
     };
     let totals = outcome.book.totals();
@@ -127,7 +129,7 @@ fn check_run<R: AllocGlobal + Wait + Abort>(
     Ok(())
 }
 
-// The word of an axis, by its place.
+// The axes, in their order.
 const AXES: [Axis; 9] = [
     Axis::FeedBelt,
     Axis::TableLift,

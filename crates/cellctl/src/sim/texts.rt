@@ -15,7 +15,7 @@ use crate::sim::rounds::{Outcome, run_over};
 use cell_ledger::Blanks;
 use cell_sim::{FaultScript, SimOperator, SimPort, World};
 use cell_types::Machine;
-use cell_workers::{Plan, Six};
+use cell_workers::{OperatorPort, Plan, Six};
 use operator_desk::Script;
 use plate_book::Book;
 use std::alloc::AllocError;
@@ -23,13 +23,14 @@ use std::io::Write;
 use std::marker::Brand;
 use std::sync::{Mutex, Wait};
 
-/// Runs the simulated cell over a world on one thread.
-pub(crate) fn simulate<R: AllocGlobal + Wait>(
+/// Runs the simulated cell over a world on one thread, with these hands of the operator.
+pub(crate) fn simulate<R: AllocGlobal + Wait, O: OperatorPort>(
     rt: &R,
     plan: &Plan,
     faults: &FaultScript,
     script: Script,
     world: &Mutex<World>,
+    hands: &mut O,
 ) -> Result<Outcome, AllocError>
     ensures limits { IfOk result (λ outcome. outcome.book.limits ≡ limits_of (plan_numbers plan.now)) }
     ensures ended { IfOk result (λ outcome. outcome.end ≡ end.Finished → IsDone plan.now.plates outcome.book.entries) }
@@ -46,16 +47,7 @@ pub(crate) fn simulate<R: AllocGlobal + Wait>(
         press2: SimPort::new(rt, world, Machine::Press2, faults),
         deposit: SimPort::new(rt, world, Machine::Deposit, faults),
     };
-    let mut hands = SimOperator::new(rt, world);
-    Ok(run_over::<_, _, Brand>(
-        alloc,
-        book,
-        Blanks::new(1),
-        &mut ports,
-        &mut hands,
-        script,
-        plan,
-    ))
+    Ok(run_over::<_, _, Brand>(alloc, book, Blanks::new(1), &mut ports, hands, script, plan))
 }
 
 // Runs the simulated cell over a new world, and writes what comes of it.
@@ -70,7 +62,8 @@ fn write_run<R: AllocGlobal + Wait, W: Write>(
     ensures { IfOk result (WritesRun journal (limits_of (plan_numbers plan.now)) (W.contents writer.old) (W.contents writer.new)) }
 {
     let world = Mutex::new(World::new(plan.plates));
-    match simulate(rt, plan, faults, script, &world) {
+    let mut hands = SimOperator::new(rt, &world);
+    match simulate(rt, plan, faults, script, &world, &mut hands) {
         Ok(outcome) => write_outcome(rt.alloc(), &outcome, journal, writer),
         Err(AllocError) => Ok(4),
     }
