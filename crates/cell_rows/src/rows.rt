@@ -109,7 +109,7 @@ impl<R: Read> RowReader<R> {
         }
     }
 
-    // Lets csv read all that is left. It stands apart since it moves much, once.
+    // Lets csv read all that is left. It stands apart since it moves much, and is called once.
     #[cold]
     #[inline(never)]
     fn hand_over(&mut self)
@@ -123,6 +123,19 @@ impl<R: Read> RowReader<R> {
             other => other,
         };
         fill(&mut self.source, next);
+    }
+
+    // Lets csv read all that is left, if it doesn't yet.
+    fn give_to_csv(&mut self)
+        requires { IsOpen self.old }
+        ensures open { IsOpen self.new }
+        ensures rows { rows_left R.remaining self.new ≡ rows_left R.remaining self.old }
+        ensures csv { is_csv self.new.source ≡ true }
+    {
+        match &self.source {
+            Source::Plain(_) => self.hand_over(),
+            Source::Csv(_) | Source::Moved => {}
+        }
     }
 
     // Reads the next record with csv, and says whether there was one.
@@ -156,7 +169,7 @@ impl<R: Read> RowReader<R> {
                 Err(_) => return Err(RowError::ReadFault),
             }
         }
-        self.hand_over();
+        self.give_to_csv();
         self.advance_csv()
     }
 
