@@ -5,12 +5,12 @@ use std::process::Abort;
 use std::test::Fail;
 
 /// The plate of a number.
-pub fn plate(number: u32) -> Result<PlateId, Fail> {
+pub(crate) fn plate(number: u32) -> Result<PlateId, Fail> {
     Ok(PlateId::new(number).ok_or("no plate has this number")?)
 }
 
 /// The entry of a record.
-pub fn entry_of(rt: &impl Abort, record: &str) -> Entry {
+pub(crate) fn entry_of(rt: &impl Abort, record: &str) -> Entry {
     let mut fields = record.split(',');
     let kind = fields.next().unwrap_or("").as_bytes();
     let first = fields.next().unwrap_or("").as_bytes();
@@ -20,7 +20,7 @@ pub fn entry_of(rt: &impl Abort, record: &str) -> Entry {
 }
 
 /// Books these records, each of which is allowed.
-pub fn book_all(rt: &impl Abort, book: &mut Book, records: &[&str]) {
+pub(crate) fn book_all(rt: &impl Abort, book: &mut Book, records: &[&str]) {
     for record in records {
         let answer = book.apply(entry_of(rt, record));
         assert!(rt; answer == Ok(()), "{record}");

@@ -1,7 +1,7 @@
 //! The journal of one plate's way through the cell: it is admitted, forged in the first press and delivered.
 
 /// The records of that journal.
-pub const JOURNAL: [&str; 62] = [
+pub(crate) const JOURNAL: [&str; 62] = [
     "lamp,feed,green,",
     "admitted,1,,",
     "started,feed_belt,to_end,",

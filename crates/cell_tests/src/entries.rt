@@ -6,7 +6,7 @@ use std::alloc::Global;
 use std::process::Abort;
 
 /// The entry of a record.
-pub fn entry_of(rt: &impl Abort, record: &str) -> Entry {
+pub(crate) fn entry_of(rt: &impl Abort, record: &str) -> Entry {
     let mut fields = record.split(',');
     let kind = fields.next().unwrap_or("").as_bytes();
     let first = fields.next().unwrap_or("").as_bytes();
@@ -16,7 +16,7 @@ pub fn entry_of(rt: &impl Abort, record: &str) -> Entry {
 }
 
 /// Books these records, each of which is allowed.
-pub fn book_all(rt: &impl Abort, book: &mut Book, records: &[&str]) {
+pub(crate) fn book_all(rt: &impl Abort, book: &mut Book, records: &[&str]) {
     for record in records {
         let answer = book.apply(entry_of(rt, record));
         assert!(rt; answer == Ok(()), "{record}");
@@ -24,7 +24,7 @@ pub fn book_all(rt: &impl Abort, book: &mut Book, records: &[&str]) {
 }
 
 /// A book that takes so many entries, with the first entries of the journal of one plate.
-pub fn begun(rt: &impl Abort, alloc: Global, limit: u32, count: usize) -> Book {
+pub(crate) fn begun(rt: &impl Abort, alloc: Global, limit: u32, count: usize) -> Book {
     let Ok(mut book) = Book::new(alloc, limit, 10) else {
         panic!(rt; "the limits are in range, and there is memory");
     };

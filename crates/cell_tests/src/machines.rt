@@ -8,7 +8,7 @@ use std::alloc::Global;
 use std::process::Abort;
 
 /// The six machines.
-pub const MACHINES: [Machine; 6] = [
+pub(crate) const MACHINES: [Machine; 6] = [
     Machine::Feed,
     Machine::Table,
     Machine::Robot,

@@ -2,20 +2,20 @@
 use cell_diagnosis::{Expect, Reading, Verdict};
 use cell_types::{Axis, Cause, Pose};
 
-pub const LEAVE: u16 = 3;
+pub(crate) const LEAVE: u16 = 3;
 
-pub const LIMIT: u16 = 5;
+pub(crate) const LIMIT: u16 = 5;
 
 /// A motion by the sets of switches that stand for its poses.
 #[derive(Clone, Copy)]
-pub struct PlainMotion {
+pub(crate) struct PlainMotion {
     pub from: u8,
     pub to: u8,
     pub passing: u8,
 }
 
 /// The switches that a reading shows of an axis; of a belt, the two stations of the motion.
-pub fn shown(axis: Axis, to: Pose, reading: Reading) -> u8 {
+pub(crate) fn shown(axis: Axis, to: Pose, reading: Reading) -> u8 {
     let [first, second, third] = reading.switches;
     match axis {
         Axis::FeedBelt if to == Pose::ToTable => (reading.presence >> 1) & 3,
@@ -87,7 +87,7 @@ fn judged(motion: &PlainMotion, sets: &[Option<u8>]) -> Verdict {
 }
 
 /// The verdict at the first reading at which a rule applies, else Pending.
-pub fn plain_verdict(motion: &PlainMotion, sets: &[Option<u8>]) -> Verdict {
+pub(crate) fn plain_verdict(motion: &PlainMotion, sets: &[Option<u8>]) -> Verdict {
     for end in 0..sets.len() {
         let verdict = judged(motion, &sets[..=end]);
         if verdict != Verdict::Pending {
@@ -153,7 +153,7 @@ fn judged_at_rest(list: &[Noted]) -> Verdict {
 }
 
 /// The verdict of a rest watch of the table at the first reading at which a rule applies, else Pending.
-pub fn plain_rest(list: &[Noted]) -> Verdict {
+pub(crate) fn plain_rest(list: &[Noted]) -> Verdict {
     for end in 0..list.len() {
         let verdict = judged_at_rest(&list[..=end]);
         if verdict != Verdict::Pending {
