@@ -17,10 +17,10 @@ use Rattle.operator_desk.specs.Script.{lines_of, Gives as GivesLines}
 use Rattle.operator_desk.specs.declared.line.Line.{Line}
 use Rattle.operator_desk.specs.declared.script.ScriptError.{ScriptError}
 use Rattle.operator_desk.specs.declared.script.ScriptError.TheVariants as script
-use Rattle.cellctl.specs.Settings.{AnswersText, Numbers}
-use Rattle.cellctl.specs.Checked.{error_line, error_status}
-use Rattle.cellctl.specs.Lines.{number_line}
-use Rattle.cellctl.specs.declared.settings.error.SettingsError.{SettingsError}
+use Rattle.cell_settings.specs.Settings.{AnswersText, Numbers}
+use Rattle.cell_settings.specs.Checked.{error_line, error_status}
+use Rattle.cell_lines.specs.Lines.{number_line}
+use Rattle.cell_settings.specs.declared.error.SettingsError.{SettingsError}
 use Rattle.cellctl.specs.declared.sim.ends.End.{End}
 use Rattle.cellctl.specs.declared.sim.ends.End.TheVariants as end
 

@@ -2,16 +2,14 @@
 #![tactic(auto)]
 
 mod command;
-mod lines;
 mod order;
-mod settings;
 mod sim;
 
+use cell_lines::{WriteFault, audit_lines};
+use cell_settings::check_lines;
 use clap::Error;
 use clap::error::ErrorKind;
-use lines::{WriteFault, audit_lines};
 use order::{Order, Paths, read_words};
-use settings::check_lines;
 use sim::run_texts;
 use std::env::Env;
 use std::io::Write;

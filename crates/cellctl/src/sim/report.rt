@@ -1,15 +1,15 @@
 //! What the program prints for a run.
 ghost use Rattle.std.specs.Prelude.{◌≡◌, false, IfOk, OnOk};
 ghost use Rattle.std.specs.Io.KnownBytes.{Appends};
-ghost use Rattle.cellctl.specs.Checked.{error_line, error_status};
+ghost use Rattle.cell_settings.specs.Checked.{error_line, error_status};
 ghost use Rattle.cellctl.specs.declared.sim.ends.End.TheVariants as end;
 ghost use Rattle.cellctl.specs.Runs.{IsDone, WritesError, WritesRun, fault_line, fault_status, run_lines, script_line, script_status, shown, status_of, word_of};
 
-use crate::lines::{WriteFault, write_number};
-use crate::settings::{SettingsError, write_checked};
 use crate::sim::ends::End;
 use crate::sim::rounds::Outcome;
 use cell_audit::{WriteError, write_journal};
+use cell_lines::{WriteFault, write_number};
+use cell_settings::{SettingsError, write_checked};
 use cell_sim::FaultError;
 use cell_types::Totals;
 use operator_desk::ScriptError;

@@ -4,8 +4,8 @@ mod hands;
 mod refusals;
 mod runs;
 
-use crate::lines::WriteFault;
-use crate::settings::read_settings;
+use cell_lines::WriteFault;
+use cell_settings::read_settings;
 use crate::sim::ends::End;
 use crate::sim::run_texts;
 use crate::sim::texts::simulate;

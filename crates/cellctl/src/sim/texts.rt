@@ -4,15 +4,15 @@ ghost use Rattle.cell_rows.specs.Rows.{rows_of};
 ghost use Rattle.cell_sim.specs.Script.{faults_of};
 ghost use Rattle.operator_desk.specs.Script.{lines_of};
 ghost use Rattle.plate_book.specs.declared.limits.Limits.{Limits};
-ghost use Rattle.cellctl.specs.Settings.{plan_numbers};
+ghost use Rattle.cell_settings.specs.Settings.{plan_numbers};
 ghost use Rattle.cellctl.specs.declared.sim.ends.End.TheVariants as end;
 ghost use Rattle.cellctl.specs.Runs.{IsDone, TellsRun, WritesRun, TellsFaults, TellsLines, limits_of};
 
-use crate::lines::WriteFault;
-use crate::settings::read_settings;
 use crate::sim::report::{refuse_faults, refuse_script, refuse_settings, write_outcome};
 use crate::sim::rounds::{Outcome, run_over};
 use cell_ledger::Blanks;
+use cell_lines::WriteFault;
+use cell_settings::read_settings;
 use cell_sim::{FaultScript, SimOperator, SimPort, World};
 use cell_types::Machine;
 use cell_workers::{OperatorPort, Plan, Six};

@@ -1,5 +1,5 @@
 //! Runs whose operator's hands fail.
-use crate::settings::read_settings;
+use cell_settings::read_settings;
 use crate::sim::ends::End;
 use crate::sim::texts::simulate;
 use cell_sim::{FaultScript, SimOperator, World};

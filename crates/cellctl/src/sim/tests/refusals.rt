@@ -1,5 +1,5 @@
 //! Texts that are refused, and writers that fail.
-use crate::lines::WriteFault;
+use cell_lines::WriteFault;
 use crate::sim::run_texts;
 use crate::sim::tests::told;
 use std::io;
