@@ -7,7 +7,7 @@ ghost use Rattle.cellctl.specs.Checked.{TellsCheck, line_of, WritesLine};
 use crate::lines::WriteFault;
 use crate::settings::error::SettingsError;
 use crate::settings::read::read_settings;
-use cell_workers::Plan;
+use cell_turns::Plan;
 use std::alloc::Global;
 use std::io;
 use std::io::Write;

@@ -15,7 +15,7 @@ use crate::sim::rounds::{Outcome, run_over};
 use cell_ledger::Blanks;
 use cell_sim::{FaultScript, SimOperator, SimPort, World};
 use cell_types::Machine;
-use cell_workers::{OperatorPort, Plan, Six};
+use cell_turns::{OperatorPort, Plan, Six};
 use operator_desk::Script;
 use plate_book::Book;
 use std::alloc::AllocError;
