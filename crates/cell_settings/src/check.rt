@@ -7,7 +7,7 @@ ghost use Rattle.cell_settings.specs.Checked.{TellsCheck, line_of, WritesLine};
 use crate::error::SettingsError;
 use crate::read::read_settings;
 use cell_lines::WriteFault;
-use cell_workers::Plan;
+use cell_turns::Plan;
 use std::alloc::Global;
 use std::io;
 use std::io::Write;

@@ -9,7 +9,7 @@ use crate::keys::check_keys;
 use crate::numbers::{axis_limits, member_number};
 use cell_diagnosis::Limits;
 use cell_types::Axis;
-use cell_workers::Plan;
+use cell_turns::Plan;
 use std::alloc::Global;
 use toml::Table;
 

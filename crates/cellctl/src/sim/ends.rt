@@ -5,7 +5,7 @@ ghost use Rattle.cellctl.specs.Runs.{IsDone, is_vacant};
 ghost use Rattle.cellctl.specs.declared.sim.ends.End.TheVariants as end;
 
 use cell_types::{Axis, Belt, Colour, Machine, Station};
-use cell_workers::{Plan, Six, Watch};
+use cell_turns::{Plan, Six, Watch};
 use plate_book::Book;
 
 /// How a run ended. The ends are this project's profile.

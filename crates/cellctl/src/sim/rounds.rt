@@ -1,15 +1,15 @@
 //! A run on one thread, in rounds.
 ghost use Rattle.std.specs.Prelude.{◌≡◌, ◌≢◌, ◌<◌, IfErr};
 ghost use Rattle.cell_types.specs.declared.words.Machine.{Machine as MachineValue};
-ghost use Rattle.cell_workers.specs.Minds.{machine_of_watch};
-ghost use Rattle.cell_workers.specs.Six.{at};
+ghost use Rattle.cell_turns.specs.Minds.{machine_of_watch};
+ghost use Rattle.cell_turns.specs.Six.{at};
 ghost use Rattle.cellctl.specs.Runs.{IsDone};
 ghost use Rattle.cellctl.specs.declared.sim.ends.End.TheVariants as end;
 
 use crate::sim::ends::{End, are_idle, end_of};
 use cell_ledger::{Blanks, Kept, Run, Shares};
 use cell_types::Machine;
-use cell_workers::{OperatorPort, Plan, Port, Ports, Step, Watches, run_schedule};
+use cell_turns::{OperatorPort, Plan, Port, Ports, Step, Watches, run_schedule};
 use operator_desk::{Script, entry_of};
 use plate_book::Book;
 use std::alloc::Global;

@@ -15,7 +15,7 @@ use cell_lines::WriteFault;
 use cell_settings::read_settings;
 use cell_sim::{FaultScript, SimOperator, SimPort, World};
 use cell_types::Machine;
-use cell_workers::{OperatorPort, Plan, Six};
+use cell_turns::{OperatorPort, Plan, Six};
 use operator_desk::Script;
 use plate_book::Book;
 use std::alloc::AllocError;

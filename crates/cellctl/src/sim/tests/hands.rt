@@ -4,7 +4,7 @@ use crate::sim::ends::End;
 use crate::sim::texts::simulate;
 use cell_sim::{FaultScript, SimOperator, World};
 use cell_types::{Machine, Station};
-use cell_workers::{OperatorPort, PortFault};
+use cell_turns::{OperatorPort, PortFault};
 use operator_desk::Script;
 use std::process::Abort;
 use std::sync::{Mutex, Wait};

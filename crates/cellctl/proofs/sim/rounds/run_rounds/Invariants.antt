@@ -1,7 +1,7 @@
 use Rattle.std.proofs.Common.{◌≡◌}
 use Rattle.cell_types.specs.declared.words.Machine.{Machine}
-use Rattle.cell_workers.specs.Minds.{machine_of_watch}
-use Rattle.cell_workers.specs.Six.{at}
+use Rattle.cell_turns.specs.Minds.{machine_of_watch}
+use Rattle.cell_turns.specs.Six.{at}
 use Rattle.cellctl.proofs.sim.rounds.run_rounds.Given as goal
 
 abbrev pub invariant-loop-round : goal.invariant-loop-round
