@@ -8,8 +8,8 @@ use crate::error::SettingsError;
 use crate::keys::check_keys;
 use crate::numbers::{axis_limits, member_number};
 use cell_diagnosis::Limits;
-use cell_types::Axis;
 use cell_turns::Plan;
+use cell_types::Axis;
 use std::alloc::Global;
 use toml::Table;
 

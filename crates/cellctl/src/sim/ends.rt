@@ -4,8 +4,8 @@ ghost use Rattle.cell_views.specs.Views.{plate_of};
 ghost use Rattle.cellctl.specs.Runs.{IsDone, is_vacant};
 ghost use Rattle.cellctl.specs.declared.sim.ends.End.TheVariants as end;
 
-use cell_types::{Axis, Belt, Colour, Machine, Station};
 use cell_turns::{Plan, Six, Watch};
+use cell_types::{Axis, Belt, Colour, Machine, Station};
 use plate_book::Book;
 
 /// How a run ended. The ends are this project's profile.

@@ -8,8 +8,8 @@ ghost use Rattle.cellctl.specs.declared.sim.ends.End.TheVariants as end;
 
 use crate::sim::ends::{End, are_idle, end_of};
 use cell_ledger::{Blanks, Kept, Run, Shares};
-use cell_types::Machine;
 use cell_turns::{OperatorPort, Plan, Port, Ports, Step, Watches, run_schedule};
+use cell_types::Machine;
 use operator_desk::{Script, entry_of};
 use plate_book::Book;
 use std::alloc::Global;

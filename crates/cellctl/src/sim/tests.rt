@@ -4,12 +4,12 @@ mod hands;
 mod refusals;
 mod runs;
 
-use cell_lines::WriteFault;
-use cell_settings::read_settings;
 use crate::sim::ends::End;
 use crate::sim::run_texts;
 use crate::sim::texts::simulate;
 use cell_audit::{audit, write_journal};
+use cell_lines::WriteFault;
+use cell_settings::read_settings;
 use cell_sim::{FaultScript, SimOperator, World};
 use cell_types::{Axis, Entry, Totals};
 use operator_desk::Script;

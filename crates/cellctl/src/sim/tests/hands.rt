@@ -1,10 +1,10 @@
 //! Runs whose operator's hands fail.
-use cell_settings::read_settings;
 use crate::sim::ends::End;
 use crate::sim::texts::simulate;
+use cell_settings::read_settings;
 use cell_sim::{FaultScript, SimOperator, World};
-use cell_types::{Machine, Station};
 use cell_turns::{OperatorPort, PortFault};
+use cell_types::{Machine, Station};
 use operator_desk::Script;
 use std::process::Abort;
 use std::sync::{Mutex, Wait};

@@ -1,7 +1,7 @@
 //! Texts that are refused, and writers that fail.
-use cell_lines::WriteFault;
 use crate::sim::run_texts;
 use crate::sim::tests::told;
+use cell_lines::WriteFault;
 use std::io;
 use std::io::Write;
 use std::process::Abort;
