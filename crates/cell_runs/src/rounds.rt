@@ -1,15 +1,14 @@
 //! A run on one thread, in rounds.
 ghost use Rattle.std.specs.Prelude.{◌≡◌, ◌≢◌, ◌<◌, IfErr};
 ghost use Rattle.cell_types.specs.declared.words.Machine.{Machine as MachineValue};
-ghost use Rattle.cell_workers.specs.Minds.{machine_of_watch};
-ghost use Rattle.cell_workers.specs.Six.{at};
-ghost use Rattle.cellctl.specs.Runs.{IsDone};
-ghost use Rattle.cellctl.specs.declared.sim.ends.End.TheVariants as end;
+ghost use Rattle.cell_turns.specs.Minds.{machine_of_watch};
+ghost use Rattle.cell_turns.specs.Six.{at};
+ghost use Rattle.cell_workers.specs.Ends.{IsDone};
+ghost use Rattle.cell_workers.specs.declared.hall.End.TheVariants as end;
 
-use crate::sim::ends::{End, are_idle, end_of};
 use cell_ledger::{Blanks, Kept, Run, Shares};
 use cell_types::Machine;
-use cell_workers::{OperatorPort, Plan, Port, Ports, Step, Watches, run_schedule};
+use cell_workers::{End, OperatorPort, Plan, Port, Ports, Six, Step, Watch, Watches, end_at_rest, is_idle, run_schedule};
 use operator_desk::{Script, entry_of};
 use plate_book::Book;
 use std::alloc::Global;
@@ -131,6 +130,16 @@ fn act<P: Port, O: OperatorPort, R: Run>(
     Ok(())
 }
 
+// Whether all machines are idle after a round that booked nothing.
+fn are_idle(book: &Book, watches: &Six<Watch>, plan: &Plan) -> bool {
+    is_idle(Machine::Feed, book, &watches.feed, plan)
+        && is_idle(Machine::Table, book, &watches.table, plan)
+        && is_idle(Machine::Robot, book, &watches.robot, plan)
+        && is_idle(Machine::Press1, book, &watches.press1, plan)
+        && is_idle(Machine::Press2, book, &watches.press2, plan)
+        && is_idle(Machine::Deposit, book, &watches.deposit, plan)
+}
+
 // One round: a turn of each machine, and then the operator's next action.
 fn take_round<P: Port, O: OperatorPort, R: Run>(
     alloc: Global,
@@ -147,8 +156,8 @@ fn take_round<P: Port, O: OperatorPort, R: Run>(
     take_turns(alloc, ports, hands, cell, plan)?;
     act(alloc, ports, hands, cell, plan)?;
     let book = cell.kept.book();
-    if book.journal().len() == before && are_idle(book, &cell.watches) {
-        return Err(end_of(book, plan));
+    if book.journal().len() == before && are_idle(book, &cell.watches, plan) {
+        return Err(end_at_rest(book, plan));
     }
     Ok(())
 }

@@ -1,4 +1,4 @@
-use Rattle.cellctl.proofs.sim.texts.simulate.Given as goal
+use Rattle.cell_runs.proofs.simulation.simulate.Given as goal
 
 abbrev pub ghosts-run_over : goal.ghosts-run_over
 ghosts-run_over g a = record {
