@@ -9,8 +9,8 @@ use Rattle.plate_book.specs.Legal.{legal}
 use Rattle.cell_turns.specs.declared.plan.Plan.{Plan}
 use Rattle.cell_workers.specs.Ends.{IsDone}
 use Rattle.cell_workers.specs.Report.{IsReport}
-use Rattle.cell_workers.specs.declared.hall.End.{End}
-use Rattle.cell_workers.specs.declared.hall.End.TheVariants as end
+use Rattle.cell_workers.specs.declared.ends.End.{End}
+use Rattle.cell_workers.specs.declared.ends.End.TheVariants as end
 use Rattle.cell_workers.specs.declared.running.RunError.{RunError}
 use Rattle.cell_workers.specs.declared.running.RunError.TheVariants as run
 use Rattle.cell_audit.specs.Text.{text_of}

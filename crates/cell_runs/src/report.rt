@@ -5,7 +5,7 @@ ghost use Rattle.cell_views.specs.Views.{count_of};
 ghost use Rattle.plate_book.specs.declared.limits.Limits.{Limits};
 ghost use Rattle.cell_workers.specs.Ends.{IsDone};
 ghost use Rattle.cell_workers.specs.Report.{IsReport};
-ghost use Rattle.cell_workers.specs.declared.hall.End.TheVariants as end;
+ghost use Rattle.cell_workers.specs.declared.ends.End.TheVariants as end;
 ghost use Rattle.cell_runs.specs.Runs.{Prints, WritesReport, WritesRounds, WritesRunError, run_lines, status_of, word_of};
 
 use crate::rounds::Outcome;

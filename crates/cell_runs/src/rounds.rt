@@ -4,7 +4,7 @@ ghost use Rattle.cell_types.specs.declared.words.Machine.{Machine as MachineValu
 ghost use Rattle.cell_turns.specs.Minds.{machine_of_watch};
 ghost use Rattle.cell_turns.specs.Six.{at};
 ghost use Rattle.cell_workers.specs.Ends.{IsDone};
-ghost use Rattle.cell_workers.specs.declared.hall.End.TheVariants as end;
+ghost use Rattle.cell_workers.specs.declared.ends.End.TheVariants as end;
 
 use cell_ledger::{Blanks, Kept, Run, Shares};
 use cell_types::Machine;

@@ -1,7 +1,7 @@
 //! A run over the simulated cell on one thread.
 ghost use Rattle.std.specs.Prelude.{◌≡◌, IfOk};
 ghost use Rattle.cell_workers.specs.Ends.{IsDone};
-ghost use Rattle.cell_workers.specs.declared.hall.End.TheVariants as end;
+ghost use Rattle.cell_workers.specs.declared.ends.End.TheVariants as end;
 ghost use Rattle.cell_runs.specs.Runs.{limits_of};
 
 use crate::rounds::{Outcome, run_over};

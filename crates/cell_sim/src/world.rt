@@ -19,7 +19,7 @@ use cell_types::{
     Arm, Axis, Belt, Colour, Command, Machine, Pose, STATIONS, Station, axis_of_arm, home,
     machine_of_axis, machine_of_station, station_of_arm,
 };
-use cell_workers::PortFault;
+use cell_turns::PortFault;
 
 /// A simulated cell: where its axes and plates are, which motions go on, its lights, and how often machines met.
 #[derive(Debug, Drop)]

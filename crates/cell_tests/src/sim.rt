@@ -4,12 +4,12 @@ mod hands;
 mod refusals;
 mod runs;
 
-use crate::lines::WriteFault;
-use crate::settings::read_settings;
 use crate::sim::ends::End;
 use crate::sim::run_texts;
 use crate::sim::texts::simulate;
 use cell_audit::{audit, write_journal};
+use cell_lines::WriteFault;
+use cell_settings::read_settings;
 use cell_sim::{FaultScript, SimOperator, World};
 use cell_types::{Axis, Entry, Totals};
 use operator_desk::Script;
@@ -19,7 +19,7 @@ use std::sync::{Mutex, Wait};
 use std::test::Fail;
 
 // What is printed for three texts, and the status.
-fn told<R: AllocGlobal + Wait>(
+fn told<R: AllocGlobal + Threads + Wait + Sync>(
     rt: &R,
     settings: &[u8],
     faults: &[u8],
@@ -74,15 +74,14 @@ fn run_in_world<R: AllocGlobal + Wait + Abort>(
     operator: &[u8],
 ) -> Left {
     let alloc = rt.alloc();
-    let Ok(plan) = read_settings(alloc, settings) else {
-        panic!(rt; "the settings are good");
+    let Ok(inputs) = read_inputs(alloc, settings, faults, operator) else {
+        panic!(rt; "the texts are good");
     };
-    let Ok(faults) = FaultScript::read(alloc, faults) else {
-        panic!(rt; "the faults are readable");
-    };
-    let Ok(script) = Script::read(alloc, operator) else {
-        panic!(rt; "the operator's script is readable");
-    };
+    let Inputs {
+        plan,
+        faults,
+        script,
+    } = inputs;
     let world = Mutex::new(World::new(plan.plates));
     let mut hands = SimOperator::new(rt, &world);
     let Ok(outcome) = simulate(rt, &plan, &faults, script, &world, &mut hands) else {
@@ -102,7 +101,7 @@ fn run_in_world<R: AllocGlobal + Wait + Abort>(
 
 // A run that has to print these lines and end with this status. Its journal's text has to audit as legal with the same
 // totals, and no machines may have met.
-fn check_run<R: AllocGlobal + Wait + Abort>(
+fn check_run<R: AllocGlobal + Abort + Threads + Wait + Sync>(
     rt: &R,
     settings: &[u8],
     faults: &[u8],

@@ -7,6 +7,7 @@ pub mod laws;
 pub mod number;
 pub mod plate_id;
 pub mod read;
+pub mod same;
 pub mod tables;
 pub mod texts;
 pub mod words;

@@ -1,8 +1,7 @@
-pub mod Logs
-pub mod Sixes
-pub mod Acts
-pub mod Minds
-pub mod Rooms
-pub mod Faults
-pub mod Declared
-pub mod Schedules
+pub mod Traces
+pub mod Endings
+pub mod Backing
+pub mod Standing
+pub mod Workers
+pub mod Operators
+pub mod Reports

@@ -1,37 +1,18 @@
-//! The machines' workers: what a turn books and which command it answers, and what a port tells of what it was asked.
+//! The workers of a run: six machines' and the operator's, each on a thread of its own, over one book under one lock.
+//! Ports, watches, turns and schedules on one thread are those of `cell_turns`, handed on under this crate's name.
 #![tactic(auto)]
 
-mod expected;
-mod following;
-mod hands;
-pub mod memory;
-#[cfg(test)]
-mod memory_ports;
-mod moving;
-mod noticing;
-pub mod plan;
-pub mod port;
-pub mod ruling;
-pub mod schedule;
-#[cfg(test)]
-mod schedule_tests;
-pub mod scheduling;
-mod sending;
-mod signs;
-pub mod six;
-#[cfg(test)]
-mod tests;
-pub mod turns;
-mod visits;
-pub mod watch;
-pub mod watches;
-mod watching;
+pub mod hall;
+pub mod operating;
+pub mod running;
+pub mod team;
+pub mod working;
 
-pub use plan::Plan;
-pub use port::{Act, OperatorPort, Port, PortFault};
-pub use schedule::{OutOfMemory, Step};
-pub use scheduling::{Ran, run_schedule};
-pub use six::{Ports, Six};
-pub use turns::{TurnError, turn};
-pub use watch::Watch;
-pub use watches::Watches;
+pub use cell_turns::{
+    Act, OperatorPort, OutOfMemory, Plan, Port, PortFault, Ports, Ran, Six, Step, TurnError, Watch,
+    Watches, run_schedule, turn,
+};
+pub use hall::{End, Ended, Hall, Room};
+pub use operating::run_operator;
+pub use running::{Report, RunError, run_cell};
+pub use working::{Worked, run_worker};

@@ -1,7 +1,7 @@
 //! Each motion of a run with each fault.
-use crate::sim::ends::End;
-use crate::sim::tests::{AXES, run_in_world};
+use crate::sim::{AXES, run_in_world};
 use cell_types::texts::axis_word;
+use cell_workers::End;
 use std::process::Abort;
 use std::sync::Wait;
 use std::test::Fail;

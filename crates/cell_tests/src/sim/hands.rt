@@ -1,10 +1,10 @@
 //! Runs whose operator's hands fail.
-use crate::settings::read_settings;
 use crate::sim::ends::End;
 use crate::sim::texts::simulate;
+use cell_settings::read_settings;
 use cell_sim::{FaultScript, SimOperator, World};
+use cell_turns::{OperatorPort, PortFault};
 use cell_types::{Machine, Station};
-use cell_workers::{OperatorPort, PortFault};
 use operator_desk::Script;
 use std::process::Abort;
 use std::sync::{Mutex, Wait};
@@ -40,16 +40,16 @@ fn check_failing<R: AllocGlobal + Wait + Abort>(
     quarantined: u32,
 ) {
     let alloc = rt.alloc();
-    let Ok(plan) = read_settings(alloc, b"plates = 6") else {
-        panic!(rt; "the settings are good");
-    };
-    let Ok(faults) = FaultScript::read(alloc, b"press_two,1,no_motion,") else {
-        panic!(rt; "the faults are readable");
-    };
+    let faults = b"press_two,1,no_motion,";
     let lines = b"failed,press2,clear,press2\nfailed,press2,repair,press2\n";
-    let Ok(script) = Script::read(alloc, lines) else {
-        panic!(rt; "the operator's script is readable");
+    let Ok(inputs) = read_inputs(alloc, b"plates = 6", faults, lines) else {
+        panic!(rt; "the texts are good");
     };
+    let Inputs {
+        plan,
+        faults,
+        script,
+    } = inputs;
     let world = Mutex::new(World::new(plan.plates));
     let mut hands = Failing {
         hands: SimOperator::new(rt, &world),

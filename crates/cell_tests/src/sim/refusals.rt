@@ -1,35 +1,15 @@
 //! Texts that are refused, and writers that fail.
-use crate::lines::WriteFault;
 use crate::sim::run_texts;
 use crate::sim::tests::told;
+use cell_lines::WriteFault;
 use std::io;
 use std::io::Write;
 use std::process::Abort;
 use std::sync::Wait;
 use std::test::Fail;
 
-// A writer that takes a number of bytes and then fails.
-#[derive(Drop)]
-struct Full {
-    left: usize,
-}
-
-impl Write for Full {
-    fn write(&mut self, buf: &[u8]) -> io::Result<usize> {
-        if self.left < buf.len() {
-            return Err(io::Error::from(io::ErrorKind::StorageFull));
-        }
-        self.left -= buf.len();
-        Ok(buf.len())
-    }
-
-    fn flush(&mut self) -> io::Result<()> {
-        Ok(())
-    }
-}
-
 // Three texts of which one is refused with this line, whether the journal is wanted or not.
-fn check_refused<R: AllocGlobal + Wait + Abort>(
+fn check_refused<R: AllocGlobal + Abort + Threads + Wait + Sync>(
     rt: &R,
     settings: &[u8],
     faults: &[u8],
@@ -83,12 +63,12 @@ fn tells_scripts_that_are_too_long(rt: HostRuntime) -> Result<(), Fail> {
 fn a_failed_write_is_told(rt: HostRuntime) {
     let lines = b"finished\nadmitted 1\nforged 1\nquarantined 0\ndelivered 1\n".len();
     for left in 0..lines + 1 {
-        let answer = run_texts(&rt, GOOD, b"", b"", false, false, &mut Full { left });
+        let answer = run_texts(&rt, GOOD, b"", b"", false, false, &mut Full::new(rt.alloc(), left));
         let wanted = if left < lines { Err(WriteFault) } else { Ok(0) };
         assert_eq!(rt; answer, wanted, "after {left} bytes");
     }
     for left in 0..40usize {
-        let answer = run_texts(&rt, GOOD, b"", b"", false, true, &mut Full { left });
+        let answer = run_texts(&rt, GOOD, b"", b"", false, true, &mut Full::new(rt.alloc(), left));
         assert_eq!(rt; answer, Err(WriteFault), "after {left} bytes");
     }
 }

@@ -1,5 +1,5 @@
 //! Runs with faults and stops, and what they come to.
-use crate::sim::tests::check_run;
+use crate::sim::check_run;
 use std::test::Fail;
 
 const NO_LINES: &[u8] = b"";

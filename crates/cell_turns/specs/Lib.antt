@@ -1,0 +1,15 @@
+pub mod Six
+pub mod Logs
+pub mod Sent
+pub mod Acts
+pub mod Moving
+pub mod Visits
+pub mod Expected
+pub mod Signs
+pub mod Following
+pub mod Minds
+pub mod Rulings
+pub mod Turns
+pub mod Handing
+pub mod Schedules
+pub mod Steps

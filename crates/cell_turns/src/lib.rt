@@ -1,0 +1,38 @@
+//! The turns of the machines on one thread: what a turn books and which command it answers, what a port tells of what it
+//! was asked, and where a schedule of turns leads.
+#![tactic(auto)]
+
+mod expected;
+mod following;
+pub mod hands;
+pub mod memory;
+#[cfg(test)]
+mod memory_ports;
+pub mod moving;
+mod noticing;
+pub mod plan;
+pub mod port;
+pub mod ruling;
+pub mod schedule;
+#[cfg(test)]
+mod schedule_tests;
+pub mod scheduling;
+pub mod sending;
+mod signs;
+pub mod six;
+#[cfg(test)]
+mod tests;
+pub mod turns;
+mod visits;
+pub mod watch;
+pub mod watches;
+mod watching;
+
+pub use plan::Plan;
+pub use port::{Act, OperatorPort, Port, PortFault};
+pub use schedule::{OutOfMemory, Step};
+pub use scheduling::{Ran, run_schedule};
+pub use six::{Ports, Six};
+pub use turns::{TurnError, turn};
+pub use watch::Watch;
+pub use watches::Watches;

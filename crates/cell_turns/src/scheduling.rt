@@ -1,0 +1,172 @@
+//! Schedules of turns and acts by hand, on one thread.
+ghost use Rattle.std.specs.Prelude.{◌≡◌, ◌≢◌, ◌≤◌, ◌<◌, ◌+◌, ◌^◌, ◌++◌, ◌∷◌, [], ℕ, List, Bool, true, false, IfOk, IfSome, OnOk, OnErr, is_none, option_to_list};
+ghost use Rattle.cell_types.specs.Entries.{actor_of};
+ghost use Rattle.cell_types.specs.declared.words.Actor.TheVariants as actors;
+ghost use Rattle.cell_types.specs.declared.words.Machine.{Machine as MachineValue};
+ghost use Rattle.cell_types.specs.declared.words.Entry.{Entry as EntryValue};
+ghost use Rattle.cell_views.specs.Views.{count_of};
+ghost use Rattle.plate_book.specs.History.{History};
+ghost use Rattle.plate_book.specs.Legal.{legal};
+ghost use Rattle.cell_ledger.specs.Counts.{plus};
+ghost use Rattle.cell_ledger.specs.Held.{Held, held};
+ghost use Rattle.cell_turns.specs.declared.six.Six.{Six as SixValue};
+ghost use Rattle.cell_turns.specs.declared.schedule.Step.{Step as StepValue};
+ghost use Rattle.cell_turns.specs.declared.schedule.Step.TheVariants as steps;
+ghost use Rattle.cell_turns.specs.declared.watch.Watch.{Watch as WatchValue};
+ghost use Rattle.cell_turns.specs.Six.{at, map_six};
+ghost use Rattle.cell_turns.specs.Logs.{Log, ActLog};
+ghost use Rattle.cell_turns.specs.Sent.{Sends};
+ghost use Rattle.cell_turns.specs.Acts.{Did, ActedAtMostOnce};
+ghost use Rattle.cell_turns.specs.Minds.{Mind, FitsMind, machine_of_watch, has_failed_command};
+ghost use Rattle.cell_turns.specs.Turns.{IsDecided, mind_after};
+ghost use Rattle.cell_turns.specs.Schedules.{Scheduled, Grown, AllSent, Stopped};
+ghost use Rattle.cell_turns.specs.Steps.{TurnedAt, TurnedAway, GrewBy};
+
+use crate::hands::hand;
+use crate::schedule::OutOfMemory;
+use crate::sending::send;
+use crate::turns::book_turn;
+use crate::{OperatorPort, Plan, Port, Ports, Six, Step, TurnError, Watch, Watches};
+use cell_diagnosis::Reading;
+use cell_ledger::{Kept, Run, Shares};
+use cell_types::{Entry, Machine};
+use std::alloc::Global;
+
+/// What a schedule did.
+#[derive(Debug, Drop)]
+pub struct Ran {
+    /// The entries of each machine.
+    pub machines: Six<Vec<Entry>>,
+    /// The operator's entries.
+    pub operator: Vec<Entry>,
+    /// How many turns answered `Refused`.
+    pub refused: usize,
+}
+
+/// A turn of a machine, and its command. It answers whether the turn was refused.
+fn take_turn<P: Port, R: Run>(
+    machine: Machine,
+    reading: Option<Reading>,
+    port: &mut P,
+    kept: &mut Kept<R>,
+    shares: &mut Shares<R>,
+    watch: &mut Watch,
+    entries: &mut Vec<Entry>,
+    plan: &Plan,
+) -> Result<bool, OutOfMemory>
+    requires { machine_of_watch watch.old ≡ machine }
+    ensures turned { IfOk result (λ refused. refused ≡ false → TurnedAt plan.now machine reading kept.old kept.new watch.old watch.new) }
+    ensures refused { IfOk result (λ refused. refused ≡ true → TurnedAway plan.now machine reading kept.old kept.new watch.old watch.new) }
+    ensures grew { IfOk result (λ _. GrewBy (actors.Machine machine) kept.old kept.new shares.old shares.new entries.old.items entries.new.items) }
+    ensures sends { P.tells port.new ≡ true → (before : Log) (was : Bool) → Sends before was (P.log port.old) entries.old.items (has_failed_command watch.old) → Sends before was (P.log port.new) entries.new.items (has_failed_command watch.new) }
+    ensures still { P.tells port.new ≡ true → P.tells port.old ≡ true }
+    ensures machine { machine_of_watch watch.new ≡ machine }
+    ensures unchanged { OnErr result ((port.new ≡ port.old) × (kept.new ≡ kept.old) × (shares.new ≡ shares.old) × (watch.new ≡ watch.old)) }
+{
+    let booked = match book_turn(machine, kept, shares, watch, reading, entries, plan) {
+        Ok(booked) => booked,
+        Err(TurnError::OutOfMemory) => return Err(OutOfMemory),
+        Err(TurnError::Refused(_)) => return Ok(true),
+    };
+    if let Some(entry) = booked {
+        let _ = send(port, watch, &entry);
+    }
+    Ok(false)
+}
+
+/// One step of a schedule. Its clauses tell of the step after any steps that led to this state.
+fn take_step<P: Port, O: OperatorPort, R: Run>(
+    step: &Step,
+    ran: &mut Ran,
+    ports: &mut Ports<P>,
+    operator: &mut O,
+    kept: &mut Kept<R>,
+    shares: &mut Shares<R>,
+    watches: &mut Watches,
+    plan: &Plan,
+) -> Result<(), OutOfMemory>
+    requires machines { (m : MachineValue) → machine_of_watch (at watches.old m) ≡ m }
+    requires room { ran.old.refused + 1 < 2 ^ 64 }
+    ensures machines { (m : MachineValue) → machine_of_watch (at watches.new m) ≡ m }
+    ensures few { ran.new.refused ≤ ran.old.refused + 1 }
+    ensures still { O.tells operator.new ≡ true → O.tells operator.old ≡ true }
+    ensures grown { OnOk result ((before : History) (h : Held) → Grown before kept.old h shares.old (map_six (λ v. v.items) ran.old.machines) ran.old.operator.items → Grown before kept.new h shares.new (map_six (λ v. v.items) ran.new.machines) ran.new.operator.items) }
+    ensures sent { OnOk result ((before : SixValue P) (ws : SixValue WatchValue) → AllSent P.tells P.log before ports.old ws watches.old (map_six (λ v. v.items) ran.old.machines) → AllSent P.tells P.log before ports.new ws watches.new (map_six (λ v. v.items) ran.new.machines)) }
+    ensures did { OnOk result ((acts : ActLog) → O.tells operator.new ≡ true → Did acts (O.log operator.old) ran.old.operator.items → Did acts (O.log operator.new) ran.new.operator.items) }
+    ensures scheduled { OnOk result ((steps : List StepValue) (before : History) (ws : SixValue WatchValue) (acts : ActLog) → Scheduled plan.now steps ran.old.refused before kept.old ws watches.old (O.tells operator.old) acts (O.log operator.old) → Scheduled plan.now (steps ++ step.now ∷ []) ran.new.refused before kept.new ws watches.new (O.tells operator.new) acts (O.log operator.new)) }
+    ensures unchanged { OnErr result ((kept.new ≡ kept.old) × (shares.new ≡ shares.old) × (watches.new ≡ watches.old) × (ports.new ≡ ports.old)) }
+    ensures acted { O.tells operator.new ≡ true → OnErr result (ActedAtMostOnce (O.log operator.old) (O.log operator.new)) }
+{
+    match *step {
+        Step::Turn(machine, reading) => {
+            let watch = watches.pick(machine);
+            let port = ports.pick(machine);
+            let entries = ran.machines.pick(machine);
+            let refused = match take_turn(
+                machine, reading, port, kept, shares, watch, entries, plan,
+            ) {
+                Ok(refused) => refused,
+                Err(error) => return Err(error),
+            };
+            ran.refused += refused as usize;
+            Ok(())
+        }
+        Step::Hand(entry) => match hand(entry, operator, kept, shares, &mut ran.operator) {
+            Ok(_) => Ok(()),
+            Err(error) => Err(error),
+        },
+    }
+}
+
+fn no_entries(alloc: Global) -> Six<Vec<Entry>>
+    ensures { (m : MachineValue) → (at result m).items ≡ [] }
+{
+    Six {
+        feed: Vec::new(alloc),
+        table: Vec::new(alloc),
+        robot: Vec::new(alloc),
+        press1: Vec::new(alloc),
+        press2: Vec::new(alloc),
+        deposit: Vec::new(alloc),
+    }
+}
+
+/// Takes the steps, one after another, on this thread. The readings of turns come from the steps, and commands go to the
+/// ports. A turn that answers `Refused` does nothing but count. An entry by hand that isn't the operator's, that the book
+/// refuses, or whose act by hand fails, does nothing.
+///
+/// `OutOfMemory` comes where a list can't take one more entry, or the book can't for a plate in quarantine. The steps
+/// before stand; the operator's act by hand may have been done without its entry.
+pub fn run_schedule<P: Port, O: OperatorPort, R: Run>(
+    alloc: Global,
+    steps: &[Step],
+    ports: &mut Ports<P>,
+    operator: &mut O,
+    kept: &mut Kept<R>,
+    shares: &mut Shares<R>,
+    watches: &mut Watches,
+    plan: &Plan,
+) -> Result<Ran, OutOfMemory>
+    requires { (m : MachineValue) → machine_of_watch (at watches.old m) ≡ m }
+    ensures machines { (m : MachineValue) → machine_of_watch (at watches.new m) ≡ m }
+    ensures grown { IfOk result (λ ran. Grown kept.old kept.new shares.old shares.new (map_six (λ v. v.items) ran.machines) ran.operator.items) }
+    ensures sent { IfOk result (λ ran. AllSent P.tells P.log ports.old ports.new watches.old watches.new (map_six (λ v. v.items) ran.machines)) }
+    ensures did { IfOk result (λ ran. O.tells operator.new ≡ true → Did (O.log operator.old) (O.log operator.new) ran.operator.items) }
+    ensures scheduled { IfOk result (λ ran. Scheduled plan.now steps.now ran.refused kept.old kept.new watches.old watches.new (O.tells operator.new) (O.log operator.old) (O.log operator.new)) }
+    ensures legal { OnOk result (legal kept.new.limits kept.new.entries ≡ true) }
+    ensures stopped { OnErr result (Stopped P.tells P.log plan.now steps.now ports.old ports.new kept.old kept.new shares.old shares.new watches.old watches.new (O.tells operator.new) (O.log operator.old) (O.log operator.new)) }
+{
+    let mut ran = Ran {
+        machines: no_entries(alloc),
+        operator: Vec::new(alloc),
+        refused: 0,
+    };
+    for step in steps {
+        let taken = take_step(step, &mut ran, ports, operator, kept, shares, watches, plan);
+        if let Err(error) = taken {
+            return Err(error);
+        }
+    }
+    kept.is_lawful();
+    Ok(ran)
+}

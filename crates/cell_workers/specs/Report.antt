@@ -1,0 +1,50 @@
+-- What a run reports
+use Rattle.std.specs.Prelude.{◌≡◌, List, [], ◌∷◌, true}
+use Rattle.cell_types.specs.declared.words.Machine.TheVariants as machine
+use Rattle.cell_types.specs.declared.words.Actor.{Actor}
+use Rattle.cell_types.specs.declared.words.Actor.TheVariants as actor
+use Rattle.cell_types.specs.declared.words.Entry.{Entry}
+use Rattle.cell_types.specs.declared.words.Totals.{Totals}
+use Rattle.cell_views.specs.Views.{count_of}
+use Rattle.plate_book.specs.declared.limits.Limits.{Limits}
+use Rattle.plate_book.specs.Legal.{legal}
+use Rattle.plate_book.specs.Safety.{IsSafe}
+use Rattle.cell_ledger.specs.Counts.{nothing, plus}
+use Rattle.cell_turns.specs.Schedules.{entries_of}
+use Rattle.cell_workers.specs.Standing.{all_called_for}
+
+-- the workers, in their order
+abbrev pub workers : List Actor
+workers =
+    actor.Machine machine.Feed ∷ actor.Machine machine.Table ∷ actor.Machine machine.Robot ∷ actor.Machine machine.Press1
+    ∷ actor.Machine machine.Press2 ∷ actor.Machine machine.Deposit ∷ actor.Operator ∷ []
+
+-- each worker's list is its entries in the journal, and its counts are the list's
+abbrev pub AreTheirs : List Actor → List Entry → List (List Entry × Totals) → Type 0
+AreTheirs [] J [] = Unit {0}
+AreTheirs (a ∷ rest) J (w ∷ ws) = (w.0 ≡ entries_of a J) × (w.1 ≡ count_of w.0) × AreTheirs rest J ws
+AreTheirs _ J _ = ⊥
+
+-- seven lists are the workers' entries in the journal
+pub record AreAllOf (J feed table robot press1 press2 deposit operator : List Entry) : Type 0 where
+  pub feed_is : feed ≡ entries_of (actor.Machine machine.Feed) J
+  pub table_is : table ≡ entries_of (actor.Machine machine.Table) J
+  pub robot_is : robot ≡ entries_of (actor.Machine machine.Robot) J
+  pub press1_is : press1 ≡ entries_of (actor.Machine machine.Press1) J
+  pub press2_is : press2 ≡ entries_of (actor.Machine machine.Press2) J
+  pub deposit_is : deposit ≡ entries_of (actor.Machine machine.Deposit) J
+  pub operator_is : operator ≡ entries_of actor.Operator J
+
+-- the counts of all, added up
+abbrev pub sum_counts : List (List Entry × Totals) → Totals
+sum_counts [] = nothing
+sum_counts (w ∷ ws) = plus w.1 (sum_counts ws)
+
+-- a journal that is legal, safe and useful where a machine set out, its totals, and what each worker did
+pub record IsReport (l : Limits) (J : List Entry) (totals : Totals) (ws : List (List Entry × Totals)) : Type 0 where
+  pub legal : legal l J ≡ true
+  pub safe : IsSafe J
+  pub useful : all_called_for l J ≡ true
+  pub counted : totals ≡ count_of J
+  pub lists : AreTheirs workers J ws
+  pub sum : sum_counts ws ≡ totals

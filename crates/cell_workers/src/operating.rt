@@ -1,0 +1,241 @@
+//! The operator's worker.
+ghost use Rattle.std.specs.Prelude.{◌≡◌, ◌≢◌, ◌++◌, ◌∷◌, [], true, IfOk, OnOk, OnErr, IfSome, IfNone, All, Some};
+ghost use Rattle.cell_types.specs.Entries.{actor_of};
+ghost use Rattle.cell_types.specs.declared.words.Actor.TheVariants as actors;
+ghost use Rattle.cell_views.specs.Views.{count_of};
+ghost use Rattle.cell_ledger.specs.Counts.{plus, count_one};
+ghost use Rattle.cell_ledger.specs.Held.{Held, held};
+ghost use Rattle.cell_turns.specs.Logs.{ActLog};
+ghost use Rattle.cell_turns.specs.Acts.{Did, DidMore};
+ghost use Rattle.cell_workers.specs.Working.{Serves};
+
+use crate::hall::{End, Ended, Hall, Room};
+use cell_turns::hands::{act_of, do_by_hand};
+use crate::working::{Worked, finish, lose};
+use crate::{OperatorPort, Plan};
+use cell_ledger::{Run, Shares};
+use cell_types::Entry;
+use operator_desk::{Script, entry_of};
+use plate_book::Refusal;
+use std::alloc::Global;
+use std::sync::Wait;
+
+/// The operator's place among the workers.
+const OPERATOR: usize = 6;
+
+/// What the operator's worker holds.
+#[derive(Drop)]
+pub struct Board<R: Run> {
+    pub entries: Vec<Entry>,
+    pub shares: Shares<R>,
+}
+
+impl<R: Run> Hall<R> {
+    /// Books an entry of the operator and lists it. A refusal ends his worker, as `Memory` or `Full` with the run, or for
+    /// any other refusal as `PortLost`.
+    fn take(&mut self, board: &mut Board<R>, entry: Entry) -> Result<(), Ended>
+        requires { actor_of entry ≡ actors.Operator }
+        ensures entries { OnOk result (board.new.entries.items ≡ board.old.entries.items ++ entry ∷ []) }
+        ensures shares { OnOk result (board.new.shares ≡ held board.old.shares.parts (plus board.old.shares.counts (count_one entry))) }
+        ensures unchanged { OnErr result ((board.new.entries.items ≡ board.old.entries.items) × (board.new.shares ≡ board.old.shares)) }
+        ensures ended { result ≢ Err Ended.Told }
+    {
+        if board.entries.reserve(1).is_err() {
+            self.finish(End::Memory);
+            return Err(Ended::Memory);
+        }
+        let booked = entry;
+        match self.book(&mut board.shares, entry) {
+            Ok(()) => {
+                board.entries.push_reserved(booked);
+                Ok(())
+            }
+            Err(Refusal::JournalFull) => {
+                self.finish(End::Full);
+                Err(Ended::Full)
+            }
+            Err(Refusal::OutOfMemory) => {
+                self.finish(End::Memory);
+                Err(Ended::Memory)
+            }
+            Err(_) => Err(Ended::PortLost),
+        }
+    }
+}
+
+/// Takes the lock and asks the script. It answers the next entry, if it wants an act by hand; one that wants none, a stop, is
+/// booked at once. Where there is nothing to do he waits until the journal is longer or an end is set.
+fn choose<R: Run, W: Wait>(
+    rt: &W,
+    room: &Room<R>,
+    board: &mut Board<R>,
+    script: &mut Script,
+    plan: &Plan,
+) -> Result<Option<Entry>, Ended>
+    ensures his { IfOk result (λ o. IfSome o (λ e. actor_of e ≡ actors.Operator)) }
+    ensures serves { (start : Held) → Serves actors.Operator start board.old.entries.items board.old.shares → Serves actors.Operator start board.new.entries.items board.new.shares }
+    ensures did { (before now : ActLog) → Did before now board.old.entries.items → Did before now board.new.entries.items }
+{
+    let mut hall = room.hall.lock(rt);
+    if hall.end.is_some() {
+        return Err(Ended::Told);
+    }
+    let Some(action) = script.next(hall.kept.book()) else {
+        hall.rest(OPERATOR, plan);
+        if hall.end.is_some() {
+            room.moved.notify_all();
+        }
+        let seen = hall.kept.book().journal().len();
+        let hall = room.moved.wait_while(rt, hall, |h| {
+            h.kept.book().journal().len() == seen && h.end.is_none()
+        });
+        drop(hall);
+        return Ok(None);
+    };
+    let entry = entry_of(action);
+    if act_of(&entry).is_some() {
+        return Ok(Some(entry));
+    }
+    let taken = hall.take(board, entry);
+    drop(hall);
+    room.moved.notify_all();
+    match taken {
+        Ok(()) => {
+            script.done();
+            Ok(None)
+        }
+        Err(ended) => Err(ended),
+    }
+}
+
+/// Takes the lock and books an entry whose act by hand is done.
+fn locked_booking<R: Run, W: Wait>(
+    rt: &W,
+    room: &Room<R>,
+    board: &mut Board<R>,
+    entry: Entry,
+) -> Result<(), Ended>
+    requires { actor_of entry ≡ actors.Operator }
+    ensures entries { OnOk result (board.new.entries.items ≡ board.old.entries.items ++ entry ∷ []) }
+    ensures shares { OnOk result (board.new.shares ≡ held board.old.shares.parts (plus board.old.shares.counts (count_one entry))) }
+    ensures unchanged { OnErr result ((board.new.entries.items ≡ board.old.entries.items) × (board.new.shares ≡ board.old.shares)) }
+    ensures ended { result ≢ Err Ended.Told }
+{
+    let taken = room.hall.lock(rt).take(board, entry);
+    room.moved.notify_all();
+    taken
+}
+
+/// Does by hand what an entry wants, without the lock, and books it. The list's place is reserved before the act.
+fn hand_over<O: OperatorPort, R: Run, W: Wait>(
+    rt: &W,
+    operator: &mut O,
+    room: &Room<R>,
+    board: &mut Board<R>,
+    entry: Entry,
+) -> Result<(), Ended>
+    requires { actor_of entry ≡ actors.Operator }
+    ensures still { O.tells operator.new ≡ true → O.tells operator.old ≡ true }
+    ensures entries { OnOk result (board.new.entries.items ≡ board.old.entries.items ++ entry ∷ []) }
+    ensures shares { OnOk result (board.new.shares ≡ held board.old.shares.parts (plus board.old.shares.counts (count_one entry))) }
+    ensures done { OnOk result (O.tells operator.new ≡ true → Did (O.log operator.old) (O.log operator.new) (entry ∷ [])) }
+    ensures unchanged { OnErr result ((board.new.entries.items ≡ board.old.entries.items) × (board.new.shares ≡ board.old.shares)) }
+    ensures more { OnErr result (O.tells operator.new ≡ true → DidMore (O.log operator.old) (O.log operator.new) []) }
+    ensures ended { result ≢ Err Ended.Told }
+{
+    if board.entries.reserve(1).is_err() {
+        finish(rt, room, End::Memory);
+        return Err(Ended::Memory);
+    }
+    let Ok(()) = do_by_hand(operator, &entry) else {
+        return Err(Ended::PortLost);
+    };
+    match locked_booking(rt, room, board, entry) {
+        Ok(()) => Ok(()),
+        Err(ended) => Err(ended),
+    }
+}
+
+/// Does what the script says next. It answers why the worker ends, if it does.
+fn operate<O: OperatorPort, R: Run, W: Wait>(
+    rt: &W,
+    operator: &mut O,
+    room: &Room<R>,
+    board: &mut Board<R>,
+    script: &mut Script,
+    plan: &Plan,
+) -> Option<Ended>
+    ensures still { O.tells operator.new ≡ true → O.tells operator.old ≡ true }
+    ensures serves { (start : Held) → Serves actors.Operator start board.old.entries.items board.old.shares → Serves actors.Operator start board.new.entries.items board.new.shares }
+    ensures did { IfNone result (O.tells operator.new ≡ true → (before : ActLog) → Did before (O.log operator.old) board.old.entries.items → Did before (O.log operator.new) board.new.entries.items) }
+    ensures more { O.tells operator.new ≡ true → (before : ActLog) → Did before (O.log operator.old) board.old.entries.items → DidMore before (O.log operator.new) board.new.entries.items }
+    ensures told { result ≡ Some Ended.Told → O.tells operator.new ≡ true → (before : ActLog) → Did before (O.log operator.old) board.old.entries.items → Did before (O.log operator.new) board.new.entries.items }
+{
+    let entry = match choose(rt, room, board, script, plan) {
+        Ok(Some(entry)) => entry,
+        Ok(None) => return None,
+        Err(ended) => return Some(ended),
+    };
+    match hand_over(rt, operator, room, board, entry) {
+        Ok(()) => {
+            script.done();
+            None
+        }
+        Err(ended) => Some(ended),
+    }
+}
+
+/// Follows the script until an end.
+fn operate_all<O: OperatorPort, R: Run, W: Wait>(
+    rt: &W,
+    operator: &mut O,
+    room: &Room<R>,
+    board: &mut Board<R>,
+    script: &mut Script,
+    plan: &Plan,
+) -> Ended
+    ensures still { O.tells operator.new ≡ true → O.tells operator.old ≡ true }
+    ensures serves { (start : Held) → Serves actors.Operator start board.old.entries.items board.old.shares → Serves actors.Operator start board.new.entries.items board.new.shares }
+    ensures more { O.tells operator.new ≡ true → (before : ActLog) → Did before (O.log operator.old) board.old.entries.items → DidMore before (O.log operator.new) board.new.entries.items }
+    ensures told { result ≡ Ended.Told → O.tells operator.new ≡ true → (before : ActLog) → Did before (O.log operator.old) board.old.entries.items → Did before (O.log operator.new) board.new.entries.items }
+{
+    for _ in rt.forever() {
+        if let Some(ended) = operate(rt, operator, room, board, script, plan) {
+            return ended;
+        }
+    }
+    unreachable!()
+}
+
+/// The operator's worker: it follows the script until an end. What an entry wants done by hand is done without the lock,
+/// before it is booked.
+pub fn run_operator<O: OperatorPort, R: Run, W: Wait>(
+    rt: &W,
+    alloc: Global,
+    operator: &mut O,
+    mut script: Script,
+    room: &Room<R>,
+    shares: Shares<R>,
+    plan: &Plan,
+) -> Worked<R>
+    ensures actor { All (λ e. actor_of e ≡ actors.Operator) result.entries.items }
+    ensures counts { result.shares ≡ held shares.parts (plus shares.counts (count_of result.entries.items)) }
+    ensures still { O.tells operator.new ≡ true → O.tells operator.old ≡ true }
+    ensures did { O.tells operator.new ≡ true → DidMore (O.log operator.old) (O.log operator.new) result.entries.items }
+    ensures told { result.ended ≡ Ended.Told → O.tells operator.new ≡ true → Did (O.log operator.old) (O.log operator.new) result.entries.items }
+{
+    let mut board = Board {
+        entries: Vec::new(alloc),
+        shares,
+    };
+    let ended = operate_all(rt, operator, room, &mut board, &mut script, plan);
+    if ended == Ended::PortLost {
+        lose(rt, room, OPERATOR, plan);
+    }
+    let Board { entries, shares } = board;
+    Worked {
+        entries,
+        shares,
+        ended,
+    }
+}

@@ -1,0 +1,297 @@
+//! A whole run, and what it reports.
+ghost use Rattle.std.specs.Prelude.{◌≡◌, ◌≤◌, ◌++◌, ◌∷◌, [], true, length, take, map, IfOk, IfSome, IsTrue};
+ghost use Rattle.cell_types.specs.Entries.{actor_of};
+ghost use Rattle.cell_types.specs.Same.{same_machine};
+ghost use Rattle.cell_ledger.specs.Held.{held};
+ghost use Rattle.cell_turns.specs.Schedules.{same_actor, entries_of};
+ghost use Rattle.cell_workers.specs.Standing.{all_called_for};
+ghost use Rattle.cell_workers.specs.Report.{IsReport, AreAllOf};
+
+use crate::hall::{End, Hall, Room};
+use crate::team::{Crew, Done, Lent, Team, crew_of, lend, run_team};
+use crate::{OperatorPort, Plan, Port, Ports, Six};
+use cell_journal::Journal;
+use cell_ledger::{Blanks, Kept, Run};
+use cell_types::same::is_entry;
+use cell_types::{Actor, Entry, Machine, Totals, actor_of};
+use operator_desk::Script;
+use plate_book::Book;
+use std::alloc::Global;
+use std::marker::Brand;
+use std::sync::{Condvar, Mutex, Wait};
+use std::thread::Threads;
+
+/// Why there is no report.
+#[derive(Clone, Copy, PartialEq, Eq, Debug)]
+pub enum RunError {
+    /// Memory was refused before the workers began.
+    OutOfMemory,
+    /// A thread was refused. The workers that had begun have ended.
+    ThreadRefused,
+    /// Some actor's entries in the journal aren't that worker's list.
+    JournalDisagrees,
+}
+
+/// What a run did.
+#[derive(Drop)]
+pub struct Report {
+    pub journal: Journal,
+    pub totals: Totals,
+    /// For each worker, the machines in their order and then the operator, its entries and what they count.
+    pub workers: [(Vec<Entry>, Totals); 7],
+    pub end: End,
+}
+
+fn is_same_machine(some: Machine, other: Machine) -> bool
+    ensures { result ≡ same_machine some other }
+{
+    some == other
+}
+
+fn is_of(actor: Actor, entry: &Entry) -> bool
+    ensures { result ≡ same_actor actor (actor_of entry.now) }
+{
+    match actor {
+        Actor::Machine(machine) => match actor_of(*entry) {
+            Actor::Machine(other) => is_same_machine(machine, other),
+            Actor::Operator => false,
+        },
+        Actor::Operator => match actor_of(*entry) {
+            Actor::Machine(_) => false,
+            Actor::Operator => true,
+        },
+    }
+}
+
+/// The place in a list after an entry of the journal: the next one where the entry is the actor's, and stands there; the same
+/// where it is another's.
+fn place_after(entries: &[Entry], k: usize, actor: Actor, entry: &Entry) -> Option<usize>
+    requires { k ≤ length entries.now }
+    ensures within { IfSome result (λ n. n ≤ length entries.now) }
+    ensures same { IfSome result (λ n. take n entries.now ≡ take k entries.now ++ entries_of actor (entry.now ∷ [])) }
+{
+    if !is_of(actor, entry) {
+        return Some(k);
+    }
+    let next = entries.get(k)?;
+    if is_entry(next, entry) {
+        Some(k + 1)
+    } else {
+        None
+    }
+}
+
+/// Whether these are the actor's entries of the journal.
+fn agrees(journal: &[Entry], actor: Actor, entries: &[Entry]) -> bool
+    ensures { IsTrue result → entries.now ≡ entries_of actor journal.now }
+{
+    let mut k = 0;
+    for e in journal {
+        k = match place_after(entries, k, actor, e) {
+            Some(next) => next,
+            None => return false,
+        };
+    }
+    k == entries.len()
+}
+
+/// Whether each worker's list is its actor's entries of the journal.
+fn all_agree(
+    journal: &[Entry],
+    feed: &[Entry],
+    table: &[Entry],
+    robot: &[Entry],
+    press1: &[Entry],
+    press2: &[Entry],
+    deposit: &[Entry],
+    operator: &[Entry],
+) -> bool
+    ensures { result ≡ true → AreAllOf journal.now feed.now table.now robot.now press1.now press2.now deposit.now operator.now }
+{
+    agrees(journal, Actor::Machine(Machine::Feed), feed)
+        && agrees(journal, Actor::Machine(Machine::Table), table)
+        && agrees(journal, Actor::Machine(Machine::Robot), robot)
+        && agrees(journal, Actor::Machine(Machine::Press1), press1)
+        && agrees(journal, Actor::Machine(Machine::Press2), press2)
+        && agrees(journal, Actor::Machine(Machine::Deposit), deposit)
+        && agrees(journal, Actor::Operator, operator)
+}
+
+/// What the workers bring back, against the journal.
+fn settle<R: Run>(hall: Hall<R>, team: Team<R>) -> Result<Report, RunError>
+    requires { R.parts ≡ 7 }
+    ensures { IfOk result (λ r. IsReport R.limits r.journal.entries r.totals (map (λ w. (w.0.items, w.1)) r.workers)) }
+{
+    let Hall {
+        mut kept,
+        idle: _,
+        lost: _,
+        end,
+    } = hall;
+    let Team { machines, operator } = team;
+    let Six {
+        feed,
+        table,
+        robot,
+        press1,
+        press2,
+        deposit,
+    } = machines;
+    let Done {
+        entries: feed,
+        shares: feed_shares,
+    } = feed;
+    let Done {
+        entries: table,
+        shares: table_shares,
+    } = table;
+    let Done {
+        entries: robot,
+        shares: robot_shares,
+    } = robot;
+    let Done {
+        entries: press1,
+        shares: press1_shares,
+    } = press1;
+    let Done {
+        entries: press2,
+        shares: press2_shares,
+    } = press2;
+    let Done {
+        entries: deposit,
+        shares: deposit_shares,
+    } = deposit;
+    let Done {
+        entries: operator,
+        shares: operator_shares,
+    } = operator;
+    let counts = [
+        feed_shares.counts(),
+        table_shares.counts(),
+        robot_shares.counts(),
+        press1_shares.counts(),
+        press2_shares.counts(),
+        deposit_shares.counts(),
+        operator_shares.counts(),
+    ];
+    let all = kept.gather(deposit_shares, operator_shares);
+    let all = kept.gather(press2_shares, all);
+    let all = kept.gather(press1_shares, all);
+    let all = kept.gather(robot_shares, all);
+    let all = kept.gather(table_shares, all);
+    let mut all = kept.gather(feed_shares, all);
+    kept.audit(&mut all);
+    kept.is_lawful();
+    let totals = all.counts();
+    let journal = kept.into_book().into_journal();
+    let entries = journal.entries();
+    let same = all_agree(
+        entries,
+        feed.as_slice(),
+        table.as_slice(),
+        robot.as_slice(),
+        press1.as_slice(),
+        press2.as_slice(),
+        deposit.as_slice(),
+        operator.as_slice(),
+    );
+    if !same {
+        return Err(RunError::JournalDisagrees);
+    }
+    let [c0, c1, c2, c3, c4, c5, c6] = counts;
+    Ok(Report {
+        journal,
+        totals,
+        workers: [
+            (feed, c0),
+            (table, c1),
+            (robot, c2),
+            (press1, c3),
+            (press2, c4),
+            (deposit, c5),
+            (operator, c6),
+        ],
+        end: end.unwrap_or(End::Stalled),
+    })
+}
+
+fn open_room<R: Run>(kept: Kept<R>) -> Room<R>
+    requires { all_called_for kept.limits kept.entries ≡ true }
+{
+    Room {
+        hall: Mutex::new(Hall {
+            kept,
+            idle: [false; 7],
+            lost: [false; 7],
+            end: None,
+        }),
+        moved: Condvar::new(),
+    }
+}
+
+/// A run over these ledgers.
+fn run_over<R: Run + Send + Sync, P: Port + Send, O: OperatorPort + Send, W: Threads + Wait + Sync>(
+    rt: &W,
+    alloc: Global,
+    book: Book,
+    blanks: Blanks,
+    ports: &mut Ports<P>,
+    operator: &mut O,
+    script: Script,
+    plan: &Plan,
+) -> Result<Report, RunError>
+    requires parts { R.parts ≡ 7 }
+    requires limits { book.limits ≡ R.limits }
+    requires empty { book.entries ≡ [] }
+    requires entries { (blanks.entries.name ≡ R.entries_name) × (blanks.entries.parts ≡ R.parts) }
+    requires admitted { (blanks.admitted.name ≡ R.admitted_name) × (blanks.admitted.parts ≡ R.parts) }
+    requires forged { (blanks.forged.name ≡ R.forged_name) × (blanks.forged.parts ≡ R.parts) }
+    requires quarantined { (blanks.quarantined.name ≡ R.quarantined_name) × (blanks.quarantined.parts ≡ R.parts) }
+    requires delivered { (blanks.delivered.name ≡ R.delivered_name) × (blanks.delivered.parts ≡ R.parts) }
+    ensures { IfOk result (λ r. IsReport R.limits r.journal.entries r.totals (map (λ w. (w.0.items, w.1)) r.workers)) }
+{
+    let (kept, all) = Kept::<R>::new(book, blanks);
+    let crew = crew_of(all);
+    let room = open_room(kept);
+    let team = run_team(
+        rt,
+        alloc,
+        &room,
+        crew,
+        lend(ports),
+        Lent(operator),
+        script,
+        plan,
+    );
+    let Some(team) = team else {
+        return Err(RunError::ThreadRefused);
+    };
+    let Room { hall, moved: _ } = room;
+    settle(hall.into_inner(), team)
+}
+
+/// Runs the cell: seven workers, the six machines' and the operator's, each on a thread of its own, over an empty book.
+pub fn run_cell<P: Port + Send, O: OperatorPort + Send, W: Threads + Wait + Sync>(
+    rt: &W,
+    alloc: Global,
+    ports: &mut Ports<P>,
+    operator: &mut O,
+    script: Script,
+    plan: &Plan,
+) -> Result<Report, RunError>
+    ensures { IfOk result (λ r. IsReport (record { entries = plan.now.journal_limit; plates = plan.now.plates }) r.journal.entries r.totals (map (λ w. (w.0.items, w.1)) r.workers)) }
+{
+    let Ok(book) = Book::new(alloc, plan.journal_limit, plan.plates) else {
+        return Err(RunError::OutOfMemory);
+    };
+    run_over::<Brand, P, O, W>(
+        rt,
+        alloc,
+        book,
+        Blanks::new(7),
+        ports,
+        operator,
+        script,
+        plan,
+    )
+}
