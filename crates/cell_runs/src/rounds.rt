@@ -8,7 +8,10 @@ ghost use Rattle.cell_workers.specs.declared.ends.End.TheVariants as end;
 
 use cell_ledger::{Blanks, Kept, Run, Shares};
 use cell_types::Machine;
-use cell_workers::{End, OperatorPort, Plan, Port, Ports, Six, Step, Watch, Watches, end_at_rest, is_idle, run_schedule};
+use cell_workers::{
+    End, OperatorPort, Plan, Port, Ports, Six, Step, Watch, Watches, end_at_rest, is_idle,
+    run_schedule,
+};
 use operator_desk::{Script, entry_of};
 use plate_book::Book;
 use std::alloc::Global;

@@ -4,11 +4,11 @@
 mod command;
 mod order;
 
-use clap::Error;
-use clap::error::ErrorKind;
 use cell_lines::{WriteFault, audit_lines};
 use cell_runs::run_texts;
 use cell_settings::check_lines;
+use clap::Error;
+use clap::error::ErrorKind;
 use order::{Order, Paths, read_words};
 use std::env::Env;
 use std::io::Write;

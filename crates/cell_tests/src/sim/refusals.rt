@@ -63,12 +63,14 @@ fn tells_scripts_that_are_too_long(rt: HostRuntime) -> Result<(), Fail> {
 fn a_failed_write_is_told(rt: HostRuntime) {
     let lines = b"finished\nadmitted 1\nforged 1\nquarantined 0\ndelivered 1\n".len();
     for left in 0..lines + 1 {
-        let answer = run_texts(&rt, GOOD, b"", b"", false, false, &mut Full::new(rt.alloc(), left));
+        let mut writer = Full::new(rt.alloc(), left);
+        let answer = run_texts(&rt, GOOD, b"", b"", false, false, &mut writer);
         let wanted = if left < lines { Err(WriteFault) } else { Ok(0) };
         assert_eq!(rt; answer, wanted, "after {left} bytes");
     }
     for left in 0..40usize {
-        let answer = run_texts(&rt, GOOD, b"", b"", false, true, &mut Full::new(rt.alloc(), left));
+        let mut writer = Full::new(rt.alloc(), left);
+        let answer = run_texts(&rt, GOOD, b"", b"", false, true, &mut writer);
         assert_eq!(rt; answer, Err(WriteFault), "after {left} bytes");
     }
 }
