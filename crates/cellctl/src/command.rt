@@ -85,7 +85,7 @@ Runs the simulated cell with each machine's worker and the operator's on a threa
 done in it. It reads the three files of the command sim, and prints the same lines, or the same of a text that is refused.
 
 Which worker acts first isn't determined, so two runs by the same files may print different journals. Where the operator \
-stops machines, or an end other than finished is met, the totals may differ too. The line
+stops a machine, or the end is turn limit or full, what is counted may differ too. The line
   journal disagrees
 says that some worker's list of what it booked isn't what the journal has of it.
 
