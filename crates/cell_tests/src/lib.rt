@@ -1,5 +1,5 @@
 //! The tests of the crates above the plate book, `cell_policy`, `cell_machines`, `cell_ledger`, `cell_audit`, `cell_lines`,
-//! `cell_settings` and `operator_desk`, and of `cell_rows`. There is nothing here but tests.
+//! `cell_settings`, `operator_desk` and `cell_runs`, and of `cell_rows`. There is nothing here but tests.
 #![tactic(auto)]
 
 #[cfg(test)]
@@ -22,6 +22,8 @@ mod policy;
 mod rows;
 #[cfg(test)]
 mod settings;
+#[cfg(test)]
+mod sim;
 #[cfg(test)]
 mod streams;
 #[cfg(test)]
