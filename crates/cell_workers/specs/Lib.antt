@@ -1,5 +1,7 @@
+pub mod Ends
 pub mod Evidence
 pub mod Traces
 pub mod Standing
 pub mod Working
+pub mod Operating
 pub mod Report

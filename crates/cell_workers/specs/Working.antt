@@ -1,5 +1,5 @@
 -- What one worker does, turn by turn
-use Rattle.std.specs.Prelude.{ℕ, ◌+◌, ◌≡◌, ◌≤◌, ◌&&◌, Bool, false, Option, List, [], ◌∷◌, ◌++◌, length, All, IfSome, is_none, option_to_list, if◌then◌else◌}
+use Rattle.std.specs.Prelude.{ℕ, ◌+◌, ◌≡◌, ◌≤◌, ◌&&◌, Bool, false, Option, Some, List, [], ◌∷◌, ◌++◌, length, All, IfSome, is_none, option_to_list, if◌then◌else◌}
 use Rattle.cell_types.specs.declared.words.Machine.{Machine}
 use Rattle.cell_types.specs.declared.words.Actor.{Actor}
 use Rattle.cell_types.specs.declared.words.Actor.TheVariants as actor
@@ -15,6 +15,7 @@ use Rattle.cell_turns.specs.declared.watch.Watch.{Watch}
 use Rattle.cell_turns.specs.Logs.{Log}
 use Rattle.cell_turns.specs.Sent.{is_command_fault, fails_before, sent_for, command_faults, one_where}
 use Rattle.cell_turns.specs.Minds.{has_failed_command}
+use Rattle.cell_workers.specs.declared.ends.End.{End}
 use Rattle.cell_workers.specs.Evidence.{Backed, Backs}
 use Rattle.cell_workers.specs.Traces.{Saw}
 
@@ -64,3 +65,7 @@ pub record Evidence (p : Plan) (before now : Log) (es : List Entry) : Type 0 whe
   pub are : now.answers ≡ before.answers ++ got
   pub backs : Backs p got es
   pub short : length es ≤ length got
+
+-- the end that was set first stands
+abbrev pub Stands : Option End → Option End → Type 0
+Stands before after = IfSome before (λ e. after ≡ Some e)

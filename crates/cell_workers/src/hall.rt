@@ -1,5 +1,5 @@
-//! What the workers of a run share.
-ghost use Rattle.std.specs.Prelude.{◌≡◌, ◌≢◌, ◌<◌, ◌++◌, ◌∷◌, [], List, true, false, Option, IfOk, IfSome, OnOk, OnErr, option_to_list};
+//! What the workers of a run share under one lock.
+ghost use Rattle.std.specs.Prelude.{◌≡◌, ◌≢◌, ◌<◌, ◌++◌, ◌∷◌, [], List, true, false, None, Some, Option, IfOk, IfSome, OnOk, OnErr, option_to_list};
 ghost use Rattle.cell_types.specs.Entries.{actor_of};
 ghost use Rattle.cell_types.specs.declared.words.Actor.TheVariants as actors;
 ghost use Rattle.cell_views.specs.Views.{count_of};
@@ -7,31 +7,16 @@ ghost use Rattle.cell_ledger.specs.Counts.{plus, count_one};
 ghost use Rattle.cell_ledger.specs.Held.{held};
 ghost use Rattle.cell_turns.specs.Minds.{machine_of_watch};
 ghost use Rattle.cell_workers.specs.Standing.{all_called_for};
-ghost use Rattle.cell_workers.specs.Working.{Served};
+ghost use Rattle.cell_workers.specs.Working.{Served, Stands};
 
-use cell_turns::moving::motion_of_machine;
-use cell_turns::turns::{TurnError, book_turn};
-use crate::{Plan, Watch};
+use crate::ends::{End, end_at_rest, is_idle};
 use cell_diagnosis::Reading;
 use cell_ledger::{Kept, Run, Shares};
-use cell_types::{Belt, Colour, Entry, Machine};
-use plate_book::{Book, Refusal};
+use cell_turns::turns::{TurnError, book_turn};
+use cell_turns::{Plan, Watch};
+use cell_types::{Entry, Machine};
+use plate_book::Refusal;
 use std::sync::{Condvar, Mutex};
-
-/// How a run ended.
-#[derive(Clone, Copy, PartialEq, Eq, Debug)]
-pub enum End {
-    /// All plates were admitted, and none is left at a station.
-    Finished,
-    /// All workers are idle, and the run isn't finished.
-    Stalled,
-    /// A machine's worker has made all its turns.
-    TurnLimit,
-    /// A worker was refused memory, or a thread.
-    Memory,
-    /// The journal is full, or the plates' numbers have run out.
-    Full,
-}
 
 /// Why a worker ended.
 #[derive(Clone, Copy, PartialEq, Eq, Debug)]
@@ -42,17 +27,18 @@ pub enum Ended {
     Turns,
     /// It was refused memory.
     Memory,
-    /// The journal is full, or the plates' numbers have run out.
+    /// The journal is full, or no further plate has a number.
     Full,
-    /// Its port failed where nothing more can be done.
+    /// Its port failed where nothing more can be done, or the operator's booking was refused.
     PortLost,
 }
 
-/// What lies under the lock of a run: its book, and who is idle. Each entry of the journal by which a machine set out to do
-/// something was useful where it stands. The workers are the machines in their order, and then the operator.
+/// What lies under the lock of a run: its book, and who has nothing to do. Each entry of the journal by which a machine set
+/// out to do something, `Claimed`, `Yielded`, `Started`, `Gripped` or `Dropped`, was useful for it where it stands. The
+/// workers are the machines in their order, and then the operator.
 #[derive(Drop)]
 pub struct Hall<R: Run> {
-    /// The run's book.
+    /// The run's book, tied to the run's ledgers.
     pub kept: Kept<R>,
     /// Who has nothing to do as the journal is.
     pub idle: [bool; 7],
@@ -63,46 +49,19 @@ pub struct Hall<R: Run> {
     pub ghost useful: { all_called_for kept.limits kept.entries ≡ true },
 }
 
-/// The hall with its lock, and what idle workers wait on.
+/// The hall with its lock, and what idle workers wait on until the journal is longer or an end is set.
 #[derive(Drop)]
 pub struct Room<R: Run> {
     pub hall: Mutex<Hall<R>>,
     pub moved: Condvar,
 }
 
-/// What a machine's worker holds.
+/// What a machine's worker holds: its entries, its shares, which count them, and the machine's watch.
 #[derive(Drop)]
-pub struct Hand<R: Run> {
+pub struct Worker<R: Run> {
     pub entries: Vec<Entry>,
     pub shares: Shares<R>,
     pub watch: Watch,
-}
-
-/// Whether the light of a machine is green.
-fn is_lit(machine: Machine, book: &Book) -> bool {
-    match machine {
-        Machine::Feed => book.lamp(Belt::Feed) == Colour::Green,
-        Machine::Deposit => book.lamp(Belt::Deposit) == Colour::Green,
-        _ => false,
-    }
-}
-
-/// Whether a machine whose turn booked nothing is idle: it is booked failed, or none of its axes moves, its light isn't
-/// green, its last reading was present and agreed, and no sign is open.
-fn is_idle(machine: Machine, book: &Book, watch: &Watch, plan: &Plan) -> bool {
-    book.failed(machine)
-        || (motion_of_machine(book, plan, machine).is_none()
-            && !is_lit(machine, book)
-            && watch.quiet())
-}
-
-/// The end where all are idle.
-fn end_at_rest(book: &Book, plan: &Plan) -> End {
-    if book.totals().admitted == plan.plates && book.on_stations().is_empty() {
-        End::Finished
-    } else {
-        End::Stalled
-    }
 }
 
 /// Notes whether a machine whose turn booked nothing is idle, and the end where all are. It answers whether it is.
@@ -140,16 +99,18 @@ impl<R: Run> Hall<R> {
     pub fn serve(
         &mut self,
         machine: Machine,
-        hand: &mut Hand<R>,
+        worker: &mut Worker<R>,
         reading: Option<Reading>,
         plan: &Plan,
     ) -> Result<(Option<Entry>, bool), Ended>
-        requires { machine_of_watch hand.old.watch ≡ machine }
-        ensures served { IfOk result (λ r. Served machine plan.now reading r.0 hand.old.entries.items hand.new.entries.items hand.old.shares hand.new.shares hand.old.watch hand.new.watch) }
+        requires { machine_of_watch worker.old.watch ≡ machine }
+        ensures served { IfOk result (λ r. Served machine plan.now reading r.0 worker.old.entries.items worker.new.entries.items worker.old.shares worker.new.shares worker.old.watch worker.new.watch) }
         ensures kept { IfOk result (λ r. self.new.kept ≡ record { limits = self.old.kept.limits; entries = self.old.kept.entries ++ option_to_list r.0 }) }
-        ensures machine { machine_of_watch hand.new.watch ≡ machine }
+        ensures machine { machine_of_watch worker.new.watch ≡ machine }
         ensures ended { (result ≢ Err Ended.PortLost) × (result ≢ Err Ended.Turns) }
-        ensures unchanged { OnErr result ((hand.new.entries.items ≡ hand.old.entries.items) × (hand.new.shares ≡ hand.old.shares) × (hand.new.watch ≡ hand.old.watch) × (self.new.kept ≡ self.old.kept)) }
+        ensures stands { Stands self.old.end self.new.end }
+        ensures lost { self.new.lost ≡ self.old.lost }
+        ensures unchanged { OnErr result ((worker.new.entries.items ≡ worker.old.entries.items) × (worker.new.shares ≡ worker.old.shares) × (worker.new.watch ≡ worker.old.watch) × (self.new.kept ≡ self.old.kept)) }
     {
         if self.end.is_some() {
             return Err(Ended::Told);
@@ -160,11 +121,11 @@ impl<R: Run> Hall<R> {
             lost,
             end,
         } = self;
-        let Hand {
+        let Worker {
             entries,
             shares,
             watch,
-        } = hand;
+        } = worker;
         kept.book().is_lawful();
         match book_turn(machine, kept, shares, watch, reading, entries, plan) {
             Ok(Some(entry)) => {
@@ -183,11 +144,14 @@ impl<R: Run> Hall<R> {
         }
     }
 
-    /// Books an entry of the operator.
+    /// Books an entry of the operator. Where it is booked, only those are idle whose ports are lost.
     pub fn book(&mut self, shares: &mut Shares<R>, entry: Entry) -> Result<(), Refusal>
         requires { actor_of entry ≡ actors.Operator }
         ensures ok { OnOk result (shares.new ≡ held shares.old.parts (plus shares.old.counts (count_one entry))) }
         ensures booked { OnOk result (self.new.kept ≡ record { limits = self.old.kept.limits; entries = self.old.kept.entries ++ entry ∷ [] }) }
+        ensures idle { OnOk result (self.new.idle ≡ self.old.lost) }
+        ensures lost { self.new.lost ≡ self.old.lost }
+        ensures stands { self.new.end ≡ self.old.end }
         ensures unchanged { OnErr result ((shares.new ≡ shares.old) × (self.new.kept ≡ self.old.kept)) }
     {
         let Hall {
@@ -201,33 +165,42 @@ impl<R: Run> Hall<R> {
         Ok(())
     }
 
-    /// Sets an end, unless one is set.
-    pub fn finish(&mut self, end: End)
-        ensures { self.new.kept ≡ self.old.kept }
+    /// Sets an end, unless one is set. It answers whether it did.
+    pub fn finish(&mut self, end: End) -> bool
+        ensures kept { self.new.kept ≡ self.old.kept }
+        ensures idle { (self.new.idle ≡ self.old.idle) × (self.new.lost ≡ self.old.lost) }
+        ensures stands { Stands self.old.end self.new.end }
+        ensures first { self.old.end ≡ None → self.new.end ≡ Some end }
     {
-        if self.end.is_none() {
-            self.end = Some(end);
+        if self.end.is_some() {
+            return false;
         }
+        self.end = Some(end);
+        true
     }
 
-    /// Marks a worker as idle. Where all are, the run ends.
-    pub fn rest(&mut self, worker: usize, plan: &Plan)
-        requires { worker < 7 }
-        ensures { self.new.kept ≡ self.old.kept }
+    /// Marks a worker as idle. Where all are, the run ends. It answers whether that set the end.
+    pub fn rest(&mut self, place: usize, plan: &Plan) -> bool
+        requires { place < 7 }
+        ensures kept { self.new.kept ≡ self.old.kept }
+        ensures stands { Stands self.old.end self.new.end }
+        ensures lost { self.new.lost ≡ self.old.lost }
     {
-        self.idle[worker] = true;
-        let all_rest = self.idle.iter().all(|idle| *idle);
-        if all_rest && self.end.is_none() {
-            self.end = Some(end_at_rest(self.kept.book(), plan));
+        self.idle[place] = true;
+        if !self.idle.iter().all(|idle| *idle) {
+            return false;
         }
+        let end = end_at_rest(self.kept.book(), plan);
+        self.finish(end)
     }
 
-    /// Marks a worker whose port failed. It counts as idle from then on.
-    pub fn lose(&mut self, worker: usize, plan: &Plan)
-        requires { worker < 7 }
-        ensures { self.new.kept ≡ self.old.kept }
+    /// Marks a worker whose port failed. It counts as idle from then on. It answers whether that set the end.
+    pub fn lose(&mut self, place: usize, plan: &Plan) -> bool
+        requires { place < 7 }
+        ensures kept { self.new.kept ≡ self.old.kept }
+        ensures stands { Stands self.old.end self.new.end }
     {
-        self.lost[worker] = true;
-        self.rest(worker, plan);
+        self.lost[place] = true;
+        self.rest(place, plan)
     }
 }

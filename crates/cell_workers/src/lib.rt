@@ -2,6 +2,7 @@
 //! Ports, watches, turns and schedules on one thread are those of `cell_turns`, handed on under this crate's name.
 #![tactic(auto)]
 
+pub mod ends;
 pub mod hall;
 pub mod operating;
 pub mod running;
@@ -12,7 +13,8 @@ pub use cell_turns::{
     Act, OperatorPort, OutOfMemory, Plan, Port, PortFault, Ports, Ran, Six, Step, TurnError, Watch,
     Watches, run_schedule, turn,
 };
-pub use hall::{End, Ended, Hall, Room};
+pub use ends::{End, end_at_rest, is_idle};
+pub use hall::{Ended, Hall, Room};
 pub use operating::run_operator;
 pub use running::{Report, RunError, run_cell};
 pub use working::{Worked, run_worker};

@@ -1,19 +1,21 @@
 //! The operator's worker.
-ghost use Rattle.std.specs.Prelude.{◌≡◌, ◌≢◌, ◌++◌, ◌∷◌, [], true, IfOk, OnOk, OnErr, IfSome, IfNone, All, Some};
+ghost use Rattle.std.specs.Prelude.{◌≡◌, ◌≢◌, ◌++◌, ◌∷◌, [], true, IfOk, IfErr, OnOk, OnErr, IfSome, IfNone, All, Some};
 ghost use Rattle.cell_types.specs.Entries.{actor_of};
 ghost use Rattle.cell_types.specs.declared.words.Actor.TheVariants as actors;
 ghost use Rattle.cell_views.specs.Views.{count_of};
 ghost use Rattle.cell_ledger.specs.Counts.{plus, count_one};
 ghost use Rattle.cell_ledger.specs.Held.{Held, held};
-ghost use Rattle.cell_turns.specs.Logs.{ActLog};
-ghost use Rattle.cell_turns.specs.Acts.{Did, DidMore};
+ghost use Rattle.cell_turns.specs.Logs.{ActLog, after_hand};
+ghost use Rattle.cell_turns.specs.Acts.{act_of};
+ghost use Rattle.cell_workers.specs.Operating.{DidHands, HandsEnded};
 ghost use Rattle.cell_workers.specs.Working.{Serves};
 
-use crate::hall::{End, Ended, Hall, Room};
-use cell_turns::hands::{act_of, do_by_hand};
-use crate::working::{Worked, finish, lose};
+use crate::ends::End;
+use crate::hall::{Ended, Hall, Room};
+use crate::working::{Worked, finish, lose, wait_for_more};
 use crate::{OperatorPort, Plan};
 use cell_ledger::{Run, Shares};
+use cell_turns::hands::{act_of, do_by_hand};
 use cell_types::Entry;
 use operator_desk::{Script, entry_of};
 use plate_book::Refusal;
@@ -23,9 +25,9 @@ use std::sync::Wait;
 /// The operator's place among the workers.
 const OPERATOR: usize = 6;
 
-/// What the operator's worker holds.
+/// What the operator's worker holds: his entries, and his shares, which count them.
 #[derive(Drop)]
-pub struct Board<R: Run> {
+pub struct Bookings<R: Run> {
     pub entries: Vec<Entry>,
     pub shares: Shares<R>,
 }
@@ -33,21 +35,21 @@ pub struct Board<R: Run> {
 impl<R: Run> Hall<R> {
     /// Books an entry of the operator and lists it. A refusal ends his worker, as `Memory` or `Full` with the run, or for
     /// any other refusal as `PortLost`.
-    fn take(&mut self, board: &mut Board<R>, entry: Entry) -> Result<(), Ended>
+    fn take(&mut self, bookings: &mut Bookings<R>, entry: Entry) -> Result<(), Ended>
         requires { actor_of entry ≡ actors.Operator }
-        ensures entries { OnOk result (board.new.entries.items ≡ board.old.entries.items ++ entry ∷ []) }
-        ensures shares { OnOk result (board.new.shares ≡ held board.old.shares.parts (plus board.old.shares.counts (count_one entry))) }
-        ensures unchanged { OnErr result ((board.new.entries.items ≡ board.old.entries.items) × (board.new.shares ≡ board.old.shares)) }
+        ensures entries { OnOk result (bookings.new.entries.items ≡ bookings.old.entries.items ++ entry ∷ []) }
+        ensures shares { OnOk result (bookings.new.shares ≡ held bookings.old.shares.parts (plus bookings.old.shares.counts (count_one entry))) }
+        ensures unchanged { OnErr result ((bookings.new.entries.items ≡ bookings.old.entries.items) × (bookings.new.shares ≡ bookings.old.shares)) }
         ensures ended { result ≢ Err Ended.Told }
     {
-        if board.entries.reserve(1).is_err() {
+        if bookings.entries.reserve(1).is_err() {
             self.finish(End::Memory);
             return Err(Ended::Memory);
         }
         let booked = entry;
-        match self.book(&mut board.shares, entry) {
+        match self.book(&mut bookings.shares, entry) {
             Ok(()) => {
-                board.entries.push_reserved(booked);
+                bookings.entries.push_reserved(booked);
                 Ok(())
             }
             Err(Refusal::JournalFull) => {
@@ -63,42 +65,44 @@ impl<R: Run> Hall<R> {
     }
 }
 
+/// Wakes all after a booking, where it was booked or ended the run.
+fn wake_after<R: Run>(room: &Room<R>, taken: &Result<(), Ended>) {
+    if *taken != Err(Ended::PortLost) {
+        room.moved.notify_all();
+    }
+}
+
 /// Takes the lock and asks the script. It answers the next entry, if it wants an act by hand; one that wants none, a stop, is
 /// booked at once. Where there is nothing to do he waits until the journal is longer or an end is set.
 fn choose<R: Run, W: Wait>(
     rt: &W,
     room: &Room<R>,
-    board: &mut Board<R>,
+    bookings: &mut Bookings<R>,
     script: &mut Script,
     plan: &Plan,
 ) -> Result<Option<Entry>, Ended>
     ensures his { IfOk result (λ o. IfSome o (λ e. actor_of e ≡ actors.Operator)) }
-    ensures serves { (start : Held) → Serves actors.Operator start board.old.entries.items board.old.shares → Serves actors.Operator start board.new.entries.items board.new.shares }
-    ensures did { (before now : ActLog) → Did before now board.old.entries.items → Did before now board.new.entries.items }
+    ensures serves { (start : Held) → Serves actors.Operator start bookings.old.entries.items bookings.old.shares → Serves actors.Operator start bookings.new.entries.items bookings.new.shares }
+    ensures did { (before now : ActLog) → DidHands before now bookings.old.entries.items → DidHands before now bookings.new.entries.items }
 {
     let mut hall = room.hall.lock(rt);
     if hall.end.is_some() {
         return Err(Ended::Told);
     }
     let Some(action) = script.next(hall.kept.book()) else {
-        hall.rest(OPERATOR, plan);
-        if hall.end.is_some() {
+        if hall.rest(OPERATOR, plan) {
             room.moved.notify_all();
         }
-        let seen = hall.kept.book().journal().len();
-        let hall = room.moved.wait_while(rt, hall, |h| {
-            h.kept.book().journal().len() == seen && h.end.is_none()
-        });
-        drop(hall);
+        wait_for_more(rt, room, hall);
         return Ok(None);
     };
     let entry = entry_of(action);
     if act_of(&entry).is_some() {
         return Ok(Some(entry));
     }
-    let taken = hall.take(board, entry);
+    let taken = hall.take(bookings, entry);
     drop(hall);
-    room.moved.notify_all();
+    wake_after(room, &taken);
     match taken {
         Ok(()) => {
             script.done();
@@ -112,17 +116,17 @@ fn choose<R: Run, W: Wait>(
 fn locked_booking<R: Run, W: Wait>(
     rt: &W,
     room: &Room<R>,
-    board: &mut Board<R>,
+    bookings: &mut Bookings<R>,
     entry: Entry,
 ) -> Result<(), Ended>
     requires { actor_of entry ≡ actors.Operator }
-    ensures entries { OnOk result (board.new.entries.items ≡ board.old.entries.items ++ entry ∷ []) }
-    ensures shares { OnOk result (board.new.shares ≡ held board.old.shares.parts (plus board.old.shares.counts (count_one entry))) }
-    ensures unchanged { OnErr result ((board.new.entries.items ≡ board.old.entries.items) × (board.new.shares ≡ board.old.shares)) }
+    ensures entries { OnOk result (bookings.new.entries.items ≡ bookings.old.entries.items ++ entry ∷ []) }
+    ensures shares { OnOk result (bookings.new.shares ≡ held bookings.old.shares.parts (plus bookings.old.shares.counts (count_one entry))) }
+    ensures unchanged { OnErr result ((bookings.new.entries.items ≡ bookings.old.entries.items) × (bookings.new.shares ≡ bookings.old.shares)) }
     ensures ended { result ≢ Err Ended.Told }
 {
-    let taken = room.hall.lock(rt).take(board, entry);
-    room.moved.notify_all();
+    let taken = room.hall.lock(rt).take(bookings, entry);
+    wake_after(room, &taken);
     taken
 }
 
@@ -131,26 +135,25 @@ fn hand_over<O: OperatorPort, R: Run, W: Wait>(
     rt: &W,
     operator: &mut O,
     room: &Room<R>,
-    board: &mut Board<R>,
+    bookings: &mut Bookings<R>,
     entry: Entry,
 ) -> Result<(), Ended>
     requires { actor_of entry ≡ actors.Operator }
     ensures still { O.tells operator.new ≡ true → O.tells operator.old ≡ true }
-    ensures entries { OnOk result (board.new.entries.items ≡ board.old.entries.items ++ entry ∷ []) }
-    ensures shares { OnOk result (board.new.shares ≡ held board.old.shares.parts (plus board.old.shares.counts (count_one entry))) }
-    ensures done { OnOk result (O.tells operator.new ≡ true → Did (O.log operator.old) (O.log operator.new) (entry ∷ [])) }
-    ensures unchanged { OnErr result ((board.new.entries.items ≡ board.old.entries.items) × (board.new.shares ≡ board.old.shares)) }
-    ensures more { OnErr result (O.tells operator.new ≡ true → DidMore (O.log operator.old) (O.log operator.new) []) }
-    ensures ended { result ≢ Err Ended.Told }
+    ensures entries { OnOk result (bookings.new.entries.items ≡ bookings.old.entries.items ++ entry ∷ []) }
+    ensures shares { OnOk result (bookings.new.shares ≡ held bookings.old.shares.parts (plus bookings.old.shares.counts (count_one entry))) }
+    ensures done { OnOk result (O.tells operator.new ≡ true → O.log operator.new ≡ after_hand (O.log operator.old) (act_of entry) true) }
+    ensures unchanged { OnErr result ((bookings.new.entries.items ≡ bookings.old.entries.items) × (bookings.new.shares ≡ bookings.old.shares)) }
+    ensures ended { IfErr result (λ ended. O.tells operator.new ≡ true → HandsEnded (O.log operator.old) (O.log operator.new) [] ended) }
 {
-    if board.entries.reserve(1).is_err() {
+    if bookings.entries.reserve(1).is_err() {
         finish(rt, room, End::Memory);
         return Err(Ended::Memory);
     }
     let Ok(()) = do_by_hand(operator, &entry) else {
         return Err(Ended::PortLost);
     };
-    match locked_booking(rt, room, board, entry) {
+    match locked_booking(rt, room, bookings, entry) {
         Ok(()) => Ok(()),
         Err(ended) => Err(ended),
     }
@@ -161,22 +164,21 @@ fn operate<O: OperatorPort, R: Run, W: Wait>(
     rt: &W,
     operator: &mut O,
     room: &Room<R>,
-    board: &mut Board<R>,
+    bookings: &mut Bookings<R>,
     script: &mut Script,
     plan: &Plan,
 ) -> Option<Ended>
     ensures still { O.tells operator.new ≡ true → O.tells operator.old ≡ true }
-    ensures serves { (start : Held) → Serves actors.Operator start board.old.entries.items board.old.shares → Serves actors.Operator start board.new.entries.items board.new.shares }
-    ensures did { IfNone result (O.tells operator.new ≡ true → (before : ActLog) → Did before (O.log operator.old) board.old.entries.items → Did before (O.log operator.new) board.new.entries.items) }
-    ensures more { O.tells operator.new ≡ true → (before : ActLog) → Did before (O.log operator.old) board.old.entries.items → DidMore before (O.log operator.new) board.new.entries.items }
-    ensures told { result ≡ Some Ended.Told → O.tells operator.new ≡ true → (before : ActLog) → Did before (O.log operator.old) board.old.entries.items → Did before (O.log operator.new) board.new.entries.items }
+    ensures serves { (start : Held) → Serves actors.Operator start bookings.old.entries.items bookings.old.shares → Serves actors.Operator start bookings.new.entries.items bookings.new.shares }
+    ensures did { IfNone result (O.tells operator.new ≡ true → (before : ActLog) → DidHands before (O.log operator.old) bookings.old.entries.items → DidHands before (O.log operator.new) bookings.new.entries.items) }
+    ensures ended { IfSome result (λ ended. O.tells operator.new ≡ true → (before : ActLog) → DidHands before (O.log operator.old) bookings.old.entries.items → HandsEnded before (O.log operator.new) bookings.new.entries.items ended) }
 {
-    let entry = match choose(rt, room, board, script, plan) {
+    let entry = match choose(rt, room, bookings, script, plan) {
         Ok(Some(entry)) => entry,
         Ok(None) => return None,
         Err(ended) => return Some(ended),
     };
-    match hand_over(rt, operator, room, board, entry) {
+    match hand_over(rt, operator, room, bookings, entry) {
         Ok(()) => {
             script.done();
             None
@@ -190,17 +192,16 @@ fn operate_all<O: OperatorPort, R: Run, W: Wait>(
     rt: &W,
     operator: &mut O,
     room: &Room<R>,
-    board: &mut Board<R>,
+    bookings: &mut Bookings<R>,
     script: &mut Script,
     plan: &Plan,
 ) -> Ended
     ensures still { O.tells operator.new ≡ true → O.tells operator.old ≡ true }
-    ensures serves { (start : Held) → Serves actors.Operator start board.old.entries.items board.old.shares → Serves actors.Operator start board.new.entries.items board.new.shares }
-    ensures more { O.tells operator.new ≡ true → (before : ActLog) → Did before (O.log operator.old) board.old.entries.items → DidMore before (O.log operator.new) board.new.entries.items }
-    ensures told { result ≡ Ended.Told → O.tells operator.new ≡ true → (before : ActLog) → Did before (O.log operator.old) board.old.entries.items → Did before (O.log operator.new) board.new.entries.items }
+    ensures serves { (start : Held) → Serves actors.Operator start bookings.old.entries.items bookings.old.shares → Serves actors.Operator start bookings.new.entries.items bookings.new.shares }
+    ensures ended { O.tells operator.new ≡ true → (before : ActLog) → DidHands before (O.log operator.old) bookings.old.entries.items → HandsEnded before (O.log operator.new) bookings.new.entries.items result }
 {
     for _ in rt.forever() {
-        if let Some(ended) = operate(rt, operator, room, board, script, plan) {
+        if let Some(ended) = operate(rt, operator, room, bookings, script, plan) {
             return ended;
         }
     }
@@ -221,18 +222,17 @@ pub fn run_operator<O: OperatorPort, R: Run, W: Wait>(
     ensures actor { All (λ e. actor_of e ≡ actors.Operator) result.entries.items }
     ensures counts { result.shares ≡ held shares.parts (plus shares.counts (count_of result.entries.items)) }
     ensures still { O.tells operator.new ≡ true → O.tells operator.old ≡ true }
-    ensures did { O.tells operator.new ≡ true → DidMore (O.log operator.old) (O.log operator.new) result.entries.items }
-    ensures told { result.ended ≡ Ended.Told → O.tells operator.new ≡ true → Did (O.log operator.old) (O.log operator.new) result.entries.items }
+    ensures did { O.tells operator.new ≡ true → HandsEnded (O.log operator.old) (O.log operator.new) result.entries.items result.ended }
 {
-    let mut board = Board {
+    let mut bookings = Bookings {
         entries: Vec::new(alloc),
         shares,
     };
-    let ended = operate_all(rt, operator, room, &mut board, &mut script, plan);
+    let ended = operate_all(rt, operator, room, &mut bookings, &mut script, plan);
     if ended == Ended::PortLost {
         lose(rt, room, OPERATOR, plan);
     }
-    let Board { entries, shares } = board;
+    let Bookings { entries, shares } = bookings;
     Worked {
         entries,
         shares,

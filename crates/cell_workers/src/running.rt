@@ -7,7 +7,8 @@ ghost use Rattle.cell_turns.specs.Schedules.{same_actor, entries_of};
 ghost use Rattle.cell_workers.specs.Standing.{all_called_for};
 ghost use Rattle.cell_workers.specs.Report.{IsReport, AreAllOf};
 
-use crate::hall::{End, Hall, Room};
+use crate::ends::End;
+use crate::hall::{Hall, Room};
 use crate::team::{Crew, Done, Lent, Team, crew_of, lend, run_team};
 use crate::{OperatorPort, Plan, Port, Ports, Six};
 use cell_journal::Journal;

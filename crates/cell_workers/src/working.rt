@@ -12,11 +12,12 @@ ghost use Rattle.cell_turns.specs.Minds.{machine_of_watch, has_failed_command};
 ghost use Rattle.cell_workers.specs.Traces.{Saw};
 ghost use Rattle.cell_workers.specs.Working.{Served, Serves, Shown, Told, SentAll, Evidence};
 
-use crate::hall::{End, Ended, Hall, Hand, Room};
-use cell_turns::sending::send;
+use crate::ends::End;
+use crate::hall::{Ended, Hall, Room, Worker};
 use crate::{Plan, Port, Watch};
 use cell_diagnosis::Reading;
 use cell_ledger::{Run, Shares};
+use cell_turns::sending::send;
 use cell_types::{Command, Entry, Machine};
 use std::alloc::Global;
 use std::sync::{MutexGuard, Wait};
@@ -32,18 +33,31 @@ pub struct Worked<R: Run> {
     pub ended: Ended,
 }
 
-/// Sets an end, unless one is set, and wakes all.
+/// Sets an end, unless one is set, and wakes all then.
 pub fn finish<R: Run, W: Wait>(rt: &W, room: &Room<R>, end: End) {
-    room.hall.lock(rt).finish(end);
-    room.moved.notify_all();
+    let ended = room.hall.lock(rt).finish(end);
+    if ended {
+        room.moved.notify_all();
+    }
 }
 
-/// Marks a worker whose port failed, and wakes all.
-pub fn lose<R: Run, W: Wait>(rt: &W, room: &Room<R>, worker: usize, plan: &Plan)
-    requires { worker < 7 }
+/// Marks a worker whose port failed, and wakes all where that ended the run.
+pub fn lose<R: Run, W: Wait>(rt: &W, room: &Room<R>, place: usize, plan: &Plan)
+    requires { place < 7 }
 {
-    room.hall.lock(rt).lose(worker, plan);
-    room.moved.notify_all();
+    let ended = room.hall.lock(rt).lose(place, plan);
+    if ended {
+        room.moved.notify_all();
+    }
+}
+
+/// Waits until the journal is longer or an end is set.
+pub fn wait_for_more<R: Run, W: Wait>(rt: &W, room: &Room<R>, hall: MutexGuard<'_, Hall<R>>) {
+    let seen = hall.kept.book().journal().len();
+    let hall = room.moved.wait_while(rt, hall, |h| {
+        h.kept.book().journal().len() == seen && h.end.is_none()
+    });
+    drop(hall);
 }
 
 /// Takes the lock for one turn. An idle worker then waits until the journal is longer or an end is set.
@@ -51,38 +65,39 @@ fn locked_turn<R: Run, W: Wait>(
     rt: &W,
     machine: Machine,
     room: &Room<R>,
-    hand: &mut Hand<R>,
+    worker: &mut Worker<R>,
     reading: Option<Reading>,
     plan: &Plan,
 ) -> Result<Option<Entry>, Ended>
-    requires { machine_of_watch hand.old.watch ≡ machine }
-    ensures served { IfOk result (λ e. Served machine plan.now reading e hand.old.entries.items hand.new.entries.items hand.old.shares hand.new.shares hand.old.watch hand.new.watch) }
-    ensures machine { machine_of_watch hand.new.watch ≡ machine }
+    requires { machine_of_watch worker.old.watch ≡ machine }
+    ensures served { IfOk result (λ e. Served machine plan.now reading e worker.old.entries.items worker.new.entries.items worker.old.shares worker.new.shares worker.old.watch worker.new.watch) }
+    ensures machine { machine_of_watch worker.new.watch ≡ machine }
     ensures ended { (result ≢ Err Ended.PortLost) × (result ≢ Err Ended.Turns) }
-    ensures unchanged { OnErr result ((hand.new.entries.items ≡ hand.old.entries.items) × (hand.new.shares ≡ hand.old.shares) × (hand.new.watch ≡ hand.old.watch)) }
+    ensures unchanged { OnErr result ((worker.new.entries.items ≡ worker.old.entries.items) × (worker.new.shares ≡ worker.old.shares) × (worker.new.watch ≡ worker.old.watch)) }
 {
     let mut hall = room.hall.lock(rt);
-    let served = hall.serve(machine, hand, reading, plan);
+    let served = hall.serve(machine, worker, reading, plan);
     match served {
         Ok((None, true)) => {
             if hall.end.is_some() {
                 room.moved.notify_all();
             }
-            let seen = hall.kept.book().journal().len();
-            let hall = room.moved.wait_while(rt, hall, |h| {
-                h.kept.book().journal().len() == seen && h.end.is_none()
-            });
-            drop(hall);
+            wait_for_more(rt, room, hall);
             Ok(None)
         }
         Ok((booked, _)) => {
             drop(hall);
-            room.moved.notify_all();
+            if booked.is_some() {
+                room.moved.notify_all();
+            }
             Ok(booked)
         }
         Err(ended) => {
             drop(hall);
-            room.moved.notify_all();
+            // One that is told found an end that was set, and all were woken then.
+            if ended != Ended::Told {
+                room.moved.notify_all();
+            }
             Err(ended)
         }
     }
@@ -107,28 +122,28 @@ fn step<P: Port, R: Run, W: Wait>(
     machine: Machine,
     port: &mut P,
     room: &Room<R>,
-    hand: &mut Hand<R>,
+    worker: &mut Worker<R>,
     plan: &Plan,
 ) -> Option<Ended>
-    requires { machine_of_watch hand.old.watch ≡ machine }
+    requires { machine_of_watch worker.old.watch ≡ machine }
     ensures still { P.tells port.new ≡ true → P.tells port.old ≡ true }
-    ensures machine { machine_of_watch hand.new.watch ≡ machine }
-    ensures serves { (start : Held) → Serves (actors.Machine machine) start hand.old.entries.items hand.old.shares → Serves (actors.Machine machine) start hand.new.entries.items hand.new.shares }
-    ensures sends { P.tells port.new ≡ true → (before : Log) → Sends before false (P.log port.old) hand.old.entries.items (has_failed_command hand.old.watch) → Sends before false (P.log port.new) hand.new.entries.items (has_failed_command hand.new.watch) }
-    ensures told { P.tells port.new ≡ true → (before : Log) (k : ℕ) → Shown machine plan.now before (P.log port.old) hand.old.entries.items hand.old.watch k → Told plan.now before (P.log port.new) hand.new.entries.items (k + 1) }
-    ensures shown { IfNone result (P.tells port.new ≡ true → (before : Log) (k : ℕ) → Shown machine plan.now before (P.log port.old) hand.old.entries.items hand.old.watch k → Shown machine plan.now before (P.log port.new) hand.new.entries.items hand.new.watch (k + 1)) }
-    ensures lost { result ≡ Some Ended.PortLost → has_failed_command hand.new.watch ≡ true }
+    ensures machine { machine_of_watch worker.new.watch ≡ machine }
+    ensures serves { (start : Held) → Serves (actors.Machine machine) start worker.old.entries.items worker.old.shares → Serves (actors.Machine machine) start worker.new.entries.items worker.new.shares }
+    ensures sends { P.tells port.new ≡ true → (before : Log) → Sends before false (P.log port.old) worker.old.entries.items (has_failed_command worker.old.watch) → Sends before false (P.log port.new) worker.new.entries.items (has_failed_command worker.new.watch) }
+    ensures told { P.tells port.new ≡ true → (before : Log) (k : ℕ) → Shown machine plan.now before (P.log port.old) worker.old.entries.items worker.old.watch k → Told plan.now before (P.log port.new) worker.new.entries.items (k + 1) }
+    ensures shown { IfNone result (P.tells port.new ≡ true → (before : Log) (k : ℕ) → Shown machine plan.now before (P.log port.old) worker.old.entries.items worker.old.watch k → Shown machine plan.now before (P.log port.new) worker.new.entries.items worker.new.watch (k + 1)) }
+    ensures lost { result ≡ Some Ended.PortLost → has_failed_command worker.new.watch ≡ true }
     ensures turns { result ≢ Some Ended.Turns }
 {
     let reading = port.read();
-    let booked = match locked_turn(rt, machine, room, hand, reading, plan) {
+    let booked = match locked_turn(rt, machine, room, worker, reading, plan) {
         Ok(booked) => booked,
         Err(ended) => return Some(ended),
     };
     let Some(entry) = booked else {
         return None;
     };
-    let failed = send(port, &mut hand.watch, &entry);
+    let failed = send(port, &mut worker.watch, &entry);
     lost_by(failed, &entry)
 }
 
@@ -138,18 +153,18 @@ fn serve_all<P: Port, R: Run, W: Wait>(
     machine: Machine,
     port: &mut P,
     room: &Room<R>,
-    hand: &mut Hand<R>,
+    worker: &mut Worker<R>,
     plan: &Plan,
 ) -> Ended
-    requires { machine_of_watch hand.old.watch ≡ machine }
+    requires { machine_of_watch worker.old.watch ≡ machine }
     ensures still { P.tells port.new ≡ true → P.tells port.old ≡ true }
-    ensures serves { (start : Held) → Serves (actors.Machine machine) start hand.old.entries.items hand.old.shares → Serves (actors.Machine machine) start hand.new.entries.items hand.new.shares }
-    ensures sends { P.tells port.new ≡ true → (before : Log) → Sends before false (P.log port.old) hand.old.entries.items (has_failed_command hand.old.watch) → Sends before false (P.log port.new) hand.new.entries.items (has_failed_command hand.new.watch) }
-    ensures told { P.tells port.new ≡ true → (before : Log) → Shown machine plan.now before (P.log port.old) hand.old.entries.items hand.old.watch 0 → ((k : ℕ) × Told plan.now before (P.log port.new) hand.new.entries.items k × (result ≡ Ended.Turns → k ≡ plan.now.turns)) }
-    ensures lost { result ≡ Ended.PortLost → has_failed_command hand.new.watch ≡ true }
+    ensures serves { (start : Held) → Serves (actors.Machine machine) start worker.old.entries.items worker.old.shares → Serves (actors.Machine machine) start worker.new.entries.items worker.new.shares }
+    ensures sends { P.tells port.new ≡ true → (before : Log) → Sends before false (P.log port.old) worker.old.entries.items (has_failed_command worker.old.watch) → Sends before false (P.log port.new) worker.new.entries.items (has_failed_command worker.new.watch) }
+    ensures told { P.tells port.new ≡ true → (before : Log) → Shown machine plan.now before (P.log port.old) worker.old.entries.items worker.old.watch 0 → ((k : ℕ) × Told plan.now before (P.log port.new) worker.new.entries.items k × (result ≡ Ended.Turns → k ≡ plan.now.turns)) }
+    ensures lost { result ≡ Ended.PortLost → has_failed_command worker.new.watch ≡ true }
 {
     for turn in 0..plan.turns {
-        if let Some(ended) = step(rt, machine, port, room, hand, plan) {
+        if let Some(ended) = step(rt, machine, port, room, worker, plan) {
             return ended;
         }
     }
@@ -157,15 +172,15 @@ fn serve_all<P: Port, R: Run, W: Wait>(
     Ended::Turns
 }
 
-/// What a machine's worker begins with.
-fn first_hand<R: Run, W: Wait>(
+/// What a machine's worker begins with: an empty list, its shares, and a watch that has seen nothing.
+fn first_worker<R: Run, W: Wait>(
     rt: &W,
     alloc: Global,
     machine: Machine,
     room: &Room<R>,
     shares: Shares<R>,
     plan: &Plan,
-) -> Hand<R>
+) -> Worker<R>
     ensures entries { result.entries.items ≡ [] }
     ensures shares { result.shares ≡ shares }
     ensures machine { machine_of_watch result.watch ≡ machine }
@@ -175,7 +190,7 @@ fn first_hand<R: Run, W: Wait>(
     let hall = room.hall.lock(rt);
     let watch = Watch::start(machine, hall.kept.book());
     drop(hall);
-    Hand {
+    Worker {
         entries: Vec::new(alloc),
         shares,
         watch,
@@ -201,17 +216,17 @@ pub fn run_worker<P: Port, R: Run, W: Wait>(
     ensures turns { result.ended ≡ Ended.Turns → P.tells port.new ≡ true → length (P.log port.new).answers ≡ length (P.log port.old).answers + plan.now.turns }
     ensures lost { result.ended ≡ Ended.PortLost → P.tells port.new ≡ true → (P.log port.old).failures < (P.log port.new).failures }
 {
-    let mut hand = first_hand(rt, alloc, machine, room, shares, plan);
-    let ended = serve_all(rt, machine, port, room, &mut hand, plan);
+    let mut worker = first_worker(rt, alloc, machine, room, shares, plan);
+    let ended = serve_all(rt, machine, port, room, &mut worker, plan);
     if ended == Ended::PortLost {
         lose(rt, room, machine as usize, plan);
     }
     let _ = port.command(Command::AllOff(machine));
-    let Hand {
+    let Worker {
         entries,
         shares,
         watch: _,
-    } = hand;
+    } = worker;
     Worked {
         entries,
         shares,

@@ -2,7 +2,7 @@ use Rattle.std.proofs.Common.{◌≡◌, true}
 use Rattle.cell_types.specs.declared.words.Actor.TheVariants as actor
 use Rattle.cell_ledger.specs.Held.{Held}
 use Rattle.cell_turns.specs.Logs.{ActLog}
-use Rattle.cell_turns.specs.Acts.{Did}
+use Rattle.cell_workers.specs.Operating.{DidHands}
 use Rattle.cell_workers.specs.Working.{Serves}
 use Rattle.cell_workers.proofs.operating.operate_all.Given as goal
 
@@ -10,6 +10,6 @@ abbrev pub invariant-loop : goal.invariant-loop
 invariant-loop g l =
     record {
       still : g.O.OperatorPort.tells l.operator ≡ true → g.O.OperatorPort.tells l.initial.operator ≡ true;
-      serves : (start : Held) → Serves actor.Operator start l.initial.board.entries.items l.initial.board.shares → Serves actor.Operator start l.board.entries.items l.board.shares;
-      did : g.O.OperatorPort.tells l.operator ≡ true → (before : ActLog) → Did before (g.O.OperatorPort.log l.initial.operator) l.initial.board.entries.items → Did before (g.O.OperatorPort.log l.operator) l.board.entries.items;
+      serves : (start : Held) → Serves actor.Operator start l.initial.bookings.entries.items l.initial.bookings.shares → Serves actor.Operator start l.bookings.entries.items l.bookings.shares;
+      did : g.O.OperatorPort.tells l.operator ≡ true → (before : ActLog) → DidHands before (g.O.OperatorPort.log l.initial.operator) l.initial.bookings.entries.items → DidHands before (g.O.OperatorPort.log l.operator) l.bookings.entries.items;
     }

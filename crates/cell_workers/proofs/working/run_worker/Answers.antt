@@ -5,29 +5,29 @@ use Rattle.cell_workers.proofs.Workers.{serves_start, sends_begun, shown_start, 
 use Rattle.cell_workers.proofs.working.run_worker.Goals as goal
 
 pub returns-clause-actor : goal.returns-clause-actor
-returns-clause-actor g c = (c.serve_all-ended.ensures.serves c.args.shares (serves_start (actor.Machine c.args.machine) _ _ c.args.shares c.first_hand-hand.ensures.entries c.first_hand-hand.ensures.shares)).actor
+returns-clause-actor g c = (c.serve_all-ended.ensures.serves c.args.shares (serves_start (actor.Machine c.args.machine) _ _ c.args.shares c.first_worker-worker.ensures.entries c.first_worker-worker.ensures.shares)).actor
 
 pub returns-clause-counts : goal.returns-clause-counts
-returns-clause-counts g c = (c.serve_all-ended.ensures.serves c.args.shares (serves_start (actor.Machine c.args.machine) _ _ c.args.shares c.first_hand-hand.ensures.entries c.first_hand-hand.ensures.shares)).counts
+returns-clause-counts g c = (c.serve_all-ended.ensures.serves c.args.shares (serves_start (actor.Machine c.args.machine) _ _ c.args.shares c.first_worker-worker.ensures.entries c.first_worker-worker.ensures.shares)).counts
 
 pub returns-clause-sent : goal.returns-clause-sent
 returns-clause-sent g c = λ tells.
     let t = c.command.ensures.still tells in
     let log = g.P.Port.log c.args.port.now in
-    sent_all c.args.machine log (g.P.Port.log c.serve_all-ended.new.port) (g.P.Port.log c.command.new.self) _ _ _ (c.command.ensures.told tells) (c.serve_all-ended.ensures.sends t log (sends_begun log _ _ c.first_hand-hand.ensures.entries c.first_hand-hand.ensures.failed))
+    sent_all c.args.machine log (g.P.Port.log c.serve_all-ended.new.port) (g.P.Port.log c.command.new.self) _ _ _ (c.command.ensures.told tells) (c.serve_all-ended.ensures.sends t log (sends_begun log _ _ c.first_worker-worker.ensures.entries c.first_worker-worker.ensures.failed))
 
 pub returns-clause-evidence : goal.returns-clause-evidence
 returns-clause-evidence g c = λ tells.
     let t = c.command.ensures.still tells in
     let log = g.P.Port.log c.args.port.now in
-    let told = c.serve_all-ended.ensures.told t log (shown_start c.args.machine c.args.plan.now log _ _ c.first_hand-hand.ensures.entries c.first_hand-hand.ensures.saw) in
+    let told = c.serve_all-ended.ensures.told t log (shown_start c.args.machine c.args.plan.now log _ _ c.first_worker-worker.ensures.entries c.first_worker-worker.ensures.saw) in
     evidence c.args.plan.now log (g.P.Port.log c.serve_all-ended.new.port) (g.P.Port.log c.command.new.self) _ told.0 (ap (λ (l : Log). l.answers) (c.command.ensures.told tells)) told.1
 
 pub returns-clause-turns : goal.returns-clause-turns
 returns-clause-turns g c = λ ended tells.
     let t = c.command.ensures.still tells in
     let log = g.P.Port.log c.args.port.now in
-    let told = c.serve_all-ended.ensures.told t log (shown_start c.args.machine c.args.plan.now log _ _ c.first_hand-hand.ensures.entries c.first_hand-hand.ensures.saw) in
+    let told = c.serve_all-ended.ensures.told t log (shown_start c.args.machine c.args.plan.now log _ _ c.first_worker-worker.ensures.entries c.first_worker-worker.ensures.saw) in
     turns_told c.args.plan.now log (g.P.Port.log c.serve_all-ended.new.port) (g.P.Port.log c.command.new.self) _ told.0 (ap (λ (l : Log). l.answers) (c.command.ensures.told tells)) told.1
     ∙ ap (λ n. length log.answers + n) (told.2 ended)
 
@@ -35,4 +35,4 @@ pub returns-clause-lost : goal.returns-clause-lost
 returns-clause-lost g c = λ ended tells.
     let t = c.command.ensures.still tells in
     let log = g.P.Port.log c.args.port.now in
-    lost_more log (g.P.Port.log c.serve_all-ended.new.port) (g.P.Port.log c.command.new.self) _ _ _ _ (c.serve_all-ended.ensures.lost ended) (c.command.ensures.told tells) (c.serve_all-ended.ensures.sends t log (sends_begun log _ _ c.first_hand-hand.ensures.entries c.first_hand-hand.ensures.failed))
+    lost_more log (g.P.Port.log c.serve_all-ended.new.port) (g.P.Port.log c.command.new.self) _ _ _ _ (c.serve_all-ended.ensures.lost ended) (c.command.ensures.told tells) (c.serve_all-ended.ensures.sends t log (sends_begun log _ _ c.first_worker-worker.ensures.entries c.first_worker-worker.ensures.failed))

@@ -11,7 +11,7 @@ returns-in-Err-clause-told g c = λ tells before k s.
 
 pub returns-in_default-clause-told : goal.returns-in_default-clause-told
 returns-in_default-clause-told g c = λ tells before k s.
-    told_shown c.args.machine c.args.plan.now before (g.P.Port.log c.read-reading.new.self) _ c.locked_turn.new.hand.watch (k + 1)
+    told_shown c.args.machine c.args.plan.now before (g.P.Port.log c.read-reading.new.self) _ c.locked_turn.new.worker.watch (k + 1)
     (shown_turn c.args.machine c.args.plan.now c.read-reading.result c.in-Ok.booked _ _ _ _ _ _ before (g.P.Port.log c.args.port.now) (g.P.Port.log c.read-reading.new.self) k (ap (λ (l : Log). l.answers) (c.read-reading.ensures.told tells)) c.in-Ok.ensures.served s)
 
 pub returns-in_default-clause-shown : goal.returns-in_default-clause-shown
@@ -30,15 +30,15 @@ returns-clause-sends g c = λ tells before s.
 
 pub returns-clause-told : goal.returns-clause-told
 returns-clause-told g c = λ tells before k s.
-    told_shown c.args.machine c.args.plan.now before (g.P.Port.log c.send-failed.new.port) _ c.locked_turn.new.hand.watch (k + 1)
+    told_shown c.args.machine c.args.plan.now before (g.P.Port.log c.send-failed.new.port) _ c.locked_turn.new.worker.watch (k + 1)
     (shown_turn c.args.machine c.args.plan.now c.read-reading.result c.in-Ok.booked _ _ _ _ _ _ before (g.P.Port.log c.args.port.now) (g.P.Port.log c.send-failed.new.port) k
     (answers_sent (g.P.Port.log c.read-reading.new.self) (g.P.Port.log c.send-failed.new.port) (command_of c.in-Some.entry) c.send-failed.result (c.send-failed.ensures.told tells) ∙ ap (λ (l : Log). l.answers) (c.read-reading.ensures.told (c.send-failed.ensures.still tells)))
     c.in-Ok.ensures.served s)
 
 pub returns-clause-shown : goal.returns-clause-shown
 returns-clause-shown g c = at_none c.lost_by.result (λ tells before k s.
-    shown_sent c.args.machine c.args.plan.now before (g.P.Port.log c.send-failed.new.port) (g.P.Port.log c.send-failed.new.port) _ c.locked_turn.new.hand.watch c.send-failed.new.watch (k + 1) refl
-    (saw_sent c.args.machine c.args.plan.now c.send-failed.result c.locked_turn.new.hand.watch c.send-failed.new.watch c.send-failed.ensures.fits)
+    shown_sent c.args.machine c.args.plan.now before (g.P.Port.log c.send-failed.new.port) (g.P.Port.log c.send-failed.new.port) _ c.locked_turn.new.worker.watch c.send-failed.new.watch (k + 1) refl
+    (saw_sent c.args.machine c.args.plan.now c.send-failed.result c.locked_turn.new.worker.watch c.send-failed.new.watch c.send-failed.ensures.fits)
     (shown_turn c.args.machine c.args.plan.now c.read-reading.result c.in-Ok.booked _ _ _ _ _ _ before (g.P.Port.log c.args.port.now) (g.P.Port.log c.send-failed.new.port) k
     (answers_sent (g.P.Port.log c.read-reading.new.self) (g.P.Port.log c.send-failed.new.port) (command_of c.in-Some.entry) c.send-failed.result (c.send-failed.ensures.told tells) ∙ ap (λ (l : Log). l.answers) (c.read-reading.ensures.told (c.send-failed.ensures.still tells)))
     c.in-Ok.ensures.served s))
