@@ -5,6 +5,12 @@
 #[cfg(test)]
 mod cell;
 #[cfg(test)]
+mod failures;
+#[cfg(test)]
+mod meeting;
+#[cfg(test)]
 mod reports;
 #[cfg(test)]
 mod rows;
+#[cfg(test)]
+mod telling;
