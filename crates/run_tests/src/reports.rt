@@ -1,0 +1,73 @@
+//! What is to hold of a run's report.
+use cell_audit::{audit, write_journal};
+use cell_types::{Actor, Entry, Machine, Totals, actor_of};
+use cell_views::count_of;
+use cell_workers::{End, Plan, Report};
+use std::process::Abort;
+
+/// The workers, in the order of a report.
+const ACTORS: [Actor; 7] = [
+    Actor::Machine(Machine::Feed),
+    Actor::Machine(Machine::Table),
+    Actor::Machine(Machine::Robot),
+    Actor::Machine(Machine::Press1),
+    Actor::Machine(Machine::Press2),
+    Actor::Machine(Machine::Deposit),
+    Actor::Operator,
+];
+
+/// The counts of an actor's entries of a journal, where its list is these entries in their order.
+fn counts_of_list(journal: &[Entry], actor: Actor, list: &[Entry]) -> Option<Totals> {
+    let mut rest = list.iter();
+    for entry in journal {
+        if actor_of(*entry) == actor && rest.next() != Some(entry) {
+            return None;
+        }
+    }
+    match rest.next() {
+        Some(_) => None,
+        None => Some(count_of(list)),
+    }
+}
+
+// Adds up the counts of two workers.
+fn sum_of(some: Totals, others: Totals) -> Totals {
+    Totals {
+        entries: some.entries.saturating_add(others.entries),
+        admitted: some.admitted.saturating_add(others.admitted),
+        forged: some.forged.saturating_add(others.forged),
+        quarantined: some.quarantined.saturating_add(others.quarantined),
+        delivered: some.delivered.saturating_add(others.delivered),
+    }
+}
+
+/// Checks what holds of every report: the journal's text is that of a legal journal with these totals and is no longer than
+/// the plan lets it be, each worker's list is its actor's entries of the journal, its counts are those of its list, and the
+/// counts of all add up to the totals.
+pub(crate) fn check_report<R: AllocGlobal + Abort>(rt: &R, report: &Report, plan: &Plan) {
+    let alloc = rt.alloc();
+    let mut text = Vec::new(alloc);
+    assert!(rt; write_journal(alloc, &report.journal, &mut text).is_ok());
+    assert_eq!(rt; audit(alloc, text.as_slice()), Ok(report.totals));
+    assert!(rt; report.journal.len() <= plan.journal_limit.saturating_add(6));
+    let mut all = count_of(&[]);
+    for ((list, counts), actor) in report.workers.iter().zip(ACTORS.iter()) {
+        let counted = counts_of_list(report.journal.entries(), *actor, list.as_slice());
+        assert_eq!(rt; counted, Some(*counts), "the list of {actor:?}");
+        all = sum_of(all, *counts);
+    }
+    assert_eq!(rt; all, report.totals);
+}
+
+/// Checks how a run ended, and what it counted: admitted, forged, quarantined, delivered.
+pub(crate) fn check_end(rt: &impl Abort, report: &Report, end: End, wanted: [u32; 4]) {
+    assert_eq!(rt; report.end, end);
+    let Totals {
+        admitted,
+        forged,
+        quarantined,
+        delivered,
+        ..
+    } = report.totals;
+    assert_eq!(rt; [admitted, forged, quarantined, delivered], wanted);
+}
