@@ -4,19 +4,17 @@ mod hands;
 mod refusals;
 mod runs;
 
-use crate::sim::ends::End;
-use crate::sim::run_texts;
-use crate::sim::texts::simulate;
 use cell_audit::{audit, write_journal};
 use cell_lines::WriteFault;
-use cell_settings::read_settings;
-use cell_sim::{FaultScript, SimOperator, World};
+use cell_runs::{Inputs, read_inputs, run_texts, simulate};
+use cell_sim::{SimOperator, World};
 use cell_types::{Axis, Entry, Totals};
-use operator_desk::Script;
+use cell_workers::End;
 use std::alloc::{AllocError, Global};
 use std::process::Abort;
 use std::sync::{Mutex, Wait};
 use std::test::Fail;
+use std::thread::Threads;
 
 // What is printed for three texts, and the status.
 fn told<R: AllocGlobal + Threads + Wait + Sync>(

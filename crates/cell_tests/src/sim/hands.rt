@@ -1,11 +1,8 @@
 //! Runs whose operator's hands fail.
-use crate::sim::ends::End;
-use crate::sim::texts::simulate;
-use cell_settings::read_settings;
-use cell_sim::{FaultScript, SimOperator, World};
-use cell_turns::{OperatorPort, PortFault};
+use cell_runs::{Inputs, read_inputs, simulate};
+use cell_sim::{SimOperator, World};
 use cell_types::{Machine, Station};
-use operator_desk::Script;
+use cell_workers::{End, OperatorPort, PortFault};
 use std::process::Abort;
 use std::sync::{Mutex, Wait};
 

@@ -1,12 +1,12 @@
 //! Texts that are refused, and writers that fail.
-use crate::sim::run_texts;
-use crate::sim::tests::told;
+use crate::sim::told;
+use crate::streams::Full;
 use cell_lines::WriteFault;
-use std::io;
-use std::io::Write;
+use cell_runs::run_texts;
 use std::process::Abort;
 use std::sync::Wait;
 use std::test::Fail;
+use std::thread::Threads;
 
 // Three texts of which one is refused with this line, whether the journal is wanted or not.
 fn check_refused<R: AllocGlobal + Abort + Threads + Wait + Sync>(
