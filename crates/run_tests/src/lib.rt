@@ -9,8 +9,14 @@ mod failures;
 #[cfg(test)]
 mod meeting;
 #[cfg(test)]
+mod operators;
+#[cfg(test)]
 mod reports;
+#[cfg(test)]
+mod rooms;
 #[cfg(test)]
 mod rows;
 #[cfg(test)]
 mod telling;
+#[cfg(test)]
+mod workers;
