@@ -1,6 +1,7 @@
 //! The audit of texts, whole, cut and from readers that fail, and the writing of journals.
 use crate::entries::begun;
 use crate::journal_of_one_plate::JOURNAL;
+use crate::streams::{Bytewise, Full};
 use cell_audit::{AuditError, WriteError, audit, write_journal};
 use cell_journal::Journal;
 use cell_types::{Axis, Belt, Machine, Station, Totals};
@@ -11,8 +12,8 @@ use std::io::{Read, Write};
 use std::process::Abort;
 use std::test::Fail;
 
-// The text of the journal of one plate.
-fn carried_text(alloc: Global) -> Result<Vec<u8>, AllocError> {
+/// The text of the journal of one plate.
+pub(crate) fn carried_text(alloc: Global) -> Result<Vec<u8>, AllocError> {
     let mut text = Vec::new(alloc);
     text.extend_from_slice(b"profile,1,,\n")?;
     for record in JOURNAL.iter() {
@@ -20,30 +21,6 @@ fn carried_text(alloc: Global) -> Result<Vec<u8>, AllocError> {
         text.push(b'\n')?;
     }
     Ok(text)
-}
-
-// A reader that hands out one byte at a time, and fails after a number of bytes.
-#[derive(Drop)]
-struct Bytewise<'a> {
-    text: &'a [u8],
-    at: usize,
-    fails_at: usize,
-}
-
-impl Read for Bytewise<'_> {
-    fn read(&mut self, buf: &mut [u8]) -> io::Result<usize> {
-        if self.at >= self.fails_at {
-            return Err(io::Error::from(io::ErrorKind::Other));
-        }
-        match (self.text.get(self.at), buf.first_mut()) {
-            (Some(byte), Some(cell)) => {
-                *cell = *byte;
-                self.at = self.at.saturating_add(1);
-                Ok(1)
-            }
-            _ => Ok(0),
-        }
-    }
 }
 
 // A reader of a text that turns the feed light green and red in turn, and then ends with a last record.
@@ -286,29 +263,6 @@ fn reads_over_a_record_of_a_million_letters(rt: HostRuntime) -> Result<(), Fail>
         Err(AuditError::Unreadable(1))
     );
     Ok(())
-}
-
-// A writer over memory that takes a number of bytes and then fails.
-#[derive(Drop)]
-struct Full {
-    left: usize,
-    written: Vec<u8>,
-}
-
-impl Write for Full {
-    fn write(&mut self, buf: &[u8]) -> io::Result<usize> {
-        let count = self.left.min(buf.len());
-        if count == 0 && !buf.is_empty() {
-            return Err(io::Error::from(io::ErrorKind::StorageFull));
-        }
-        self.written.write_all(&buf[..count])?;
-        self.left -= count;
-        Ok(count)
-    }
-
-    fn flush(&mut self) -> io::Result<()> {
-        Ok(())
-    }
 }
 
 // What is written of a journal, which is this text.

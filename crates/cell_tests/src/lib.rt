@@ -1,9 +1,11 @@
-//! The tests of the crates above the plate book, `cell_policy`, `cell_machines`, `cell_ledger`, `cell_audit` and
-//! `operator_desk`, and of `cell_rows`. There is nothing here but tests.
+//! The tests of the crates above the plate book, `cell_policy`, `cell_machines`, `cell_ledger`, `cell_audit`, `cell_lines`,
+//! `cell_settings`, `operator_desk` and `cell_runs`, and of `cell_rows`. There is nothing here but tests.
 #![tactic(auto)]
 
 #[cfg(test)]
 mod audit;
+#[cfg(test)]
+mod audit_lines;
 #[cfg(test)]
 mod entries;
 #[cfg(test)]
@@ -18,5 +20,11 @@ mod operator;
 mod policy;
 #[cfg(test)]
 mod rows;
+#[cfg(test)]
+mod settings;
+#[cfg(test)]
+mod sim;
+#[cfg(test)]
+mod streams;
 #[cfg(test)]
 mod walk;

@@ -81,7 +81,7 @@ pub fn is_plate(some: PlateId, other: PlateId) -> bool
     ensures yes { result ≡ true → some ≡ other }
     ensures no { some ≡ other → result ≡ true }
 {
-    some == other
+    some.number() == other.number()
 }
 
 fn is_lamp(entry: &Entry, belt: Belt, colour: Colour) -> bool

@@ -172,11 +172,11 @@ impl<R: Run> Hall<R> {
         ensures stands { Stands self.old.end self.new.end }
         ensures first { self.old.end ≡ None → self.new.end ≡ Some end }
     {
-        if self.end.is_some() {
-            return false;
+        let first = self.end.is_none();
+        if first {
+            self.end = Some(end);
         }
-        self.end = Some(end);
-        true
+        first
     }
 
     /// Marks a worker as idle. Where all are, the run ends. It answers whether that set the end.

@@ -20,7 +20,7 @@ use cell_types::Entry;
 use operator_desk::{Script, entry_of};
 use plate_book::Refusal;
 use std::alloc::Global;
-use std::sync::Wait;
+use std::sync::{MutexGuard, Wait};
 
 /// The operator's place among the workers.
 const OPERATOR: usize = 6;
@@ -65,11 +65,26 @@ impl<R: Run> Hall<R> {
     }
 }
 
-/// Wakes all after a booking, where it was booked or ended the run.
-fn wake_after<R: Run>(room: &Room<R>, taken: &Result<(), Ended>) {
-    if *taken != Err(Ended::PortLost) {
+/// Books an entry under the lock, gives the lock back and wakes all, where it was booked or ended the run.
+fn book_and_wake<R: Run>(
+    room: &Room<R>,
+    hall: MutexGuard<'_, Hall<R>>,
+    bookings: &mut Bookings<R>,
+    entry: Entry,
+) -> Result<(), Ended>
+    requires { actor_of entry ≡ actors.Operator }
+    ensures entries { OnOk result (bookings.new.entries.items ≡ bookings.old.entries.items ++ entry ∷ []) }
+    ensures shares { OnOk result (bookings.new.shares ≡ held bookings.old.shares.parts (plus bookings.old.shares.counts (count_one entry))) }
+    ensures unchanged { OnErr result ((bookings.new.entries.items ≡ bookings.old.entries.items) × (bookings.new.shares ≡ bookings.old.shares)) }
+    ensures ended { result ≢ Err Ended.Told }
+{
+    let mut hall = hall;
+    let taken = hall.take(bookings, entry);
+    drop(hall);
+    if taken != Err(Ended::PortLost) {
         room.moved.notify_all();
     }
+    taken
 }
 
 /// Takes the lock and asks the script. It answers the next entry, if it wants an act by hand; one that wants none, a stop, is
@@ -100,34 +115,13 @@ fn choose<R: Run, W: Wait>(
     if act_of(&entry).is_some() {
         return Ok(Some(entry));
     }
-    let taken = hall.take(bookings, entry);
-    drop(hall);
-    wake_after(room, &taken);
-    match taken {
+    match book_and_wake(room, hall, bookings, entry) {
         Ok(()) => {
             script.done();
             Ok(None)
         }
         Err(ended) => Err(ended),
     }
-}
-
-/// Takes the lock and books an entry whose act by hand is done.
-fn locked_booking<R: Run, W: Wait>(
-    rt: &W,
-    room: &Room<R>,
-    bookings: &mut Bookings<R>,
-    entry: Entry,
-) -> Result<(), Ended>
-    requires { actor_of entry ≡ actors.Operator }
-    ensures entries { OnOk result (bookings.new.entries.items ≡ bookings.old.entries.items ++ entry ∷ []) }
-    ensures shares { OnOk result (bookings.new.shares ≡ held bookings.old.shares.parts (plus bookings.old.shares.counts (count_one entry))) }
-    ensures unchanged { OnErr result ((bookings.new.entries.items ≡ bookings.old.entries.items) × (bookings.new.shares ≡ bookings.old.shares)) }
-    ensures ended { result ≢ Err Ended.Told }
-{
-    let taken = room.hall.lock(rt).take(bookings, entry);
-    wake_after(room, &taken);
-    taken
 }
 
 /// Does by hand what an entry wants, without the lock, and books it. The list's place is reserved before the act.
@@ -153,7 +147,7 @@ fn hand_over<O: OperatorPort, R: Run, W: Wait>(
     let Ok(()) = do_by_hand(operator, &entry) else {
         return Err(Ended::PortLost);
     };
-    match locked_booking(rt, room, bookings, entry) {
+    match book_and_wake(room, room.hall.lock(rt), bookings, entry) {
         Ok(()) => Ok(()),
         Err(ended) => Err(ended),
     }

@@ -27,6 +27,7 @@ abbrev pub Fits : Text → List Row → Order → Type 0
 Fits name rows order.Audit = name ≡ codes "audit"
 Fits name rows (order.Check path) = (name ≡ codes "check") × HasPath rows (codes "settings") path.now
 Fits name rows (order.Sim journal paths) = (name ≡ codes "sim") × HasFlag rows (codes "journal") journal × HasPaths rows paths
+Fits name rows (order.Run journal paths) = (name ≡ codes "run") × HasFlag rows (codes "journal") journal × HasPaths rows paths
 
 -- the words have a command that clap matches in them, and the order is of it
 abbrev pub IsOrdered : List Text → Order → Type 0

@@ -22,8 +22,8 @@ abbrev pub journal_rule : Rule
 journal_rule = record (new_rule (codes "journal")) { long = Some (codes "journal"); action = Some SetTrue }
 
 -- a command that runs the cell by three files
-abbrev pub run : Text → App
-run name =
+abbrev pub running : Text → App
+running name =
     with_rule
     (with_rule (with_rule (with_rule (new_app name) journal_rule) (path_rule (codes "settings"))) (path_rule (codes "faults")))
     (path_rule (codes "operator"))
@@ -31,5 +31,7 @@ run name =
 abbrev pub cellctl : App
 cellctl =
     let whole =
-    with_subcommand (with_subcommand (with_subcommand (new_app (codes "cellctl")) audit.top) check.top) (run (codes "sim")).top in
+    with_subcommand
+    (with_subcommand (with_subcommand (with_subcommand (new_app (codes "cellctl")) audit.top) check.top) (running (codes "sim")).top)
+    (running (codes "run")).top in
     record whole { top = needing_help whole.top }

@@ -2,7 +2,7 @@
 ghost use Rattle.std.specs.Prelude.{◌≡◌, IfOk, codes, false};
 ghost use Rattle.clap.specs.Words.{app_of, rule_of, with_subcommand};
 ghost use Rattle.clap.specs.declared.builder.command.Command.TheViews.{out-Command};
-ghost use Rattle.cellctl.specs.Shape.{audit, cellctl, check, journal_rule, path_rule, run};
+ghost use Rattle.cellctl.specs.Shape.{audit, cellctl, check, journal_rule, path_rule, running};
 
 use clap::{Arg, ArgAction, Command};
 use std::alloc::{AllocError, Global};
@@ -78,6 +78,20 @@ refused:
 
 Exit status: 0 finished, 1 another end or a text refused, 2 wrong arguments, 3 a read or a write failed, 4 out of memory.";
 
+const RUN_ABOUT: &str = "Runs the simulated cell on threads";
+
+const RUN_HELP: &str = "\
+Runs the simulated cell with each machine's worker and the operator's on a thread of its own, until nothing more is to be \
+done in it. It reads the three files of the command sim, and prints the same lines, or the same of a text that is refused.
+
+Which worker acts first isn't determined, so two runs by the same files may print different journals. Where the operator \
+stops a machine, or the end is turn limit or full, what is counted may differ too. The line
+  journal disagrees
+says that some worker's list of what it booked isn't what the journal has of it.
+
+Exit status: 0 finished, 1 another end, a text refused or a journal that disagrees, 2 wrong arguments, 3 a read or a write \
+failed, 4 out of memory, or no thread to be had.";
+
 const JOURNAL_HELP: &str = "Print the run's journal alone";
 
 const SETTINGS_HELP: &str = "The file with the settings";
@@ -92,6 +106,9 @@ const CHECK_EXAMPLE: &str = "Example: cellctl check examples/cell.toml";
 
 const SIM_EXAMPLE: &str =
     "Example: cellctl sim examples/press_fails.toml examples/press_fails.faults examples/press_fails.operator";
+
+const RUN_EXAMPLE: &str =
+    "Example: cellctl run examples/press_fails.toml examples/press_fails.faults examples/press_fails.operator";
 
 fn audit_command<'a>(alloc: Global) -> Command<'a>
     ensures app { app_of result ≡ audit }
@@ -144,8 +161,8 @@ fn journal<'a>(alloc: Global) -> Arg<'a>
 }
 
 // A command that runs the cell by three files.
-fn run_command<'a>(alloc: Global, name: &'a str) -> Result<Command<'a>, AllocError>
-    ensures app { IfOk result (λ c. app_of c ≡ run name.entry.now) }
+fn running_command<'a>(alloc: Global, name: &'a str) -> Result<Command<'a>, AllocError>
+    ensures app { IfOk result (λ c. app_of c ≡ running name.entry.now) }
     ensures local { IfOk result (λ c. (out-Command c).has_globals ≡ false) }
 {
     Command::new(alloc, name)
@@ -156,15 +173,28 @@ fn run_command<'a>(alloc: Global, name: &'a str) -> Result<Command<'a>, AllocErr
 }
 
 fn sim_command<'a>(alloc: Global) -> Result<Command<'a>, AllocError>
-    ensures app { IfOk result (λ c. app_of c ≡ run (codes "sim")) }
+    ensures app { IfOk result (λ c. app_of c ≡ running (codes "sim")) }
     ensures local { IfOk result (λ c. (out-Command c).has_globals ≡ false) }
 {
-    let command = run_command(alloc, "sim")?;
+    let command = running_command(alloc, "sim")?;
     Ok(
         command
             .about(SIM_ABOUT)
             .long_about(SIM_HELP)
             .after_help(SIM_EXAMPLE),
+    )
+}
+
+fn run_command<'a>(alloc: Global) -> Result<Command<'a>, AllocError>
+    ensures app { IfOk result (λ c. app_of c ≡ running (codes "run")) }
+    ensures local { IfOk result (λ c. (out-Command c).has_globals ≡ false) }
+{
+    let command = running_command(alloc, "run")?;
+    Ok(
+        command
+            .about(RUN_ABOUT)
+            .long_about(RUN_HELP)
+            .after_help(RUN_EXAMPLE),
     )
 }
 
@@ -186,7 +216,8 @@ pub(crate) fn command<'a>(alloc: Global) -> Result<Command<'a>, AllocError>
     let bare = Command::new(alloc, "cellctl");
     let one = add(bare, audit_command(alloc))?;
     let two = add(one, check_command(alloc)?)?;
-    let command = add(two, sim_command(alloc)?)?;
+    let three = add(two, sim_command(alloc)?)?;
+    let command = add(three, run_command(alloc)?)?;
     Ok(
         command
             .about(ABOUT)

@@ -1,23 +1,21 @@
-//! `cellctl`: the audit of a production cell's journal, the check of a run's settings, and the run of the simulated cell.
+//! `cellctl`: the audit of a production cell's journal, the check of a run's settings, and the runs of the simulated cell.
 #![tactic(auto)]
 
 mod command;
-mod lines;
 mod order;
-mod settings;
-mod sim;
 
+use cell_lines::{WriteFault, audit_lines};
+use cell_runs::run_texts;
+use cell_settings::check_lines;
 use clap::Error;
 use clap::error::ErrorKind;
-use lines::{WriteFault, audit_lines};
 use order::{Order, Paths, read_words};
-use settings::check_lines;
-use sim::run_texts;
 use std::env::Env;
 use std::io::Write;
 use std::process::ExitCode;
 use std::rt::Files;
 use std::sync::Wait;
+use std::thread::Threads;
 use std::{env, fs, io};
 
 #[cfg(test)]
@@ -76,10 +74,11 @@ fn check_file<R: AllocGlobal + Files + Print>(rt: &R, path: &str) -> io::Result<
     }
 }
 
-// Runs the simulated cell by three files, which are all read before any is judged. All that is printed is written out
-// before the status is given.
-fn simulate_files<R: AllocGlobal + Files + Print + Wait>(
+// Runs the simulated cell by three files, on threads or in rounds. The files are all read before any is judged. All that is
+// printed is written out before the status is given.
+fn run_files<R: AllocGlobal + Files + Print + Threads + Wait + Sync>(
     rt: &R,
+    threads: bool,
     journal: bool,
     paths: Paths<'_>,
 ) -> io::Result<u8> {
@@ -92,7 +91,7 @@ fn simulate_files<R: AllocGlobal + Files + Print + Wait>(
         settings.as_slice(),
         faults.as_slice(),
         operator.as_slice(),
-        false,
+        threads,
         journal,
         &mut output,
     ) {
@@ -105,7 +104,9 @@ fn simulate_files<R: AllocGlobal + Files + Print + Wait>(
 }
 
 // Reads the words, does what they say, and gives the status.
-fn run<R: AllocGlobal + Env + Files + Input + Print + Eprint + Wait>(rt: &R) -> io::Result<u8> {
+fn run<R: AllocGlobal + Env + Files + Input + Print + Eprint + Threads + Wait + Sync>(
+    rt: &R,
+) -> io::Result<u8> {
     let alloc = rt.alloc();
     let arguments = match env::args(rt) {
         Ok(arguments) => arguments,
@@ -123,7 +124,8 @@ fn run<R: AllocGlobal + Env + Files + Input + Print + Eprint + Wait>(rt: &R) -> 
     match read_words(alloc, texts.as_slice()) {
         Ok(Order::Audit) => audit_input(rt),
         Ok(Order::Check(path)) => check_file(rt, path),
-        Ok(Order::Sim(journal, paths)) => simulate_files(rt, journal, paths),
+        Ok(Order::Sim(journal, paths)) => run_files(rt, false, journal, paths),
+        Ok(Order::Run(journal, paths)) => run_files(rt, true, journal, paths),
         Err(error) => Ok(refuse(rt, &error)),
     }
 }

@@ -26,6 +26,8 @@ pub enum Order<'a> {
     Check(&'a str),
     /// Run the simulated cell on one thread by these files, and print its journal where this is true.
     Sim(bool, Paths<'a>),
+    /// Run the simulated cell by workers on threads by these files, and print its journal where this is true.
+    Run(bool, Paths<'a>),
 }
 
 // The path at an id.
@@ -64,6 +66,7 @@ fn order_of<'a>(name: &str, matches: &ArgMatches<'a>) -> Option<Order<'a>>
         "audit" => Some(Order::Audit),
         "check" => Some(Order::Check(path(matches, "settings")?)),
         "sim" => Some(Order::Sim(journal(matches), three_paths(matches)?)),
+        "run" => Some(Order::Run(journal(matches), three_paths(matches)?)),
         _ => None,
     }
 }

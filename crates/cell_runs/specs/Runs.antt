@@ -1,0 +1,85 @@
+-- What is printed of a run, and the status with which it ends
+use Rattle.std.specs.Prelude.{◌≡◌, ◌⊎◌, ℕ, Bool, true, false, List, [], ◌∷◌, ◌++◌, Option, Result, Ok, Err, codes}
+use Rattle.std.specs.Io.KnownBytes.{Appends}
+use Rattle.cell_types.specs.declared.words.Entry.{Entry}
+use Rattle.cell_types.specs.declared.words.Totals.{Totals}
+use Rattle.cell_views.specs.Views.{count_of}
+use Rattle.plate_book.specs.declared.limits.Limits.{Limits}
+use Rattle.plate_book.specs.Legal.{legal}
+use Rattle.cell_turns.specs.declared.plan.Plan.{Plan}
+use Rattle.cell_workers.specs.Ends.{IsDone}
+use Rattle.cell_workers.specs.Report.{IsReport}
+use Rattle.cell_workers.specs.declared.ends.End.{End}
+use Rattle.cell_workers.specs.declared.ends.End.TheVariants as end
+use Rattle.cell_workers.specs.declared.running.RunError.{RunError}
+use Rattle.cell_workers.specs.declared.running.RunError.TheVariants as run
+use Rattle.cell_audit.specs.Text.{text_of}
+use Rattle.cell_lines.specs.Lines.{number_line}
+use Rattle.cell_runs.specs.Inputs.{AreInputs, WritesError, input_line, input_status}
+use Rattle.cell_runs.specs.declared.inputs.Inputs.{Inputs}
+use Rattle.cell_runs.specs.declared.inputs.InputError.{InputError}
+
+abbrev pub word_of : End → List ℕ
+word_of end.Finished = codes "finished"
+word_of end.Stalled = codes "stalled"
+word_of end.TurnLimit = codes "turn limit"
+word_of end.Memory = codes "memory"
+word_of end.Full = codes "full"
+
+abbrev pub status_of : End → ℕ
+status_of end.Finished = 0
+status_of end.Stalled = 1
+status_of end.TurnLimit = 1
+status_of end.Memory = 4
+status_of end.Full = 1
+
+-- the lines of a run that ended so and counted these totals
+abbrev pub run_lines : End → Totals → List ℕ
+run_lines e t =
+    (word_of e ++ 10 ∷ []) ++ (number_line (codes "admitted") t.admitted ++ (number_line (codes "forged") t.forged
+    ++ (number_line (codes "quarantined") t.quarantined ++ number_line (codes "delivered") t.delivered)))
+
+-- what is printed of a run with this journal: its lines, or the journal's text alone
+abbrev pub shown : Bool → End → Totals → List Entry → List ℕ
+shown false e t J = run_lines e t
+shown true e t J = text_of J
+
+-- it was printed, and the status is the end's
+abbrev pub Prints : Bool → End → Totals → List Entry → Option (List ℕ) → Option (List ℕ) → ℕ → Type 0
+Prints journal e t J old new status = Appends old new (shown journal e t J) × (status ≡ status_of e)
+
+abbrev pub limits_of : Plan → Limits
+limits_of plan = record { entries = plan.journal_limit; plates = plan.plates }
+
+-- a run on one thread has a journal that is legal within its limits, is done where it finished, and is printed with its end;
+-- or memory was refused
+abbrev pub WritesRounds : Bool → Limits → Option (List ℕ) → Option (List ℕ) → ℕ → Type 0
+WritesRounds journal limits old new status =
+    ((e : End) × (J : List Entry) × (legal limits J ≡ true) × (e ≡ end.Finished → IsDone limits.plates J) × Prints journal e (count_of J) J old new status) ⊎ (status ≡ 4)
+
+-- what is printed where there is no report
+abbrev pub WritesRunError : Option (List ℕ) → Option (List ℕ) → RunError → ℕ → Type 0
+WritesRunError old new run.OutOfMemory status = WritesError old new [] 4 status
+WritesRunError old new run.ThreadRefused status = WritesError old new [] 4 status
+WritesRunError old new run.JournalDisagrees status = WritesError old new (codes "journal disagrees\n") 1 status
+
+-- a run on threads has a report, which is printed with the run's end, or why there is none is told; or memory was refused
+abbrev pub WritesReport : Bool → Limits → Option (List ℕ) → Option (List ℕ) → ℕ → Type 0
+WritesReport journal limits old new status =
+    ((e : End) × (J : List Entry) × (t : Totals) × (ws : List (List Entry × Totals)) × IsReport limits J t ws × Prints journal e t J old new status)
+    ⊎ (((why : RunError) × WritesRunError old new why status) ⊎ (status ≡ 4))
+
+abbrev pub WritesRun : Bool → Bool → Limits → Option (List ℕ) → Option (List ℕ) → ℕ → Type 0
+WritesRun false journal limits old new status = WritesRounds journal limits old new status
+WritesRun true journal limits old new status = WritesReport journal limits old new status
+
+-- what is printed of a run's texts, or of the first that is refused
+abbrev pub WritesInputs : Bool → Bool → Option (List ℕ) → Option (List ℕ) → ℕ → Result Inputs InputError → Type 0
+WritesInputs threads journal old new status (Ok inputs) = WritesRun threads journal (limits_of inputs.plan) old new status
+WritesInputs threads journal old new status (Err e) = WritesError old new (input_line e) (input_status e) status
+
+-- what was written is the line of the first text that is refused, in the order settings, faults, operator, or is of a run
+-- within the settings' limits, on threads or on one
+abbrev pub TellsRun : List ℕ → List ℕ → List ℕ → Bool → Bool → Option (List ℕ) → Option (List ℕ) → ℕ → Type 0
+TellsRun settings faults operator threads journal old new status =
+    (inputs : Result Inputs InputError) × AreInputs settings faults operator inputs × WritesInputs threads journal old new status inputs

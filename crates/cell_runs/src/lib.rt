@@ -1,0 +1,14 @@
+//! Runs of the simulated cell by their texts, in rounds on one thread or by workers on threads, and what is printed of them.
+#![tactic(auto)]
+
+mod inputs;
+mod refused;
+mod report;
+mod rounds;
+mod simulation;
+mod texts;
+
+pub use inputs::{InputError, Inputs, read_inputs};
+pub use rounds::Outcome;
+pub use simulation::simulate;
+pub use texts::run_texts;

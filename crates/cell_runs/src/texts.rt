@@ -1,0 +1,97 @@
+//! A run by its texts.
+ghost use Rattle.std.specs.Prelude.{◌≡◌, IfOk};
+ghost use Rattle.cell_runs.specs.Runs.{TellsRun, WritesReport, WritesRounds, limits_of};
+
+use crate::inputs::{Inputs, read_inputs};
+use crate::refused::refuse_input;
+use crate::report::{write_outcome, write_report, write_run_error};
+use crate::simulation::{ports_of, simulate};
+use cell_lines::WriteFault;
+use cell_sim::{SimOperator, World};
+use cell_workers::run_cell;
+use std::alloc::AllocError;
+use std::io::Write;
+use std::sync::{Mutex, Wait};
+use std::thread::Threads;
+
+// Runs the simulated cell over a new world in rounds, and writes what comes of it.
+fn write_rounds<R: AllocGlobal + Wait, W: Write>(
+    rt: &R,
+    inputs: Inputs,
+    journal: bool,
+    writer: &mut W,
+) -> Result<u8, WriteFault>
+    ensures { IfOk result (WritesRounds journal (limits_of inputs.plan) (W.contents writer.old) (W.contents writer.new)) }
+{
+    let Inputs {
+        plan,
+        faults,
+        script,
+    } = inputs;
+    let world = Mutex::new(World::new(plan.plates));
+    let mut hands = SimOperator::new(rt, &world);
+    match simulate(rt, &plan, &faults, script, &world, &mut hands) {
+        Ok(outcome) => write_outcome(rt.alloc(), &outcome, journal, writer),
+        Err(AllocError) => Ok(4),
+    }
+}
+
+// Runs the simulated cell over a new world by workers on threads, and writes what comes of it.
+fn write_threads<R: AllocGlobal + Threads + Wait + Sync, W: Write>(
+    rt: &R,
+    inputs: Inputs,
+    journal: bool,
+    writer: &mut W,
+) -> Result<u8, WriteFault>
+    ensures { IfOk result (WritesReport journal (limits_of inputs.plan) (W.contents writer.old) (W.contents writer.new)) }
+{
+    let Inputs {
+        plan,
+        faults,
+        script,
+    } = inputs;
+    let alloc = rt.alloc();
+    let world = Mutex::new(World::new(plan.plates));
+    let mut ports = ports_of(rt, &world, &faults);
+    let mut hands = SimOperator::new(rt, &world);
+    match run_cell(rt, alloc, &mut ports, &mut hands, script, &plan) {
+        Ok(report) => write_report(alloc, &report, journal, writer),
+        Err(error) => write_run_error(writer, error),
+    }
+}
+
+/// Reads the texts of a run, the settings, the script of faults and the operator's script, runs the simulated cell, writes
+/// what comes of it, and gives the exit status. With `threads` each machine's worker and the operator's run on threads of
+/// their own; else all take turns in rounds on this one.
+///
+/// The first text that is refused, in that order, is told in one line: `settings` as by `check_lines`, `faults
+/// unreadable I`, `faults too long`, `operator unreadable I` or `operator too long`, status 1. A run gives the line
+/// `finished` (status 0), `stalled`, `turn limit`, `full` (1) or `memory` (4) and then the lines `admitted`, `forged`,
+/// `quarantined` and `delivered`, each with its number; with `journal` its journal's text alone. On threads the line
+/// `journal disagrees` (1) is told alone where an actor's entries in the journal aren't its worker's. Where memory is
+/// refused before the run, or a thread, nothing is written, status 4. `WriteFault` comes only where the writer failed.
+///
+/// On threads no clause says that a run which is told as `finished` is.
+pub fn run_texts<R: AllocGlobal + Threads + Wait + Sync, W: Write>(
+    rt: &R,
+    settings: &[u8],
+    faults: &[u8],
+    operator: &[u8],
+    threads: bool,
+    journal: bool,
+    writer: &mut W,
+) -> Result<u8, WriteFault>
+    // What is written is of the first text that is refused, or of a run within the settings' limits.
+    ensures { IfOk result (TellsRun settings.now faults.now operator.now threads journal (W.contents writer.old) (W.contents writer.new)) }
+{
+    match read_inputs(rt.alloc(), settings, faults, operator) {
+        Ok(inputs) => {
+            if threads {
+                write_threads(rt, inputs, journal, writer)
+            } else {
+                write_rounds(rt, inputs, journal, writer)
+            }
+        }
+        Err(error) => refuse_input(writer, error),
+    }
+}

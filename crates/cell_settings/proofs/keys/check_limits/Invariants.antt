@@ -1,0 +1,9 @@
+use Rattle.std.proofs.Common.{◌≡◌}
+use Rattle.toml.specs.View.{members_view}
+use Rattle.cell_settings.specs.Keys.{stray_limit}
+use Rattle.cell_settings.proofs.keys.check_limits.Given as goal
+
+abbrev pub invariant-loop-key : goal.invariant-loop-key
+invariant-loop-key l =
+    (goal.iterator-loop-key).can_next l.key-iterator × (goal.iterator-loop-key).is_finite l.key-iterator
+    × (stray_limit l.fn.path (members_view l.key-iterator) ≡ stray_limit l.fn.path (members_view l.table.entries))

@@ -1,0 +1,46 @@
+-- What the program prints for settings, and the status with which it ends
+use Rattle.std.specs.Prelude.{◌≡◌, ℕ, List, [], ◌∷◌, ◌++◌, Option, Result, Ok, Err, codes}
+use Rattle.std.specs.Io.KnownBytes.{Appends}
+use Rattle.cell_settings.specs.Settings.{AnswersText, Numbers}
+use Rattle.cell_settings.specs.declared.error.SettingsError.{SettingsError}
+use Rattle.cell_settings.specs.declared.error.SettingsError.TheVariants as error
+
+-- the line of an error that names a path
+abbrev pub path_line : List ℕ → List ℕ → List ℕ
+path_line name path = name ++ (path ++ 10 ∷ [])
+
+-- the line of an error
+abbrev pub error_line : SettingsError → List ℕ
+error_line error.NotToml = codes "settings NotToml\n"
+error_line (error.UnknownKey path) = path_line (codes "settings UnknownKey ") path
+error_line (error.Missing path) = path_line (codes "settings Missing ") path
+error_line (error.NotNumber path) = path_line (codes "settings NotNumber ") path
+error_line (error.OutOfRange path) = path_line (codes "settings OutOfRange ") path
+error_line error.OutOfMemory = []
+
+-- the status of an error
+abbrev pub error_status : SettingsError → ℕ
+error_status error.NotToml = 1
+error_status (error.UnknownKey path) = 1
+error_status (error.Missing path) = 1
+error_status (error.NotNumber path) = 1
+error_status (error.OutOfRange path) = 1
+error_status error.OutOfMemory = 4
+
+-- the line of an answer
+abbrev pub line_of : {X : Type 0} → Result X SettingsError → List ℕ
+line_of (Ok x) = codes "settings ok\n"
+line_of (Err e) = error_line e
+
+-- the status of an answer
+abbrev pub status_of : {X : Type 0} → Result X SettingsError → ℕ
+status_of (Ok x) = 0
+status_of (Err e) = error_status e
+
+-- the line of an answer was written, and this is its status
+abbrev pub WritesLine : {X : Type 0} → Option (List ℕ) → Option (List ℕ) → Result X SettingsError → ℕ → Type 0
+WritesLine old new answer status = Appends old new (line_of answer) × (status ≡ status_of answer)
+
+-- what was written is the line of an answer to the text, and the status is that answer's
+abbrev pub TellsCheck : List ℕ → Option (List ℕ) → Option (List ℕ) → ℕ → Type 0
+TellsCheck text old new status = (answer : Result Numbers SettingsError) × AnswersText text answer × WritesLine old new answer status

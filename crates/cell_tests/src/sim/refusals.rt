@@ -1,0 +1,76 @@
+//! Texts that are refused, and writers that fail.
+use crate::sim::run_texts;
+use crate::sim::tests::told;
+use cell_lines::WriteFault;
+use std::io;
+use std::io::Write;
+use std::process::Abort;
+use std::sync::Wait;
+use std::test::Fail;
+
+// Three texts of which one is refused with this line, whether the journal is wanted or not.
+fn check_refused<R: AllocGlobal + Abort + Threads + Wait + Sync>(
+    rt: &R,
+    settings: &[u8],
+    faults: &[u8],
+    operator: &[u8],
+    wanted: &[u8],
+) {
+    for journal in [false, true] {
+        let (written, status) = told(rt, settings, faults, operator, journal);
+        assert_eq!(rt; status, Ok(1));
+        assert_eq!(rt; written.as_slice(), wanted);
+    }
+}
+
+const GOOD: &[u8] = b"plates = 1";
+
+#[test]
+fn tells_the_first_text_that_is_refused(rt: HostRuntime) {
+    let bad = b"brew".as_slice();
+    check_refused(
+        &rt,
+        b"plates = 0",
+        bad,
+        bad,
+        b"settings OutOfRange plates\n",
+    );
+    check_refused(&rt, GOOD, bad, bad, b"faults unreadable 1\n");
+    let twice = b"press_two,1,both,\npress_two,1,both,\n";
+    check_refused(&rt, GOOD, twice, bad, b"faults unreadable 2\n");
+    check_refused(&rt, GOOD, b"\xff", b"\xff", b"faults unreadable 1\n");
+    check_refused(&rt, GOOD, b"", b"\xff", b"operator unreadable 1\n");
+    let numbered = b"always,1,stop,press1";
+    check_refused(&rt, GOOD, b"", numbered, b"operator unreadable 1\n");
+}
+
+#[test]
+fn tells_scripts_that_are_too_long(rt: HostRuntime) -> Result<(), Fail> {
+    let alloc = rt.alloc();
+    let mut stops = Vec::new(alloc);
+    let mut faults = Vec::new(alloc);
+    for motion in 1..1002u64 {
+        stops.extend_from_slice(b"always,,stop,press1\n")?;
+        let line = format!(in alloc; "press_two,{motion},both,\n")?;
+        faults.extend_from_slice(line.as_str().as_bytes())?;
+    }
+    check_refused(&rt, GOOD, faults.as_slice(), b"brew", b"faults too long\n");
+    check_refused(&rt, GOOD, b"", stops.as_slice(), b"operator too long\n");
+    Ok(())
+}
+
+#[test]
+fn a_failed_write_is_told(rt: HostRuntime) {
+    let lines = b"finished\nadmitted 1\nforged 1\nquarantined 0\ndelivered 1\n".len();
+    for left in 0..lines + 1 {
+        let mut writer = Full::new(rt.alloc(), left);
+        let answer = run_texts(&rt, GOOD, b"", b"", false, false, &mut writer);
+        let wanted = if left < lines { Err(WriteFault) } else { Ok(0) };
+        assert_eq!(rt; answer, wanted, "after {left} bytes");
+    }
+    for left in 0..40usize {
+        let mut writer = Full::new(rt.alloc(), left);
+        let answer = run_texts(&rt, GOOD, b"", b"", false, true, &mut writer);
+        assert_eq!(rt; answer, Err(WriteFault), "after {left} bytes");
+    }
+}
