@@ -11,6 +11,8 @@ mod meeting;
 #[cfg(test)]
 mod operators;
 #[cfg(test)]
+mod refusals;
+#[cfg(test)]
 mod reports;
 #[cfg(test)]
 mod rooms;
@@ -18,5 +20,7 @@ mod rooms;
 mod rows;
 #[cfg(test)]
 mod telling;
+#[cfg(test)]
+mod texts;
 #[cfg(test)]
 mod workers;

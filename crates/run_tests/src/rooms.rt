@@ -63,9 +63,12 @@ fn play_over<S: Play, R: Run, W: AllocGlobal + Abort + Wait>(
     what.play(rt, &room, first, second, plan);
 }
 
-/// Plays something in a new room with an empty book.
+/// Plays something in a new room with an empty book. In a run that refuses one allocation it may be one of the book's.
 pub(crate) fn play_in_room<S: Play, W: AllocGlobal + Abort + Wait>(rt: &W, what: &S, plan: &Plan) {
-    let Ok(book) = Book::new(rt.alloc(), plan.journal_limit, plan.plates) else {
+    let alloc = rt.alloc();
+    let (entries, plates) = (plan.journal_limit, plan.plates);
+    let book = Book::new(alloc, entries, plates);
+    let Ok(book) = book.or_else(|_| Book::new(alloc, entries, plates)) else {
         panic!(rt; "there is memory");
     };
     play_over::<S, Brand, W>(rt, what, book, Blanks::new(2), plan);

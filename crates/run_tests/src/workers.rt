@@ -18,7 +18,7 @@ const FEED: usize = 0;
 const TABLE: usize = 1;
 
 /// What the feed belt's worker books of the only plate of a run, up to the table.
-const ONE_PLATE: [&str; 8] = [
+pub(crate) const ONE_PLATE: [&str; 8] = [
     "lamp,feed,green,",
     "admitted,1,,",
     "started,feed_belt,to_end,",
