@@ -4,9 +4,10 @@
 # where it has no fault, no stop and no limit, else `other`. One run in eight is plain.
 BEGIN {
     split("feed_belt table_lift table_turn robot_turn arm_one arm_two press_one press_two deposit_belt", axes, " ")
+    split("feed table table robot robot robot press1 press2 deposit", machine_of_axis, " ")
     split("feed table robot press1 press2 deposit", machines, " ")
     split("feed_in feed_end table arm1 arm2 press1 press2 dep_in dep_end", stations, " ")
-    split("feed,feed,table,robot,robot,press1,press2,deposit,deposit", owners, ",")
+    split("feed feed table robot robot press1 press2 deposit deposit", machine_of_station, " ")
     split("no_motion keeps_old both slow lose_plate silent refuse_command", kinds, " ")
     state = seed % 2147483646 + 1
     for (i = 0; i < 10; i++) below(2)
@@ -43,15 +44,18 @@ function write_settings(file, plates, plain,    i, leave) {
     close(file)
 }
 
-# So many faults, of which no two are in one motion of an axis.
-function write_faults(file, plates, count,    i, axis, motion, kind, planned) {
+# So many faults, of which no two are in one motion of an axis. Their machines are kept in `faulty`.
+function write_faults(file, plates, count,    i, place, axis, motion, kind, planned) {
     printf "" > file
+    faults = 0
     for (i = 0; i < count; i++) {
-        axis = axes[1 + below(9)]
+        place = 1 + below(9)
+        axis = axes[place]
         motion = 1 + below(4 * plates)
         kind = kinds[1 + below(7)]
         if ((axis, motion) in planned) continue
         planned[axis, motion] = 1
+        faulty[++faults] = machine_of_axis[place]
         print axis "," motion "," kind "," (kind == "slow" || kind == "silent" ? readings() : "") > file
     }
     close(file)
@@ -62,14 +66,16 @@ function readings() {
     return below(5) == 0 ? 1 + below(1000) : 1 + below(25)
 }
 
-# The operator does nothing (0), clears and repairs what fails (1), stops machines first (2), or does this and that (3).
+# The operator does nothing (0), clears and repairs the machines of the faults (1), stops machines and repairs some (2), or
+# does this and that (3).
 function write_operator(file, plates, way,    i, count) {
     printf "" > file
-    if (way == 2) write_action(file, plates, "stop")
-    if (way == 2 && below(2) == 0) write_action(file, plates, "stop")
-    if (way == 2 || way == 1) {
+    if (way == 1) for (i = 1; i <= faults; i++) write_help(file, faulty[i])
+    if (way == 2) {
+        count = 1 + below(2)
+        for (i = 0; i < count; i++) write_action(file, plates, "stop")
         count = below(5)
-        for (i = 0; i < count; i++) write_help(file, 1 + below(6))
+        for (i = 0; i < count; i++) write_help(file, machines[1 + below(6)])
     }
     if (way == 3) {
         count = 1 + below(6)
@@ -78,14 +84,12 @@ function write_operator(file, plates, way,    i, count) {
     close(file)
 }
 
-# Where a machine has failed, a station of it is cleared, and it is repaired.
+# Where a machine has failed, some of its stations are cleared, and it is repaired.
 function write_help(file, machine,    i) {
     for (i = 1; i <= 9; i++) {
-        if (owners[i] == machines[machine] && below(2) == 0) {
-            print "failed," machines[machine] ",clear," stations[i] > file
-        }
+        if (machine_of_station[i] == machine && below(2) == 0) print "failed," machine ",clear," stations[i] > file
     }
-    print "failed," machines[machine] ",repair," machines[machine] > file
+    print "failed," machine ",repair," machine > file
 }
 
 function write_action(file, plates, action) {

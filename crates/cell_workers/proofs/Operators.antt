@@ -1,5 +1,5 @@
 -- What the operator's worker books and what his hands do
-use Rattle.std.proofs.Common.{◌≡◌, ◌≢◌, ◌+◌, arith, true, false, Option, Some, None, List, [], ◌∷◌, ◌++◌, option_to_list, is_some, refl, sym, ap, ◌∙◌, append_assoc, append-nil, inl, inr}
+use Rattle.std.proofs.Common.{◌≡◌, ◌≢◌, ◌+◌, arith, true, false, Option, Some, None, List, [], ◌∷◌, ◌++◌, option_to_list, is_some, refl, sym, ap, ◌∙◌, append-nil, inl, inr}
 use Rattle.cell_types.specs.declared.words.Actor.TheVariants as actor
 use Rattle.cell_types.specs.declared.words.Entry.{Entry}
 use Rattle.cell_types.specs.Entries.{actor_of}
@@ -8,11 +8,11 @@ use Rattle.operator_desk.specs.declared.action.Action.TheVariants as action
 use Rattle.operator_desk.specs.Next.{entry_of}
 use Rattle.cell_turns.specs.declared.port.Act.{Act}
 use Rattle.cell_turns.specs.Logs.{ActLog, after_hand}
-use Rattle.cell_turns.specs.Acts.{act_of, hands, Did}
+use Rattle.cell_turns.specs.Acts.{act_of, Did}
 use Rattle.cell_turns.proofs.Acts.{did_push}
 use Rattle.cell_workers.specs.declared.hall.Ended.{Ended}
 use Rattle.cell_workers.specs.declared.hall.Ended.TheVariants.{Told, PortLost}
-use Rattle.cell_workers.specs.Operating.{DidHands, FailedHands, WastedHand, HandsEnded}
+use Rattle.cell_workers.specs.Operating.{DidHands, FailedHands, HandsEnded}
 
 -- what the script says is his
 pub his_action : (a : Action) (e : Entry) → e ≡ entry_of a → actor_of e ≡ actor.Operator

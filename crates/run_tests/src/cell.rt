@@ -28,17 +28,21 @@ pub(crate) fn ample_plan(rt: &impl Abort, plates: u32) -> Plan {
     plan_of(rt, plates, 100_000, 100_000)
 }
 
-/// The faults of a text.
+/// The faults of a text. In a run that refuses one allocation it may be refused here, and not when it is read again.
 pub(crate) fn faults_of<R: AllocGlobal + Abort>(rt: &R, text: &str) -> FaultScript {
-    let Ok(faults) = FaultScript::read(rt.alloc(), text.as_bytes()) else {
+    let bytes = text.as_bytes();
+    let faults = FaultScript::read(rt.alloc(), bytes);
+    let Ok(faults) = faults.or_else(|_| FaultScript::read(rt.alloc(), bytes)) else {
         panic!(rt; "the faults are readable");
     };
     faults
 }
 
-/// The operator's script of a text.
+/// The operator's script of a text, in the same way.
 pub(crate) fn script_of<R: AllocGlobal + Abort>(rt: &R, text: &str) -> Script {
-    let Ok(script) = Script::read(rt.alloc(), text.as_bytes()) else {
+    let bytes = text.as_bytes();
+    let script = Script::read(rt.alloc(), bytes);
+    let Ok(script) = script.or_else(|_| Script::read(rt.alloc(), bytes)) else {
         panic!(rt; "the operator's script is readable");
     };
     script

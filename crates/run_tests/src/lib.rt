@@ -9,8 +9,18 @@ mod failures;
 #[cfg(test)]
 mod meeting;
 #[cfg(test)]
+mod operators;
+#[cfg(test)]
+mod refusals;
+#[cfg(test)]
 mod reports;
+#[cfg(test)]
+mod rooms;
 #[cfg(test)]
 mod rows;
 #[cfg(test)]
 mod telling;
+#[cfg(test)]
+mod texts;
+#[cfg(test)]
+mod workers;

@@ -41,15 +41,9 @@ fn sum_of(some: Totals, others: Totals) -> Totals {
     }
 }
 
-/// Checks what holds of every report: the journal's text is that of a legal journal with these totals and is no longer than
-/// the plan lets it be, each worker's list is its actor's entries of the journal, its counts are those of its list, and the
-/// counts of all add up to the totals.
-pub(crate) fn check_report<R: AllocGlobal + Abort>(rt: &R, report: &Report, plan: &Plan) {
-    let alloc = rt.alloc();
-    let mut text = Vec::new(alloc);
-    assert!(rt; write_journal(alloc, &report.journal, &mut text).is_ok());
-    assert_eq!(rt; audit(alloc, text.as_slice()), Ok(report.totals));
-    assert!(rt; report.journal.len() <= plan.journal_limit.saturating_add(6));
+/// Checks that each worker's list is its actor's entries of the journal, its counts are those of its list, and the counts of
+/// all add up to the totals.
+pub(crate) fn check_lists(rt: &impl Abort, report: &Report) {
     let mut all = count_of(&[]);
     for ((list, counts), actor) in report.workers.iter().zip(ACTORS.iter()) {
         let counted = counts_of_list(report.journal.entries(), *actor, list.as_slice());
@@ -57,6 +51,17 @@ pub(crate) fn check_report<R: AllocGlobal + Abort>(rt: &R, report: &Report, plan
         all = sum_of(all, *counts);
     }
     assert_eq!(rt; all, report.totals);
+}
+
+/// Checks what holds of every report: its lists, and that its journal's text is that of a legal journal with these totals,
+/// which is no longer than the plan lets it be.
+pub(crate) fn check_report<R: AllocGlobal + Abort>(rt: &R, report: &Report, plan: &Plan) {
+    let alloc = rt.alloc();
+    let mut text = Vec::new(alloc);
+    assert!(rt; write_journal(alloc, &report.journal, &mut text).is_ok());
+    assert_eq!(rt; audit(alloc, text.as_slice()), Ok(report.totals));
+    assert!(rt; report.journal.len() <= plan.journal_limit.saturating_add(6));
+    check_lists(rt, report);
 }
 
 /// Checks how a run ended, and what it counted: admitted, forged, quarantined, delivered.

@@ -7,10 +7,10 @@ use std::sync::Wait;
 use std::thread::Threads;
 
 /// The first motion of the second press doesn't happen.
-const STUCK: &str = "press_two,1,no_motion,\n";
+pub(crate) const STUCK: &str = "press_two,1,no_motion,\n";
 
 /// The operator clears the second press once it has failed, and repairs it.
-const CLEAR: &str = "failed,press2,clear,press2\nfailed,press2,repair,press2\n";
+pub(crate) const CLEAR: &str = "failed,press2,clear,press2\nfailed,press2,repair,press2\n";
 
 // A run of five plates with no fault, which all are forged and delivered.
 fn check_five<R: AllocGlobal + Abort + Threads + Wait + Sync>(rt: &R) {
