@@ -1,7 +1,6 @@
 //! What is printed of a run.
-ghost use Rattle.std.specs.Prelude.{◌≡◌, ◌⊎◌, false, map, IfOk, OnOk};
+ghost use Rattle.std.specs.Prelude.{◌≡◌, ◌⊎◌, map, IfOk, OnOk};
 ghost use Rattle.std.specs.Io.KnownBytes.{Appends};
-ghost use Rattle.cell_views.specs.Views.{count_of};
 ghost use Rattle.plate_book.specs.declared.limits.Limits.{Limits};
 ghost use Rattle.cell_workers.specs.Ends.{IsDone};
 ghost use Rattle.cell_workers.specs.Report.{IsReport};

@@ -1,5 +1,5 @@
 //! A run by its texts.
-ghost use Rattle.std.specs.Prelude.{◌≡◌, IfOk};
+ghost use Rattle.std.specs.Prelude.{IfOk};
 ghost use Rattle.cell_runs.specs.Runs.{TellsRun, WritesReport, WritesRounds, limits_of};
 
 use crate::inputs::{Inputs, read_inputs};

@@ -1,4 +1,4 @@
-use crate::order::{Order, read_words};
+use crate::order::{Order, Paths, read_words};
 use clap::error::ErrorKind;
 
 #[test]
@@ -11,7 +11,7 @@ fn reads_the_words_of_the_command_line(rt: HostRuntime) {
     }
     for (words, kind) in [
         (["cellctl", "brew"].as_slice(), ErrorKind::InvalidSubcommand),
-        (&["cellctl", "run"], ErrorKind::InvalidSubcommand),
+        (&["cellctl", "run"], ErrorKind::MissingRequiredArgument),
         (&["cellctl", "sim"], ErrorKind::MissingRequiredArgument),
         (
             &["cellctl", "sim", "one.toml", "two.faults"],
@@ -19,6 +19,10 @@ fn reads_the_words_of_the_command_line(rt: HostRuntime) {
         ),
         (
             &["cellctl", "sim", "--journey", "a", "b", "c"],
+            ErrorKind::UnknownArgument,
+        ),
+        (
+            &["cellctl", "run", "a", "b", "c", "d"],
             ErrorKind::UnknownArgument,
         ),
         (&["cellctl", "check"], ErrorKind::MissingRequiredArgument),
@@ -41,5 +45,30 @@ fn reads_the_words_of_the_command_line(rt: HostRuntime) {
             Ok(_) => panic!(rt; "read as an order, wanted {kind:?}"),
             Err(error) => assert_eq!(rt; error.kind(), kind),
         }
+    }
+}
+
+#[test]
+fn reads_the_words_of_runs(rt: HostRuntime) {
+    let paths = Paths {
+        settings: "cell.toml",
+        faults: "none.faults",
+        operator: "none.operator",
+    };
+    for (command, wanted) in [
+        ("sim", [Order::Sim(false, paths), Order::Sim(true, paths)]),
+        ("run", [Order::Run(false, paths), Order::Run(true, paths)]),
+    ] {
+        let words = [
+            "cellctl",
+            command,
+            "cell.toml",
+            "none.faults",
+            "none.operator",
+            "--journal",
+        ];
+        let [without, with] = wanted;
+        assert_eq!(rt; read_words(rt.alloc(), &words[..5]).ok(), Some(without));
+        assert_eq!(rt; read_words(rt.alloc(), &words).ok(), Some(with));
     }
 }
