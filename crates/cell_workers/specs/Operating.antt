@@ -23,8 +23,8 @@ pub record WastedHand (before now : ActLog) (es : List Entry) : Type 0 where
   pub acts : now.acts ≡ (before.acts ++ hands es) ++ act ∷ []
   pub failures : now.failures ≡ before.failures
 
--- at the end of his worker the acts of its list were done. Where his port failed it ended as PortLost; one act more was done
--- only where its booking was refused, and never where he was told.
+-- at the end of his worker the acts of its list were done. It ended as PortLost only where his port failed, and then that was
+-- its one failure, or where one act more was done whose booking was refused; where he was told, exactly these were done.
 abbrev pub HandsEnded : ActLog → ActLog → List Entry → Ended → Type 0
 HandsEnded before now es ended =
-    DidHands before now es ⊎ (FailedHands before now es × (ended ≡ PortLost)) ⊎ (WastedHand before now es × (ended ≢ Told))
+    (DidHands before now es × (ended ≢ PortLost)) ⊎ (FailedHands before now es × (ended ≡ PortLost)) ⊎ (WastedHand before now es × (ended ≢ Told))

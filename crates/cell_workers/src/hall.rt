@@ -1,8 +1,9 @@
 //! What the workers of a run share under one lock.
-ghost use Rattle.std.specs.Prelude.{◌≡◌, ◌≢◌, ◌<◌, ◌++◌, ◌∷◌, [], List, true, false, None, Some, Option, IfOk, IfSome, OnOk, OnErr, option_to_list};
+ghost use Rattle.std.specs.Prelude.{◌≡◌, ◌≢◌, ◌<◌, ◌++◌, ◌∷◌, [], List, true, false, None, Some, Option, IfOk, IfErr, IfSome, OnOk, OnErr, option_to_list};
 ghost use Rattle.cell_types.specs.Entries.{actor_of};
 ghost use Rattle.cell_types.specs.declared.words.Actor.TheVariants as actors;
 ghost use Rattle.cell_views.specs.Views.{count_of};
+ghost use Rattle.plate_book.specs.Telling.{first_of};
 ghost use Rattle.cell_ledger.specs.Counts.{plus, count_one};
 ghost use Rattle.cell_ledger.specs.Held.{held};
 ghost use Rattle.cell_turns.specs.Minds.{machine_of_watch};
@@ -149,6 +150,7 @@ impl<R: Run> Hall<R> {
         requires { actor_of entry ≡ actors.Operator }
         ensures ok { OnOk result (shares.new ≡ held shares.old.parts (plus shares.old.counts (count_one entry))) }
         ensures booked { OnOk result (self.new.kept ≡ record { limits = self.old.kept.limits; entries = self.old.kept.entries ++ entry ∷ [] }) }
+        ensures refused { IfErr result (λ why. why ≢ Refusal.OutOfMemory → first_of self.old.kept.limits self.old.kept.entries entry ≡ Some why) }
         ensures idle { OnOk result (self.new.idle ≡ self.old.lost) }
         ensures lost { self.new.lost ≡ self.old.lost }
         ensures stands { self.new.end ≡ self.old.end }

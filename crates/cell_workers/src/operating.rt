@@ -1,8 +1,9 @@
 //! The operator's worker.
-ghost use Rattle.std.specs.Prelude.{◌≡◌, ◌≢◌, ◌++◌, ◌∷◌, [], true, IfOk, IfErr, OnOk, OnErr, IfSome, IfNone, All, Some};
+ghost use Rattle.std.specs.Prelude.{◌≡◌, ◌≢◌, ◌++◌, ◌∷◌, [], true, IfOk, IfErr, OnOk, OnErr, IfSome, IfNone, All, Some, is_some};
 ghost use Rattle.cell_types.specs.Entries.{actor_of};
 ghost use Rattle.cell_types.specs.declared.words.Actor.TheVariants as actors;
 ghost use Rattle.cell_views.specs.Views.{count_of};
+ghost use Rattle.plate_book.specs.Telling.{first_of};
 ghost use Rattle.cell_ledger.specs.Counts.{plus, count_one};
 ghost use Rattle.cell_ledger.specs.Held.{Held, held};
 ghost use Rattle.cell_turns.specs.Logs.{ActLog, after_hand};
@@ -20,7 +21,7 @@ use cell_types::Entry;
 use operator_desk::{Script, entry_of};
 use plate_book::Refusal;
 use std::alloc::Global;
-use std::sync::{MutexGuard, Wait};
+use std::sync::Wait;
 
 /// The operator's place among the workers.
 const OPERATOR: usize = 6;
@@ -41,6 +42,7 @@ impl<R: Run> Hall<R> {
         ensures shares { OnOk result (bookings.new.shares ≡ held bookings.old.shares.parts (plus bookings.old.shares.counts (count_one entry))) }
         ensures unchanged { OnErr result ((bookings.new.entries.items ≡ bookings.old.entries.items) × (bookings.new.shares ≡ bookings.old.shares)) }
         ensures ended { result ≢ Err Ended.Told }
+        ensures refused { result ≡ Err Ended.PortLost → is_some (first_of self.old.kept.limits self.old.kept.entries entry) ≡ true }
     {
         if bookings.entries.reserve(1).is_err() {
             self.finish(End::Memory);
@@ -65,10 +67,10 @@ impl<R: Run> Hall<R> {
     }
 }
 
-/// Books an entry under the lock, gives the lock back and wakes all, where it was booked or ended the run.
-fn book_and_wake<R: Run>(
+/// Takes the lock, books an entry and wakes all, where it was booked or ended the run.
+fn locked_booking<R: Run, W: Wait>(
+    rt: &W,
     room: &Room<R>,
-    hall: MutexGuard<'_, Hall<R>>,
     bookings: &mut Bookings<R>,
     entry: Entry,
 ) -> Result<(), Ended>
@@ -78,9 +80,7 @@ fn book_and_wake<R: Run>(
     ensures unchanged { OnErr result ((bookings.new.entries.items ≡ bookings.old.entries.items) × (bookings.new.shares ≡ bookings.old.shares)) }
     ensures ended { result ≢ Err Ended.Told }
 {
-    let mut hall = hall;
-    let taken = hall.take(bookings, entry);
-    drop(hall);
+    let taken = room.hall.lock(rt).take(bookings, entry);
     if taken != Err(Ended::PortLost) {
         room.moved.notify_all();
     }
@@ -97,6 +97,8 @@ fn choose<R: Run, W: Wait>(
     plan: &Plan,
 ) -> Result<Option<Entry>, Ended>
     ensures his { IfOk result (λ o. IfSome o (λ e. actor_of e ≡ actors.Operator)) }
+    ensures wanted { IfOk result (λ o. IfSome o (λ e. is_some (act_of e) ≡ true)) }
+    ensures ended { result ≢ Err Ended.PortLost }
     ensures serves { (start : Held) → Serves actors.Operator start bookings.old.entries.items bookings.old.shares → Serves actors.Operator start bookings.new.entries.items bookings.new.shares }
     ensures did { (before now : ActLog) → DidHands before now bookings.old.entries.items → DidHands before now bookings.new.entries.items }
 {
@@ -115,12 +117,19 @@ fn choose<R: Run, W: Wait>(
     if act_of(&entry).is_some() {
         return Ok(Some(entry));
     }
-    match book_and_wake(room, hall, bookings, entry) {
+    match hall.take(bookings, entry) {
         Ok(()) => {
+            drop(hall);
+            room.moved.notify_all();
             script.done();
             Ok(None)
         }
-        Err(ended) => Err(ended),
+        // The script's entry is allowed, so the list or the run was refused memory, and the end is set.
+        Err(ended) => {
+            drop(hall);
+            room.moved.notify_all();
+            Err(ended)
+        }
     }
 }
 
@@ -132,7 +141,8 @@ fn hand_over<O: OperatorPort, R: Run, W: Wait>(
     bookings: &mut Bookings<R>,
     entry: Entry,
 ) -> Result<(), Ended>
-    requires { actor_of entry ≡ actors.Operator }
+    requires actor { actor_of entry ≡ actors.Operator }
+    requires wanted { is_some (act_of entry) ≡ true }
     ensures still { O.tells operator.new ≡ true → O.tells operator.old ≡ true }
     ensures entries { OnOk result (bookings.new.entries.items ≡ bookings.old.entries.items ++ entry ∷ []) }
     ensures shares { OnOk result (bookings.new.shares ≡ held bookings.old.shares.parts (plus bookings.old.shares.counts (count_one entry))) }
@@ -147,7 +157,7 @@ fn hand_over<O: OperatorPort, R: Run, W: Wait>(
     let Ok(()) = do_by_hand(operator, &entry) else {
         return Err(Ended::PortLost);
     };
-    match book_and_wake(room, room.hall.lock(rt), bookings, entry) {
+    match locked_booking(rt, room, bookings, entry) {
         Ok(()) => Ok(()),
         Err(ended) => Err(ended),
     }
