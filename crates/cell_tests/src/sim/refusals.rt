@@ -26,22 +26,28 @@ fn check_refused<R: AllocGlobal + Abort + Threads + Wait + Sync>(
 const GOOD: &[u8] = b"plates = 1";
 
 #[test]
-fn tells_the_first_text_that_is_refused(rt: HostRuntime) {
-    let bad = b"brew".as_slice();
-    check_refused(
-        &rt,
-        b"plates = 0",
-        bad,
-        bad,
-        b"settings OutOfRange plates\n",
-    );
-    check_refused(&rt, GOOD, bad, bad, b"faults unreadable 1\n");
-    let twice = b"press_two,1,both,\npress_two,1,both,\n";
-    check_refused(&rt, GOOD, twice, bad, b"faults unreadable 2\n");
+fn tells_settings_before_the_scripts(rt: HostRuntime) {
+    let refused = b"settings OutOfRange plates\n";
+    check_refused(&rt, b"plates = 0", b"brew", b"brew", refused);
+}
+
+#[test]
+fn tells_the_faults_before_the_operators_script(rt: HostRuntime) {
+    check_refused(&rt, GOOD, b"brew", b"brew", b"faults unreadable 1\n");
     check_refused(&rt, GOOD, b"\xff", b"\xff", b"faults unreadable 1\n");
-    check_refused(&rt, GOOD, b"", b"\xff", b"operator unreadable 1\n");
-    let numbered = b"always,1,stop,press1";
-    check_refused(&rt, GOOD, b"", numbered, b"operator unreadable 1\n");
+}
+
+#[test]
+fn tells_a_fault_that_stands_twice(rt: HostRuntime) {
+    let twice = b"press_two,1,both,\npress_two,1,both,\n";
+    check_refused(&rt, GOOD, twice, b"brew", b"faults unreadable 2\n");
+}
+
+#[test]
+fn tells_the_operators_line(rt: HostRuntime) {
+    let refused = b"operator unreadable 1\n";
+    check_refused(&rt, GOOD, b"", b"\xff", refused);
+    check_refused(&rt, GOOD, b"", b"always,1,stop,press1", refused);
 }
 
 #[test]
