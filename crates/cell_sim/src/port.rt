@@ -2,8 +2,8 @@
 use crate::script::FaultScript;
 use crate::world::World;
 use cell_diagnosis::Reading;
-use cell_types::{Command, Machine, Station};
 use cell_turns::{OperatorPort, Port, PortFault};
+use cell_types::{Command, Machine, Station};
 use std::sync::{Mutex, Wait};
 
 /// The port of a machine of a simulated cell. Each call takes the world's lock, so it may wait for another port. It keeps

@@ -15,11 +15,11 @@ use crate::tables::{
     AXES, faced_station, is_pose_of, place_of_axis, place_of_station, stations_of_motion,
 };
 use cell_diagnosis::Reading;
+use cell_turns::PortFault;
 use cell_types::{
     Arm, Axis, Belt, Colour, Command, Machine, Pose, STATIONS, Station, axis_of_arm, home,
     machine_of_axis, machine_of_station, station_of_arm,
 };
-use cell_turns::PortFault;
 
 /// A simulated cell: where its axes and plates are, which motions go on, its lights, and how often machines met.
 #[derive(Debug, Drop)]

@@ -85,8 +85,7 @@ pub fn is_plate(some: PlateId, other: PlateId) -> bool
 }
 
 fn is_lamp(entry: &Entry, belt: Belt, colour: Colour) -> bool
-    ensures yes { result ≡ true → entry.now ≡ Lamp belt colour }
-    ensures no { entry.now ≡ Lamp belt colour → result ≡ true }
+    ensures { result ≡ true → entry.now ≡ Lamp belt colour }
 {
     match *entry {
         Entry::Lamp {
@@ -98,8 +97,7 @@ fn is_lamp(entry: &Entry, belt: Belt, colour: Colour) -> bool
 }
 
 fn is_admitted(entry: &Entry, plate: PlateId) -> bool
-    ensures yes { result ≡ true → entry.now ≡ Admitted plate }
-    ensures no { entry.now ≡ Admitted plate → result ≡ true }
+    ensures { result ≡ true → entry.now ≡ Admitted plate }
 {
     match *entry {
         Entry::Admitted { plate: its_plate } => is_plate(its_plate, plate),
@@ -108,8 +106,7 @@ fn is_admitted(entry: &Entry, plate: PlateId) -> bool
 }
 
 fn is_claimed(entry: &Entry, machine: Machine, zone: Zone) -> bool
-    ensures yes { result ≡ true → entry.now ≡ Claimed machine zone }
-    ensures no { entry.now ≡ Claimed machine zone → result ≡ true }
+    ensures { result ≡ true → entry.now ≡ Claimed machine zone }
 {
     match *entry {
         Entry::Claimed {
@@ -121,8 +118,7 @@ fn is_claimed(entry: &Entry, machine: Machine, zone: Zone) -> bool
 }
 
 fn is_yielded(entry: &Entry, machine: Machine, zone: Zone) -> bool
-    ensures yes { result ≡ true → entry.now ≡ Yielded machine zone }
-    ensures no { entry.now ≡ Yielded machine zone → result ≡ true }
+    ensures { result ≡ true → entry.now ≡ Yielded machine zone }
 {
     match *entry {
         Entry::Yielded {
@@ -134,8 +130,7 @@ fn is_yielded(entry: &Entry, machine: Machine, zone: Zone) -> bool
 }
 
 fn is_started(entry: &Entry, axis: Axis, to: Pose) -> bool
-    ensures yes { result ≡ true → entry.now ≡ Started axis to }
-    ensures no { entry.now ≡ Started axis to → result ≡ true }
+    ensures { result ≡ true → entry.now ≡ Started axis to }
 {
     match *entry {
         Entry::Started {
@@ -147,8 +142,7 @@ fn is_started(entry: &Entry, axis: Axis, to: Pose) -> bool
 }
 
 fn is_arrived(entry: &Entry, axis: Axis, at: Pose) -> bool
-    ensures yes { result ≡ true → entry.now ≡ Arrived axis at }
-    ensures no { entry.now ≡ Arrived axis at → result ≡ true }
+    ensures { result ≡ true → entry.now ≡ Arrived axis at }
 {
     match *entry {
         Entry::Arrived {
@@ -160,8 +154,7 @@ fn is_arrived(entry: &Entry, axis: Axis, at: Pose) -> bool
 }
 
 fn is_conveyed(entry: &Entry, axis: Axis, plate: PlateId, dest: Station) -> bool
-    ensures yes { result ≡ true → entry.now ≡ Conveyed axis plate dest }
-    ensures no { entry.now ≡ Conveyed axis plate dest → result ≡ true }
+    ensures { result ≡ true → entry.now ≡ Conveyed axis plate dest }
 {
     match *entry {
         Entry::Conveyed {
@@ -174,8 +167,7 @@ fn is_conveyed(entry: &Entry, axis: Axis, plate: PlateId, dest: Station) -> bool
 }
 
 fn is_forged(entry: &Entry, press: Machine, plate: PlateId) -> bool
-    ensures yes { result ≡ true → entry.now ≡ Forged press plate }
-    ensures no { entry.now ≡ Forged press plate → result ≡ true }
+    ensures { result ≡ true → entry.now ≡ Forged press plate }
 {
     match *entry {
         Entry::Forged {
@@ -187,8 +179,7 @@ fn is_forged(entry: &Entry, press: Machine, plate: PlateId) -> bool
 }
 
 fn is_gripped(entry: &Entry, arm: Arm, plate: PlateId, src: Station) -> bool
-    ensures yes { result ≡ true → entry.now ≡ Gripped arm plate src }
-    ensures no { entry.now ≡ Gripped arm plate src → result ≡ true }
+    ensures { result ≡ true → entry.now ≡ Gripped arm plate src }
 {
     match *entry {
         Entry::Gripped {
@@ -201,8 +192,7 @@ fn is_gripped(entry: &Entry, arm: Arm, plate: PlateId, src: Station) -> bool
 }
 
 fn is_dropped(entry: &Entry, arm: Arm, plate: PlateId, dest: Station) -> bool
-    ensures yes { result ≡ true → entry.now ≡ Dropped arm plate dest }
-    ensures no { entry.now ≡ Dropped arm plate dest → result ≡ true }
+    ensures { result ≡ true → entry.now ≡ Dropped arm plate dest }
 {
     match *entry {
         Entry::Dropped {
@@ -215,8 +205,7 @@ fn is_dropped(entry: &Entry, arm: Arm, plate: PlateId, dest: Station) -> bool
 }
 
 fn is_delivered(entry: &Entry, plate: PlateId) -> bool
-    ensures yes { result ≡ true → entry.now ≡ Delivered plate }
-    ensures no { entry.now ≡ Delivered plate → result ≡ true }
+    ensures { result ≡ true → entry.now ≡ Delivered plate }
 {
     match *entry {
         Entry::Delivered { plate: its_plate } => is_plate(its_plate, plate),
@@ -225,8 +214,7 @@ fn is_delivered(entry: &Entry, plate: PlateId) -> bool
 }
 
 fn is_declared(entry: &Entry, machine: Machine, cause: Cause) -> bool
-    ensures yes { result ≡ true → entry.now ≡ Declared machine cause }
-    ensures no { entry.now ≡ Declared machine cause → result ≡ true }
+    ensures { result ≡ true → entry.now ≡ Declared machine cause }
 {
     match *entry {
         Entry::Declared {
@@ -238,8 +226,7 @@ fn is_declared(entry: &Entry, machine: Machine, cause: Cause) -> bool
 }
 
 fn is_stop_asked(entry: &Entry, machine: Machine) -> bool
-    ensures yes { result ≡ true → entry.now ≡ StopAsked machine }
-    ensures no { entry.now ≡ StopAsked machine → result ≡ true }
+    ensures { result ≡ true → entry.now ≡ StopAsked machine }
 {
     match *entry {
         Entry::StopAsked {
@@ -250,8 +237,7 @@ fn is_stop_asked(entry: &Entry, machine: Machine) -> bool
 }
 
 fn is_quarantined(entry: &Entry, plate: PlateId, src: Station) -> bool
-    ensures yes { result ≡ true → entry.now ≡ Quarantined plate src }
-    ensures no { entry.now ≡ Quarantined plate src → result ≡ true }
+    ensures { result ≡ true → entry.now ≡ Quarantined plate src }
 {
     match *entry {
         Entry::Quarantined {
@@ -263,8 +249,7 @@ fn is_quarantined(entry: &Entry, plate: PlateId, src: Station) -> bool
 }
 
 fn is_repaired(entry: &Entry, machine: Machine) -> bool
-    ensures yes { result ≡ true → entry.now ≡ Repaired machine }
-    ensures no { entry.now ≡ Repaired machine → result ≡ true }
+    ensures { result ≡ true → entry.now ≡ Repaired machine }
 {
     match *entry {
         Entry::Repaired {
@@ -274,10 +259,9 @@ fn is_repaired(entry: &Entry, machine: Machine) -> bool
     }
 }
 
-/// Whether two entries are the same.
+/// Whether two entries are the same. True of no two that differ.
 pub fn is_entry(some: &Entry, other: &Entry) -> bool
-    ensures yes { result ≡ true → some.now ≡ other.now }
-    ensures no { some.now ≡ other.now → result ≡ true }
+    ensures { result ≡ true → some.now ≡ other.now }
 {
     match *other {
         Entry::Lamp { belt, colour } => is_lamp(some, belt, colour),

@@ -2,8 +2,8 @@
 use crate::tests::steps::script;
 use crate::{SimOperator, SimPort, World};
 use cell_diagnosis::Reading;
-use cell_types::{Axis, Belt, Colour, Command, Machine, Pose, Station};
 use cell_turns::{OperatorPort, Port};
+use cell_types::{Axis, Belt, Colour, Command, Machine, Pose, Station};
 use std::process::Abort;
 use std::sync::Mutex;
 
