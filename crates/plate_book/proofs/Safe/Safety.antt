@@ -19,7 +19,7 @@ use Rattle.plate_book.specs.ToldBy.{told_by}
 use Rattle.std.specs.List.{Contains}
 use Rattle.std.proofs.Common.{subst}
 use Rattle.cell_views.specs.Views.{Placing, placing, place_of, source, at_of}
-use Rattle.plate_book.specs.Safety.{Rests, RestsAt, IsInside, IsEmpty, SafeState, IsSafeDrop, IsSafeMove, SafeKind, IsPressDrop, SafeEntry, IsSafe}
+use Rattle.plate_book.specs.Safety.{Rests, RestsAt, IsInside, IsEmpty, IsOccupied, SafeState, IsSafeDrop, IsSafeMove, SafeKind, IsPressDrop, SafeEntry, IsSafe}
 use Rattle.plate_book.specs.Legal.{allowed, legal_from, legal}
 use Rattle.plate_book.proofs.Safe.Facts.{pose_same, Passed, passed_last, free, plate_at, occupied, no_other, resting, still, and_both, or_neither, not_false, Axes, axes_of, rest}
 use Rattle.plate_book.proofs.Safe.Motion.{Spot, spot_arm, spot_pose, Facing, ArmSafe, MotionSafe, has_pose, fits_going, may_start}
@@ -201,8 +201,8 @@ two_moves : (P : List Entry) (s : State) (to : Pose) → Agrees P s → Passed (
 unfolding is_machine
 two_moves P s to e f = grind (arith, pose_same)
 
-full_told : (P : List Entry) (s : State) (t : Station) → Inv s (place_of P) (marks_of P) → not (is_some (s.plate t)) ≡ false → IsEmpty P t → ⊥
-full_told P s t v h e = let o = occupied s t h in e o.0 (v.plates.there t o.0 o.1)
+full_told : (P : List Entry) (s : State) (t : Station) → Inv s (place_of P) (marks_of P) → not (is_some (s.plate t)) ≡ false → IsOccupied P t
+full_told P s t v h = let o = occupied s t h in (o.0, v.plates.there t o.0 o.1)
 
 started_is : (P : List Entry) (a : Axis) (to : Pose) → Good P → Passed (started_tests (told_by (after P)) a to) → Rests P a × IsSafeMove P a to
 started_is P Axis.FeedBelt Pose.ToEnd w h = (w.agrees.going Axis.FeedBelt ∙ still (after P) Axis.FeedBelt h.0, tt)
