@@ -1,6 +1,7 @@
 -- A healthy machine can always be declared failed
 use Rattle.std.proofs.Common.{◌≡◌, ℕ, ◌+◌, ◌≤◌, ◌<◌, Bool, true, false, cond, List, [], ◌∷◌, ◌++◌, length, None, refl, ◌∙◌, arith, length-append}
-use Rattle.std.specs.Prelude.{nat_le, unwrap_or, if◌then◌else◌}
+use Rattle.std.specs.Prelude.{Result, Ok, Err, OnErr, nat_le, unwrap_or, if◌then◌else◌}
+use Rattle.std.specs.Result.{IsOk}
 use Rattle.cell_views.specs.Last.{when}
 use Rattle.std.proofs.lemmas.Bool.Decides.{nat_tests}
 use Rattle.cell_types.specs.declared.words.Machine.{Machine}
@@ -8,11 +9,11 @@ use Rattle.cell_types.specs.declared.words.Cause.{Cause}
 use Rattle.cell_types.specs.declared.words.Entry.{Entry}
 use Rattle.cell_types.specs.declared.words.Entry.TheVariants.{Lamp, Admitted, Claimed, Yielded, Started, Arrived, Conveyed, Forged, Gripped, Dropped, Delivered, Declared, StopAsked, Quarantined, Repaired}
 use Rattle.cell_types.specs.Same.{same_machine}
-use Rattle.cell_views.specs.Views.{fails, is_failed}
+use Rattle.cell_views.specs.Views.{fails, is_failed, is_quarantined}
 use Rattle.cell_views.specs.Told.{cell_of}
 use Rattle.plate_book.specs.declared.limits.Limits.{Limits}
 use Rattle.plate_book.specs.First.{first, first_true, tests}
-use Rattle.plate_book.specs.Legal.{legal}
+use Rattle.plate_book.specs.Legal.{legal, DeclaresHealthy}
 use Rattle.plate_book.specs.Telling.{first_of}
 use Rattle.plate_book.proofs.Safe.Facts.{none_refused, is_none_tells}
 use Rattle.plate_book.proofs.Safe.Views.{view_snoc}
@@ -93,3 +94,16 @@ healthy_is_declared l J m cause h f =
     let few : machines_that (is_failed J) ≤ 5 = some_left (is_failed J) m f in
     let room : nat_le (l.entries + 6) (length J) ≡ false = not_le (l.entries + 6) (length J) (omega (arith, s, few)) in
     rw (room, f) refl
+
+pub declaring_is_allowed : (l : Limits) (J : List Entry) (e : Entry) → legal l J ≡ true → DeclaresHealthy J e → first_of l J e ≡ None
+declaring_is_allowed l J (Declared m cause) h f = healthy_is_declared l J m cause h f
+declaring_is_allowed l J _ h f = absurd f
+
+pub declaring_clears_nothing : (J : List Entry) (e : Entry) → DeclaresHealthy J e → is_quarantined e ≡ false
+declaring_clears_nothing J (Declared m cause) f = refl
+declaring_clears_nothing J _ f = absurd f
+
+-- what fails only where an entry clears a station doesn't fail where it declares
+pub ok_where_declared : {T E : Type 0} (r : Result T E) (J : List Entry) (e : Entry) → OnErr r (is_quarantined e ≡ true) → DeclaresHealthy J e → IsOk r
+ok_where_declared (Ok x) J e o f = refl
+ok_where_declared (Err why) J e o f = let n = declaring_clears_nothing J e f in cc
