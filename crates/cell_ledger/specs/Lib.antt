@@ -1,2 +1,3 @@
 pub mod Held
 pub mod Counts
+pub mod New

@@ -1,5 +1,5 @@
 //! Five new ledgers.
-ghost use Rattle.std.specs.Prelude.{◌≡◌};
+ghost use Rattle.cell_ledger.specs.New.{HaveParts};
 
 use std::sync::ledger::Blank;
 
@@ -16,11 +16,7 @@ pub struct Blanks {
 impl Blanks {
     /// Five ledgers of this many parts each.
     pub fn new(parts: u64) -> Blanks
-        ensures entries { result.entries.parts ≡ parts }
-        ensures admitted { result.admitted.parts ≡ parts }
-        ensures forged { result.forged.parts ≡ parts }
-        ensures quarantined { result.quarantined.parts ≡ parts }
-        ensures delivered { result.delivered.parts ≡ parts }
+        ensures { HaveParts parts result }
     {
         Blanks {
             entries: Blank::new(parts),
