@@ -10,6 +10,8 @@ pub mod laws;
 mod places;
 mod rows;
 mod scan;
+mod script;
 mod watched;
 
 pub use rows::{Four, RowError, RowReader};
+pub use script::{LineError, MAX_LINES, ScriptLine, read_script};

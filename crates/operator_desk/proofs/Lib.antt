@@ -1,3 +1,1 @@
-pub mod Facts
-pub mod Laws
 pub mod Left

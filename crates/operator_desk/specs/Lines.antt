@@ -1,7 +1,7 @@
--- The line of a record
-use Rattle.std.specs.Prelude.{ℕ, ◌==◌, List, [], ◌∷◌, length, Option, Some, None, option_map, if◌then◌else◌, codes}
+-- The line of four fields
+use Rattle.std.specs.Prelude.{ℕ, ◌==◌, List, length, Option, Some, None, option_map, if◌then◌else◌, codes}
 use Rattle.std.specs.Str.{bytes_eq}
-use Rattle.cell_rows.specs.Rows.{Row}
+use Rattle.cell_rows.specs.Scripts.{Reading}
 use Rattle.cell_types.specs.Numbers.{plate_of}
 use Rattle.cell_types.specs.Texts.{machine_named, station_named}
 use Rattle.operator_desk.specs.declared.line.Line.{Line}
@@ -36,10 +36,6 @@ abbrev pub both : Option Trigger → Option Task → Option Line
 both (Some t) (Some a) = Some (record { when = t; task = a })
 both _ _ = None
 
-abbrev pub line_of : List ℕ → List ℕ → List ℕ → List ℕ → Option Line
-line_of when bound action argument = both (trigger_of when bound) (task_of action argument)
-
--- the line of a record, which has four fields
-abbrev pub read_line : Row → Option Line
-read_line (when ∷ bound ∷ action ∷ argument ∷ []) = line_of when bound action argument
-read_line _ = None
+-- the line of four fields, whatever lines come before it
+abbrev pub line_of : Reading Line
+line_of before when bound action argument = both (trigger_of when bound) (task_of action argument)

@@ -1,26 +1,24 @@
 -- The lines of a script's text
-use Rattle.std.specs.Prelude.{◌≡◌, ◌+◌, ℕ, List, [], ◌∷◌, ◌++◌, length, nat_lt, Option, Some, None, Result, Ok, Err, ⊤, if◌then◌else◌}
+use Rattle.std.specs.Prelude.{◌≡◌, List, Result, Ok, Err, ⊤}
+use Rattle.std.specs.Result.{result_map_both}
 use Rattle.cell_rows.specs.Rows.{Row}
-use Rattle.operator_desk.specs.Lines.{read_line}
+use Rattle.cell_rows.specs.Scripts.{lines_of as lines_by}
+use Rattle.cell_rows.specs.declared.script.LineError.{LineError}
+use Rattle.cell_rows.specs.declared.script.LineError.TheVariants as line
+use Rattle.operator_desk.specs.Lines.{line_of}
 use Rattle.operator_desk.specs.declared.line.Line.{Line}
 use Rattle.operator_desk.specs.declared.script.ScriptError.{ScriptError}
 use Rattle.operator_desk.specs.declared.script.ScriptError.TheVariants as error
 
--- the answer at a record: that it can't be read, or what follows of its line
-abbrev pub with_line : ℕ → Option Line → (Line → Result (List Line) ScriptError) → Result (List Line) ScriptError
-with_line place None more = Err (error.Unreadable place)
-with_line place (Some line) more = more line
+-- the error of a script, by the error of its lines
+abbrev pub script_error : LineError → ScriptError
+script_error (line.Unreadable place) = error.Unreadable place
+script_error line.TooManyLines = error.TooManyLines
+script_error line.OutOfMemory = error.OutOfMemory
 
--- these lines and those of the records after them: at most 1,000 in all, and each record a line
-unfoldable pub lines_after : List Line → List Row → Result (List Line) ScriptError
-lines_after lines [] = Ok lines
-lines_after lines (row ∷ rest) =
-    if nat_lt (length lines) 1000 then with_line (length lines + 1) (read_line row) (λ line. lines_after (lines ++ line ∷ []) rest)
-    else Err error.TooManyLines
-
--- the lines of a text's records, or the first fault
+-- the lines of a text's records, at most 1,000, or the first fault
 abbrev pub lines_of : List Row → Result (List Line) ScriptError
-lines_of rows = lines_after [] rows
+lines_of rows = result_map_both (λ lines. lines) script_error (lines_by line_of rows)
 
 -- the answer is the one that is due, unless memory was refused
 abbrev pub Gives : {X : Type 0} → Result X ScriptError → Result X ScriptError → Type 0

@@ -1,13 +1,11 @@
-//! The line of a record.
+//! The line of four fields.
 ghost use Rattle.std.specs.Prelude.{◌≡◌};
-ghost use Rattle.cell_rows.specs.Rows.{current_row};
-ghost use Rattle.operator_desk.specs.Lines.{both, line_of, read_line, task_of, total_of, trigger_of};
+ghost use Rattle.operator_desk.specs.Lines.{task_of, total_of, trigger_of};
 
 use crate::line::{Line, Task, Trigger};
-use cell_rows::{Four, RowReader};
+use cell_rows::{Four, ScriptLine};
 use cell_types::number::read_plate;
 use cell_types::texts::{read_machine, read_station};
-use std::io::Read;
 
 // The number of plates that decimal digits write, 0 to 100,000.
 fn read_total(bytes: &[u8]) -> Option<u32>
@@ -62,25 +60,18 @@ fn read_task(word: &[u8], argument: &[u8]) -> Option<Task>
     }
 }
 
-// The line of four fields.
-fn read_fields(four: Four<'_>) -> Option<Line>
-    ensures { result ≡ line_of four.entry.first.now four.entry.second.now four.entry.third.now four.entry.fourth.now }
-{
-    match (
-        read_trigger(four.first, four.second),
-        read_task(four.third, four.fourth),
-    ) {
-        (Some(when), Some(task)) => Some(Line { when, task }),
-        _ => None,
-    }
-}
+impl ScriptLine for Line {
+    ghost use Rattle.operator_desk.specs.Lines.{line_of};
 
-/// The line of the record that was read.
-pub(crate) fn current_line<R: Read>(rows: &RowReader<R>) -> Option<Line>
-    ensures { result ≡ read_line (current_row rows.now) }
-{
-    match rows.four() {
-        Some(four) => read_fields(four),
-        None => None,
+    ghost line_of = { line_of };
+
+    fn read_line(_before: &[Line], fields: Four<'_>) -> Option<Line> {
+        match (
+            read_trigger(fields.first, fields.second),
+            read_task(fields.third, fields.fourth),
+        ) {
+            (Some(when), Some(task)) => Some(Line { when, task }),
+            _ => None,
+        }
     }
 }

@@ -7,14 +7,10 @@ ghost use Rattle.operator_desk.specs.Next.{left_after, next_of};
 
 use crate::action::{Action, action_now};
 use crate::line::Line;
-use crate::read::current_line;
-use cell_rows::RowReader;
+use cell_rows::{LineError, read_script};
 use plate_book::Book;
 use std::alloc::Global;
 use std::marker::Model;
-
-/// The most lines that a script may have.
-const MAX_LINES: u32 = 1000;
 
 /// Why a script can't be read.
 #[derive(Clone, Copy, Debug, PartialEq, Eq)]
@@ -25,6 +21,20 @@ pub enum ScriptError {
     TooManyLines,
     /// Memory was refused.
     OutOfMemory,
+}
+
+impl From<LineError> for ScriptError {
+    ghost use Rattle.operator_desk.specs.Script.{script_error};
+
+    ghost from_gives = { λ lines script. script ≡ script_error lines };
+
+    fn from(error: LineError) -> ScriptError {
+        match error {
+            LineError::Unreadable(place) => ScriptError::Unreadable(place),
+            LineError::TooManyLines => ScriptError::TooManyLines,
+            LineError::OutOfMemory => ScriptError::OutOfMemory,
+        }
+    }
 }
 
 /// A script's lines, which are done in their order: those that aren't done yet.
@@ -49,35 +59,12 @@ impl Script {
     ///
     /// The first record that is no line is `Unreadable`, counted from 1; a record 1,001 is `TooManyLines`, whatever it
     /// holds; `OutOfMemory` comes only where memory was refused.
-    #[tactic(auto, unfolding(crate::specs::Script::lines_after))]
     pub fn read(alloc: Global, text: &[u8]) -> Result<Script, ScriptError>
         ensures exact { Gives result (lines_of (rows_of text.now)) }
         ensures means { Means (rows_of text.now) result }
     {
-        let mut rows = RowReader::new(alloc, text);
-        let mut lines = Vec::new(alloc);
-        for place in 0..MAX_LINES + 1 {
-            match rows.advance() {
-                Ok(found) => {
-                    if !found {
-                        return Ok(Script { lines, position: 0 });
-                    }
-                }
-                Err(_) => return Err(ScriptError::OutOfMemory),
-            }
-            if place == MAX_LINES {
-                return Err(ScriptError::TooManyLines);
-            }
-            match current_line(&rows) {
-                Some(line) => {
-                    if lines.push(line).is_err() {
-                        return Err(ScriptError::OutOfMemory);
-                    }
-                }
-                None => return Err(ScriptError::Unreadable(place + 1)),
-            }
-        }
-        unreachable!()
+        let lines = read_script(alloc, text)?;
+        Ok(Script { lines, position: 0 })
     }
 
     /// What is to be done next: the action of the first line that isn't done yet, where its trigger holds and the book

@@ -1,12 +1,12 @@
 use Rattle.std.proofs.Common.{◌≡◌, ◌≤◌, length, Some}
 use Rattle.cell_rows.specs.Rows.{IsOpen, rows_left, rows_of}
-use Rattle.operator_desk.proofs.Facts.{StillDue}
-use Rattle.operator_desk.proofs.script.Script.read.Given as goal
+use Rattle.cell_rows.proofs.Scripts.{StillDue}
+use Rattle.cell_rows.proofs.script.read_script.Given as goal
 
 abbrev pub invariant-loop-place : goal.invariant-loop-place
-invariant-loop-place l = record {
+invariant-loop-place g l = record {
   may_go_on : IsOpen l.rows;
   counted : length l.lines.items ≡ l.place;
   few : l.place ≤ 1000;
-  due : StillDue (Some (rows_of l.fn.text)) (rows_left (λ s. Some s.now) l.rows) l.lines.items;
+  due : StillDue g.L.ScriptLine.line_of (Some (rows_of l.fn.text)) (rows_left (λ s. Some s.now) l.rows) l.lines.items;
 }

@@ -1,28 +1,27 @@
 use Rattle.std.proofs.Common.{◌≡◌, ◌≤◌, ◌<◌, length, rules, arith, true, ◌∷◌, [], length-append}
 use Rattle.std.specs.Result.{is_ok}
-use Rattle.operator_desk.proofs.Facts.{due-end, due-many, due-more, due-unread}
-use Rattle.operator_desk.proofs.Laws.{due-means}
-use Rattle.operator_desk.proofs.script.Script.read.Goals as goal
+use Rattle.cell_rows.proofs.Scripts.{due-end, due-many, due-means, due-more, due-unread}
+use Rattle.cell_rows.proofs.script.read_script.Goals as goal
 
 pub returns-then-not-found : goal.returns-then-not-found
-returns-then-not-found c =
-    let exact = due-end _ _ _ _ _ c.loop-place.invariant.due c.in-Ok.found (search rules) c.in-Ok.ensures.takes in
-    record { exact = exact; means = due-means _ _ exact }
+returns-then-not-found g c =
+    let exact = due-end _ _ _ _ _ _ c.loop-place.invariant.due c.in-Ok.found (search rules) c.in-Ok.ensures.takes in
+    record { exact = exact; means = due-means _ _ _ exact }
 
 pub returns-then-place-eq-MAX_LINES : goal.returns-then-place-eq-MAX_LINES
-returns-then-place-eq-MAX_LINES c =
+returns-then-place-eq-MAX_LINES g c =
     let most : 1000 ≤ length c.loop-place.lines.items = rw c.loop-place.invariant.counted (search rules) in
-    let exact = due-many _ _ _ _ _ c.loop-place.invariant.due c.in-Ok.found (search rules) c.in-Ok.ensures.takes most in
-    record { exact = exact; means = due-means _ _ exact }
+    let exact = due-many _ _ _ _ _ _ c.loop-place.invariant.due c.in-Ok.found (search rules) c.in-Ok.ensures.takes most in
+    record { exact = exact; means = due-means _ _ _ exact }
 
 pub returns-in-None : goal.returns-in-None
-returns-in-None c =
+returns-in-None g c =
     let few : length c.loop-place.lines.items < 1000 = rw c.loop-place.invariant.counted (omega (arith, c.loop-place.invariant.few)) in
-    let exact = due-unread _ _ _ _ _ c.loop-place.invariant.due c.in-Ok.found (search rules) c.in-Ok.ensures.takes few (search rules) in
-    rw (← c.loop-place.invariant.counted) (record { exact = exact; means = due-means _ _ exact })
+    let exact = due-unread _ _ _ _ _ _ c.loop-place.invariant.due c.in-Ok.found (search rules) c.in-Ok.ensures.takes few (search rules) in
+    rw (← c.loop-place.invariant.counted) (record { exact = exact; means = due-means _ _ _ exact })
 
 pub loop-place-preserved : goal.loop-place-preserved
-loop-place-preserved c =
+loop-place-preserved g c =
     let good : is_ok c.push.result ≡ true = search rules in
     let items = rw good at c.push.ensures.items in
     let few : length c.loop-place.lines.items < 1000 = rw c.loop-place.invariant.counted (omega (arith, c.loop-place.invariant.few)) in
@@ -30,5 +29,5 @@ loop-place-preserved c =
       may_go_on = c.in-Ok.ensures.open;
       counted = rw items (omega (arith, length-append c.loop-place.lines.items (c.in-Some.line ∷ []), c.loop-place.invariant.counted));
       few = omega (arith, few, c.loop-place.invariant.counted);
-      due = rw items (due-more _ _ _ _ _ c.in-Some.line c.loop-place.invariant.due c.in-Ok.found (search rules) c.in-Ok.ensures.takes few (search rules));
+      due = rw items (due-more _ _ _ _ _ _ c.in-Some.line c.loop-place.invariant.due c.in-Ok.found (search rules) c.in-Ok.ensures.takes few (search rules));
     }
