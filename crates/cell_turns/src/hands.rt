@@ -8,7 +8,7 @@ ghost use Rattle.cell_turns.specs.Acts.{act_of, ActedAtMostOnce};
 ghost use Rattle.cell_turns.specs.Handing.{IsHis, IsSpared, IsHanded, handed_entry, handed_log};
 
 use crate::schedule::{Handed, OutOfMemory};
-use crate::turns::book_entry;
+use crate::turns::book::book_entry;
 use crate::{Act, OperatorPort, PortFault};
 use cell_ledger::{Kept, Run, Shares};
 use cell_types::{Actor, Entry, actor_of};

@@ -24,8 +24,8 @@ ghost use Rattle.cell_turns.specs.Steps.{TurnedAt, TurnedAway, GrewBy};
 
 use crate::hands::hand;
 use crate::schedule::OutOfMemory;
-use crate::sending::send;
 use crate::turns::book_turn;
+use crate::turns::send::send;
 use crate::{OperatorPort, Plan, Port, Ports, Six, Step, TurnError, Watch, Watches};
 use cell_diagnosis::Reading;
 use cell_ledger::{Kept, Run, Shares};
