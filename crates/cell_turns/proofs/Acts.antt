@@ -1,10 +1,10 @@
 -- What the operator did, with one entry more
-use Rattle.std.proofs.Common.{◌≡◌, ◌≤◌, refl, true, add-zero, List, [], ◌∷◌, ◌++◌, length, Option, Some, None, sym, ap, ◌∙◌, append_assoc, append-nil, arith}
+use Rattle.std.proofs.Common.{◌≡◌, inl, inr, refl, true, add-zero, List, [], ◌∷◌, ◌++◌, Option, Some, None, sym, ap, ◌∙◌, append_assoc, append-nil}
 use Rattle.std.specs.Prelude.{option_to_list}
 use Rattle.cell_types.specs.declared.words.Entry.{Entry}
 use Rattle.cell_turns.specs.declared.port.Act.{Act}
 use Rattle.cell_turns.specs.Logs.{ActLog, after_hand}
-use Rattle.cell_turns.specs.Acts.{act_of, hands, ActedAtMostOnce, Did}
+use Rattle.cell_turns.specs.Acts.{act_of, hands, ActedAtMost, Did}
 
 hands-push : (es : List Entry) (e : Entry) → hands (es ++ e ∷ []) ≡ hands es ++ option_to_list (act_of e)
 hands-push [] e = append-nil (option_to_list (act_of e))
@@ -18,15 +18,11 @@ did_push before now after es es' e is more d = record {
 pub did_start : (log : ActLog) (es : List Entry) → es ≡ [] → Did log log es
 did_start log es e = rw e (record { acts = sym (append-nil log.acts) })
 
-few_acts : (o : Option Act) → length (option_to_list o) ≤ 1
-few_acts None = omega arith
-few_acts (Some a) = omega arith
-
--- an act that an entry wants was done, and nothing booked
-pub acted_once : (log log' : ActLog) (o : Option Act) → log' ≡ after_hand log o true → ActedAtMostOnce log log'
+-- the act that an entry wants was done, and nothing booked
+pub acted_once : (log log' : ActLog) (o : Option Act) → log' ≡ after_hand log o true → ActedAtMost o log log'
 acted_once log log' o is = record {
-  more = option_to_list o;
-  few = few_acts o;
+  done = option_to_list o;
+  most = inr refl;
   acts = ap (λ (l : ActLog). l.acts) is ∙ done o;
   failures = ap (λ (l : ActLog). l.failures) is ∙ same o;
 }
@@ -38,3 +34,7 @@ acted_once log log' o is = record {
     same : (o : Option Act) → (after_hand log o true).failures ≡ log.failures
     same None = refl
     same (Some a) = add-zero log.failures
+
+-- nothing was done
+pub acted_not : (log : ActLog) (o : Option Act) → ActedAtMost o log log
+acted_not log o = record { done = []; most = inl refl; acts = sym (append-nil log.acts); failures = refl }

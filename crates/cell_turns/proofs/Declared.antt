@@ -25,17 +25,20 @@ use Rattle.cell_diagnosis.specs.RestRules.{rest}
 use Rattle.cell_machines.specs.Room.{is_bookable}
 use Rattle.cell_machines.specs.Useful.{wants, is_useful_now, is_useful}
 use Rattle.cell_turns.specs.declared.plan.Plan.{Plan}
-use Rattle.cell_turns.specs.declared.ruling.Ruling.{Ruling}
-use Rattle.cell_turns.specs.declared.ruling.Ruling.TheVariants.{Nothing, Books, PastLast, Proposes}
+use Rattle.cell_turns.specs.declared.turns.decide.Ruling.{Ruling}
+use Rattle.cell_turns.specs.declared.turns.decide.Ruling.TheVariants.{Nothing, Books, PastLast, Proposes}
 use Rattle.cell_turns.specs.Sent.{is_command_fault}
 use Rattle.cell_turns.specs.Moving.{motion_of_machine}
 use Rattle.cell_turns.specs.Signs.{shows_sign}
-use Rattle.cell_turns.specs.declared.memory.Memory.{Memory}
+use Rattle.cell_turns.specs.declared.watch.Memory.{Memory}
 use Rattle.cell_turns.specs.declared.watch.Watch.{Watch}
 use Rattle.cell_turns.specs.Minds.{Mind, FitsMind, has_failed_command}
-use Rattle.cell_turns.specs.Rulings.{axis_noted, axis_verdict, rest_noted, ending, books, signed, by_sign, by_arrival, by_rest, by_axis, ruling_by, ruling}
+use Rattle.cell_turns.specs.Observed.{axis_noted, rest_noted, findings}
+use Rattle.cell_turns.specs.Rulings.{ending, books, signed, ruling_by, ruling}
 use Rattle.cell_turns.specs.Turns.{IsRuled, IsDecided}
+use Rattle.cell_turns.specs.declared.turns.decide.Findings.{Findings}
 use Rattle.cell_turns.proofs.Minds.{of_some}
+use Rattle.cell_turns.proofs.Points.{by_sign, by_end, by_rest, by_axis, by_all}
 use Rattle.cell_turns.proofs.Faults.{is_command_verdict, of_following, of_rest}
 
 -- what is decided is a CommandFault just as `failed` says
@@ -87,7 +90,7 @@ of_sign : (J : List Entry) (m : Machine) (sign : Bool) → FaultRuling false (by
 of_sign J m true = of_signed J m
 of_sign J m false = refl
 
-of_arrival : (J : List Entry) (m : Machine) (sign : Bool) (o : Option Motion) (v : Verdict) → FaultRuling false (by_arrival J m sign o v)
+of_arrival : (J : List Entry) (m : Machine) (sign : Bool) (o : Option Motion) (v : Verdict) → FaultRuling false (by_end J m sign o v)
 of_arrival J m sign None v = of_sign J m sign
 of_arrival J m sign (Some mo) Pending = of_sign J m sign
 of_arrival J m sign (Some mo) (Fault c) = of_sign J m sign
@@ -103,22 +106,19 @@ of_axis_point J m sign o (Fault c) u h k = of_cause m c h
 of_axis_point J m sign o Arrived u h k = of_rest_point J m sign o Arrived u k
 of_axis_point J m sign o Pending u h k = of_rest_point J m sign o Pending u k
 
-of_points : (J : List Entry) (m : Machine) (command_failed was_failed sign : Bool) (o : Option Motion) (v u : Verdict) → is_command_verdict v ≡ false → is_command_verdict u ≡ false → FaultRuling command_failed (ruling_by J m command_failed was_failed sign o v u)
-of_points J m command_failed was_failed sign o v u h k = go (is_failed J m) command_failed (is_asked J m) was_failed
+of_points : (J : List Entry) (m : Machine) (kept : Memory) (found : Findings) → is_command_verdict found.at_axis ≡ false → is_command_verdict found.at_rest ≡ false → FaultRuling kept.command_failed (ruling_by J m kept found)
+of_points J m kept found h k = go (is_failed J m) kept.command_failed (is_asked J m) kept.failed
   where
-    go : (failed a b c : Bool) → FaultRuling a (if failed then Nothing else if a then Books (Declared m cause.CommandFault) else if b then Books (Declared m cause.OperatorStop) else if c then Proposes else by_axis J m sign o v u)
+    go : (failed a b c : Bool) → FaultRuling a (by_all J m failed a b c (kept.sign && found.sign) found.motion found.at_axis found.at_rest)
     go true a b c = tt
     go false true b c = refl
     go false false true c = refl
     go false false false true = refl
-    go false false false false = of_axis_point J m sign o v u h k
+    go false false false false = of_axis_point J m (kept.sign && found.sign) found.motion found.at_axis found.at_rest h k
 
 of_ruling : (J : List Entry) (m : Machine) (p : Plan) (s : Mind) (r : Option Reading) → FaultRuling s.memory.command_failed (ruling J m p s r)
 unfolding ruling
-of_ruling J m p s r =
-    of_points J m s.memory.command_failed s.memory.failed (s.memory.sign && shows_sign J m r) (motion_of_machine J p m)
-    (axis_verdict (axis_noted J m p s.axis r)) (rest (rest_noted J m s.memory s.rest r))
-    (of_following (axis_noted J m p s.axis r)) (of_rest (rest_noted J m s.memory s.rest r))
+of_ruling J m p s r = of_points J m s.memory (findings J m p s r) (of_following (axis_noted J m p s.axis r)) (of_rest (rest_noted J m s.memory s.rest r))
 
 left : (a b : Bool) → (a && b) ≡ true → a ≡ true
 left true b h = refl

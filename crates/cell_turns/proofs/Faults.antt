@@ -11,7 +11,7 @@ use Rattle.cell_diagnosis.specs.AxisRules.{judged, verdict, has_arrived, is_stuc
 use Rattle.cell_diagnosis.specs.RestFacts.{Noted, disagrees, shows_several_at}
 use Rattle.cell_diagnosis.specs.RestRules.{is_silent_at_rest, axis_fault, is_plate_lost, is_plate_strange, plate_fault, judged_at_rest, rest}
 use Rattle.cell_turns.specs.Following.{Following}
-use Rattle.cell_turns.specs.Rulings.{axis_verdict}
+use Rattle.cell_turns.specs.Observed.{axis_verdict}
 
 -- the verdict is that a command failed, which no reading shows
 unfoldable pub is_command_verdict : Verdict → Bool

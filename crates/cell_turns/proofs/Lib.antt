@@ -2,6 +2,7 @@ pub mod Logs
 pub mod Sixes
 pub mod Acts
 pub mod Minds
+pub mod Points
 pub mod Rooms
 pub mod Faults
 pub mod Declared

@@ -6,36 +6,39 @@ use Rattle.std.specs.Prelude.{is_none}
 use Rattle.cell_types.specs.declared.words.Machine.{Machine}
 use Rattle.cell_types.specs.declared.words.Entry.{Entry}
 use Rattle.plate_book.specs.declared.limits.Limits.{Limits}
-use Rattle.cell_diagnosis.specs.declared.motion.Motion.{Motion}
 use Rattle.cell_diagnosis.specs.declared.reading.Reading.{Reading}
-use Rattle.cell_diagnosis.specs.declared.verdict.Verdict.{Verdict}
 use Rattle.cell_diagnosis.specs.declared.axis_watch.AxisWatch.{AxisWatch}
 use Rattle.cell_diagnosis.specs.declared.rest_watch.RestWatch.{RestWatch}
 use Rattle.cell_diagnosis.specs.RestFacts.{Noted}
 use Rattle.cell_diagnosis.specs.RestRules.{rest}
 use Rattle.cell_diagnosis.specs.RestWatches.{RestFits}
-use Rattle.cell_turns.specs.declared.memory.Memory.{Memory}
+use Rattle.cell_turns.specs.declared.watch.Memory.{Memory}
 use Rattle.cell_turns.specs.declared.plan.Plan.{Plan}
-use Rattle.cell_turns.specs.declared.ruling.Ruling.{Ruling}
+use Rattle.cell_turns.specs.declared.turns.decide.Findings.{Findings}
+use Rattle.cell_turns.specs.declared.turns.decide.Ruling.{Ruling}
 use Rattle.cell_turns.specs.declared.watch.Watch.{Watch}
 use Rattle.cell_turns.specs.Moving.{motion_of_machine}
 use Rattle.cell_turns.specs.Signs.{shows_sign}
 use Rattle.cell_turns.specs.Following.{Following, FitsAxis, IsFitted}
 use Rattle.cell_turns.specs.Minds.{Mind, FitsMind, remembered}
-use Rattle.cell_turns.specs.Rulings.{axis_noted, axis_verdict, rest_noted, ruling_by, ruling}
+use Rattle.cell_turns.specs.Observed.{axis_noted, axis_verdict, rest_noted, findings}
+use Rattle.cell_turns.specs.Rulings.{ruling_by, ruling}
 use Rattle.cell_turns.specs.Turns.{IsRuled, IsDecided, begins_anew, ends_motion, memory_after, mind_after}
 
--- what the verdicts of a watch's own readings decide is what those of the readings that it fits decide
-pub ruled : (w : Watch) (J : List Entry) (m : Machine) (p : Plan) (s : Mind) (r : Option Reading) (at_axis at_rest : Verdict)
+-- what a watch found is what its readings with this one show
+found_is : (w : Watch) (J : List Entry) (p : Plan) (s : Mind) (r : Option Reading) (found : Findings)
+    → found.motion ≡ motion_of_machine J p w.machine
+    → found.sign ≡ shows_sign J w.machine r
     → FitsMind w s
-    → ((f : Option Following) → FitsAxis w.axis f → at_axis ≡ axis_verdict (axis_noted J m p f r))
-    → ((L : List Noted) → RestFits w.rest L → at_rest ≡ rest (rest_noted J m w.memory L r))
-    → ruling_by J m w.memory.command_failed w.memory.failed (w.memory.sign && shows_sign J m r) (motion_of_machine J p m) at_axis at_rest ≡ ruling J m p s r
-unfolding ruling
-ruled w J m p s r at_axis at_rest fit axis_is rest_is =
-    ap (λ (v : Verdict). ruling_by J m w.memory.command_failed w.memory.failed (w.memory.sign && shows_sign J m r) (motion_of_machine J p m) v at_rest) (axis_is s.axis fit.axis)
-    ∙ ap (λ (v : Verdict). ruling_by J m w.memory.command_failed w.memory.failed (w.memory.sign && shows_sign J m r) (motion_of_machine J p m) (axis_verdict (axis_noted J m p s.axis r)) v) (rest_is s.rest fit.rest)
-    ∙ ap (λ (k : Memory). ruling_by J m k.command_failed k.failed (k.sign && shows_sign J m r) (motion_of_machine J p m) (axis_verdict (axis_noted J m p s.axis r)) (rest (rest_noted J m k s.rest r))) fit.memory
+    → ((f : Option Following) → FitsAxis w.axis f → found.at_axis ≡ axis_verdict (axis_noted J w.machine p f r))
+    → ((L : List Noted) → RestFits w.rest L → found.at_rest ≡ rest (rest_noted J w.machine w.memory L r))
+    → found ≡ findings J w.machine p s r
+found_is w J p s r found motion_is sign_is fit axis_is rest_is = λ i. record {
+  motion = motion_is i;
+  at_axis = axis_is s.axis fit.axis i;
+  at_rest = (rest_is s.rest fit.rest ∙ ap (λ (k : Memory). rest (rest_noted J w.machine k s.rest r)) fit.memory) i;
+  sign = sign_is i;
+}
 
 pub fits_after : (w : Watch) (J : List Entry) (m : Machine) (p : Plan) (s : Mind) (r : Option Reading) (e : Option Entry) (w' : Watch) (noted_axis : Option AxisWatch) (noted_rest : RestWatch)
     → FitsMind w s
@@ -54,33 +57,31 @@ fits_after w J m p s r e w' noted_axis noted_rest fit axis_fits rest_fits axis_n
 
 -- a turn, as the code has it
 
-pub ruling_is : (w : Watch) (J : List Entry) (p : Plan) (s : Mind) (r : Option Reading) (k : Ruling) (motion : Option Motion) (sign : Bool) (at_axis at_rest : Verdict)
-    → motion ≡ motion_of_machine J p w.machine
-    → sign ≡ shows_sign J w.machine r
-    → k ≡ ruling_by J w.machine w.memory.command_failed w.memory.failed (w.memory.sign && sign) motion at_axis at_rest
+pub ruling_is : (w : Watch) (J : List Entry) (p : Plan) (s : Mind) (r : Option Reading) (k : Ruling) (found : Findings)
+    → found.motion ≡ motion_of_machine J p w.machine
+    → found.sign ≡ shows_sign J w.machine r
+    → k ≡ ruling_by J w.machine w.memory found
     → FitsMind w s
-    → ((f : Option Following) → FitsAxis w.axis f → at_axis ≡ axis_verdict (axis_noted J w.machine p f r))
-    → ((L : List Noted) → RestFits w.rest L → at_rest ≡ rest (rest_noted J w.machine w.memory L r))
+    → ((f : Option Following) → FitsAxis w.axis f → found.at_axis ≡ axis_verdict (axis_noted J w.machine p f r))
+    → ((L : List Noted) → RestFits w.rest L → found.at_rest ≡ rest (rest_noted J w.machine w.memory L r))
     → k ≡ ruling J w.machine p s r
-ruling_is w J p s r k motion sign at_axis at_rest motion_is sign_is k_is fit axis_is rest_is =
+unfolding ruling
+ruling_is w J p s r k found motion_is sign_is k_is fit axis_is rest_is =
     k_is
-    ∙ ap (λ (o : Option Motion). ruling_by J w.machine w.memory.command_failed w.memory.failed (w.memory.sign && sign) o at_axis at_rest) motion_is
-    ∙ ap (λ (b : Bool). ruling_by J w.machine w.memory.command_failed w.memory.failed (w.memory.sign && b) (motion_of_machine J p w.machine) at_axis at_rest) sign_is
-    ∙ ruled w J w.machine p s r at_axis at_rest fit axis_is rest_is
+    ∙ ap (λ (f : Findings). ruling_by J w.machine w.memory f) (found_is w J p s r found motion_is sign_is fit axis_is rest_is)
+    ∙ ap (λ (m : Memory). ruling_by J w.machine m (findings J w.machine p s r)) fit.memory
 
-pub decided : (l : Limits) (w : Watch) (J : List Entry) (p : Plan) (s : Mind) (r : Option Reading) (k : Ruling) (e : Option Entry) (motion : Option Motion) (sign : Bool) (at_axis at_rest : Verdict)
-    → motion ≡ motion_of_machine J p w.machine
-    → sign ≡ shows_sign J w.machine r
-    → k ≡ ruling_by J w.machine w.memory.command_failed w.memory.failed (w.memory.sign && sign) motion at_axis at_rest
+pub decided : (l : Limits) (w : Watch) (J : List Entry) (p : Plan) (s : Mind) (r : Option Reading) (k : Ruling) (e : Option Entry) (found : Findings)
+    → found.motion ≡ motion_of_machine J p w.machine
+    → found.sign ≡ shows_sign J w.machine r
+    → k ≡ ruling_by J w.machine w.memory found
     → FitsMind w s
-    → ((f : Option Following) → FitsAxis w.axis f → at_axis ≡ axis_verdict (axis_noted J w.machine p f r))
-    → ((L : List Noted) → RestFits w.rest L → at_rest ≡ rest (rest_noted J w.machine w.memory L r))
+    → ((f : Option Following) → FitsAxis w.axis f → found.at_axis ≡ axis_verdict (axis_noted J w.machine p f r))
+    → ((L : List Noted) → RestFits w.rest L → found.at_rest ≡ rest (rest_noted J w.machine w.memory L r))
     → IsRuled l J w.machine p.plates k e
     → IsDecided l J w.machine p s r e
-decided l w J p s r k e motion sign at_axis at_rest motion_is sign_is k_is fit axis_is rest_is h =
-    subst (λ (x : Ruling). IsRuled l J w.machine p.plates x e)
-    (ruling_is w J p s r k motion sign at_axis at_rest motion_is sign_is k_is fit axis_is rest_is)
-    h
+decided l w J p s r k e found motion_is sign_is k_is fit axis_is rest_is h =
+    subst (λ (x : Ruling). IsRuled l J w.machine p.plates x e) (ruling_is w J p s r k found motion_is sign_is k_is fit axis_is rest_is) h
 
 pub fits_turned : (w : Watch) (J J' : List Entry) (p : Plan) (s : Mind) (r : Option Reading) (e : Option Entry) (w' : Watch) (noted_axis : Option AxisWatch) (noted_rest : RestWatch) (anew sign : Bool)
     → anew ≡ begins_anew J w.machine w.memory

@@ -36,18 +36,21 @@ use Rattle.cell_diagnosis.specs.declared.motion.Motion.{Motion}
 use Rattle.cell_diagnosis.specs.declared.verdict.Verdict.{Verdict}
 use Rattle.cell_diagnosis.specs.declared.verdict.Verdict.TheVariants.{Pending, Arrived, Fault}
 use Rattle.cell_turns.specs.declared.plan.Plan.{Plan}
-use Rattle.cell_turns.specs.declared.ruling.Ruling.{Ruling}
-use Rattle.cell_turns.specs.declared.ruling.Ruling.TheVariants.{Nothing, Books, PastLast, Proposes}
+use Rattle.cell_turns.specs.declared.turns.decide.Ruling.{Ruling}
+use Rattle.cell_turns.specs.declared.turns.decide.Ruling.TheVariants.{Nothing, Books, PastLast, Proposes}
 use Rattle.cell_turns.specs.Moving.{limits_of, motion_on, motion_of_machine}
-use Rattle.cell_turns.specs.Rulings.{conveyed, forged, ending, next_plate, books, signed, by_sign, by_arrival, by_rest, by_axis, ruling_by, ruling}
+use Rattle.cell_turns.specs.Rulings.{conveyed, forged, ending, next_plate, books, signed, ruling_by, ruling}
 use Rattle.cell_diagnosis.specs.declared.reading.Reading.{Reading}
 use Rattle.cell_diagnosis.specs.Readings.{bit}
 use Rattle.cell_machines.specs.Useful.{is_useful}
 use Rattle.cell_turns.specs.declared.turns.TurnError.TheVariants.{Refused}
 use Rattle.cell_turns.specs.declared.watch.Watch.{Watch}
+use Rattle.cell_turns.specs.declared.watch.Memory.{Memory}
+use Rattle.cell_turns.specs.declared.turns.decide.Findings.{Findings}
 use Rattle.cell_turns.specs.Signs.{shows_sign}
 use Rattle.cell_turns.specs.Minds.{Mind, FitsMind}
 use Rattle.cell_turns.specs.Turns.{may_meet, IsRuled, IsDecided, IsUnbooked, IsExcused}
+use Rattle.cell_turns.proofs.Points.{by_sign, by_end, by_rest, by_axis, by_all}
 
 pub record IsOwn (l : Limits) (J : List Entry) (m : Machine) (e : Entry) : Type 0 where
   pub by : actor_of e ≡ actor.Machine m
@@ -240,33 +243,33 @@ own_by_sign : (l : Limits) (J : List Entry) (m : Machine) (sign : Bool) → is_f
 own_by_sign l J m true healthy lit told = own_signed l J m healthy (lit refl) told
 own_by_sign l J m false healthy lit told = tt
 
-own_by_arrival : (l : Limits) (J : List Entry) (m : Machine) (sign : Bool) (o : Option Motion) (v : Verdict) → is_failed J m ≡ false → (sign ≡ true → IsLit J m) → IsTold J → AreShown J m o → OwnRuling l J m (by_arrival J m sign o v)
-own_by_arrival l J m sign None v healthy lit told seen = own_by_sign l J m sign healthy lit told
-own_by_arrival l J m sign (Some mo) Pending healthy lit told seen = own_by_sign l J m sign healthy lit told
-own_by_arrival l J m sign (Some mo) (Fault c) healthy lit told seen = own_by_sign l J m sign healthy lit told
-own_by_arrival l J m sign (Some mo) Arrived healthy lit told seen =
+own_by_end : (l : Limits) (J : List Entry) (m : Machine) (sign : Bool) (o : Option Motion) (v : Verdict) → is_failed J m ≡ false → (sign ≡ true → IsLit J m) → IsTold J → AreShown J m o → OwnRuling l J m (by_end J m sign o v)
+own_by_end l J m sign None v healthy lit told seen = own_by_sign l J m sign healthy lit told
+own_by_end l J m sign (Some mo) Pending healthy lit told seen = own_by_sign l J m sign healthy lit told
+own_by_end l J m sign (Some mo) (Fault c) healthy lit told seen = own_by_sign l J m sign healthy lit told
+own_by_end l J m sign (Some mo) Arrived healthy lit told seen =
     subst (λ (n : Machine). OwnRuling l J n (books (ending J mo.axis mo.to))) seen.own
     (own_ending l J mo.axis mo.to (rw seen.own healthy) seen.going told)
 
 own_by_rest : (l : Limits) (J : List Entry) (m : Machine) (sign : Bool) (o : Option Motion) (v u : Verdict) → is_failed J m ≡ false → (sign ≡ true → IsLit J m) → IsTold J → AreShown J m o → OwnRuling l J m (by_rest J m sign o v u)
 own_by_rest l J m sign o v (Fault c) healthy lit told seen = own_declared l J m c healthy
-own_by_rest l J m sign o v Arrived healthy lit told seen = own_by_arrival l J m sign o v healthy lit told seen
-own_by_rest l J m sign o v Pending healthy lit told seen = own_by_arrival l J m sign o v healthy lit told seen
+own_by_rest l J m sign o v Arrived healthy lit told seen = own_by_end l J m sign o v healthy lit told seen
+own_by_rest l J m sign o v Pending healthy lit told seen = own_by_end l J m sign o v healthy lit told seen
 
 own_by_axis : (l : Limits) (J : List Entry) (m : Machine) (sign : Bool) (o : Option Motion) (v u : Verdict) → is_failed J m ≡ false → (sign ≡ true → IsLit J m) → IsTold J → AreShown J m o → OwnRuling l J m (by_axis J m sign o v u)
 own_by_axis l J m sign o (Fault c) u healthy lit told seen = own_declared l J m c healthy
 own_by_axis l J m sign o Arrived u healthy lit told seen = own_by_rest l J m sign o Arrived u healthy lit told seen
 own_by_axis l J m sign o Pending u healthy lit told seen = own_by_rest l J m sign o Pending u healthy lit told seen
 
-pub own_ruling : (l : Limits) (J : List Entry) (m : Machine) (command_failed was_failed sign : Bool) (o : Option Motion) (v u : Verdict) → (sign ≡ true → IsLit J m) → IsTold J → AreShown J m o → OwnRuling l J m (ruling_by J m command_failed was_failed sign o v u)
-own_ruling l J m command_failed was_failed sign o v u lit told seen = go (is_failed J m) refl command_failed (is_asked J m) was_failed
+pub own_ruling : (l : Limits) (J : List Entry) (m : Machine) (kept : Memory) (found : Findings) → ((kept.sign && found.sign) ≡ true → IsLit J m) → IsTold J → AreShown J m found.motion → OwnRuling l J m (ruling_by J m kept found)
+own_ruling l J m kept found lit told seen = go (is_failed J m) refl kept.command_failed (is_asked J m) kept.failed
   where
-    go : (failed : Bool) → is_failed J m ≡ failed → (a b c : Bool) → OwnRuling l J m (if failed then Nothing else if a then Books (Declared m cause.CommandFault) else if b then Books (Declared m cause.OperatorStop) else if c then Proposes else by_axis J m sign o v u)
+    go : (failed : Bool) → is_failed J m ≡ failed → (a b c : Bool) → OwnRuling l J m (by_all J m failed a b c (kept.sign && found.sign) found.motion found.at_axis found.at_rest)
     go true is a b c = tt
     go false is true b c = own_declared l J m cause.CommandFault is
     go false is false true c = own_declared l J m cause.OperatorStop is
     go false is false false true = tt
-    go false is false false false = own_by_axis l J m sign o v u is lit told seen
+    go false is false false false = own_by_axis l J m (kept.sign && found.sign) found.motion found.at_axis found.at_rest is lit told seen
 
 -- a turn, as the code has it
 
@@ -310,17 +313,17 @@ own_ruled l J m plates Proposes (Some e) mine room own h = record {
   plain = plain_by e m (mine l J plates m e h);
 }
 
-pub own_turn : (l : Limits) (w : Watch) (J : List Entry) (p : Plan) (r : Option Reading) (k : Ruling) (e : Option Entry) (motion : Option Motion) (sign : Bool) (at_axis at_rest : Verdict)
+pub own_turn : (l : Limits) (w : Watch) (J : List Entry) (p : Plan) (r : Option Reading) (k : Ruling) (e : Option Entry) (found : Findings)
     → UsefulIsOwn → UsefulHasRoom → IsTold J
-    → motion ≡ motion_of_machine J p w.machine
-    → sign ≡ shows_sign J w.machine r
-    → k ≡ ruling_by J w.machine w.memory.command_failed w.memory.failed (w.memory.sign && sign) motion at_axis at_rest
+    → found.motion ≡ motion_of_machine J p w.machine
+    → found.sign ≡ shows_sign J w.machine r
+    → k ≡ ruling_by J w.machine w.memory found
     → IsRuled l J w.machine p.plates k e
     → OwnEntry l J w.machine e
-own_turn l w J p r k e motion sign at_axis at_rest mine room told motion_is sign_is k_is h =
+own_turn l w J p r k e found mine room told motion_is sign_is k_is h =
     own_ruled l J w.machine p.plates k e mine room
     (subst (OwnRuling l J w.machine) (sym k_is)
-    (own_ruling l J w.machine w.memory.command_failed w.memory.failed (w.memory.sign && sign) motion at_axis at_rest
+    (own_ruling l J w.machine w.memory found
     (λ yes. lit J w.machine r w.memory.sign (ap (λ (b : Bool). w.memory.sign && b) (sym sign_is) ∙ yes))
     told (subst (AreShown J w.machine) (sym motion_is) (shown J p w.machine))))
     h

@@ -1,6 +1,8 @@
 -- A schedule, one step longer
-use Rattle.std.proofs.Common.{◌≡◌, ℕ, ◌+◌, List, [], ◌∷◌, ◌++◌, Bool, true, false, Option, Some, None, IfSome, length, refl, sym, ap, ap₂, ◌∙◌, subst, cond, append_assoc, append-nil, length-append, add-zero, add_assoc, arith}
+use Rattle.std.proofs.Common.{◌≡◌, ◌<◌, ℕ, suc, ◌+◌, take, drop, get_or, List, [], ◌∷◌, ◌++◌, Bool, true, false, Option, Some, None, IfSome, length, refl, sym, ap, ap₂, ◌∙◌, subst, cond, append_assoc, append-nil, length-append, add-zero, add_assoc, arith}
 use mir.Val.{bool_byte}
+use Rattle.std.proofs.Math.Seq.{drop-cons}
+use Rattle.std.proofs.lemmas.List.{take-append-drop}
 use Rattle.std.specs.Prelude.{if◌then◌else◌, option_to_list, is_some}
 use Rattle.std.specs.List.{count_by}
 use Rattle.std.proofs.lemmas.List.Elements.{filter-append}
@@ -29,7 +31,7 @@ use Rattle.cell_turns.specs.declared.watch.Watch.{Watch}
 use Rattle.cell_turns.specs.declared.port.Act.{Act}
 use Rattle.cell_turns.specs.Six.{at, put}
 use Rattle.cell_turns.specs.Logs.{ActLog, after_hand}
-use Rattle.cell_turns.specs.Acts.{act_of, hands, ActedAtMostOnce, Did, DidMore}
+use Rattle.cell_turns.specs.Acts.{act_of, hands, ActedAtMost, Did, DidMore}
 use Rattle.cell_turns.specs.Minds.{Mind, FitsMind}
 use Rattle.cell_turns.specs.Handing.{IsHanded, handed_entry, handed_log}
 use Rattle.cell_turns.specs.Turns.{IsDecided, IsTurnedAway, mind_after}
@@ -251,16 +253,21 @@ his_entry l J e Spared h = tt
 his_entry l J e Failed h = tt
 his_entry l J e Booked h = h.actor
 
--- the operator may have done one act more
-pub did_more : (acts log log' : ActLog) (es : List Entry) → ActedAtMostOnce log log' → Did acts log es → DidMore acts log' es
-did_more acts log log' es a d = record { more = a.more; few = a.few; acts = a.acts ∙ ap (λ l. l ++ a.more) d.acts }
+-- the operator may have done the act of a step that was not finished
+pub did_more : (acts log log' : ActLog) (es : List Entry) (wanted : Option Act) → ActedAtMost wanted log log' → Did acts log es → DidMore wanted acts log' es
+did_more acts log log' es wanted a d = record { beyond = a.done; most = a.most; acts = a.acts ∙ ap (λ l. l ++ a.done) d.acts }
 
-pub scheduled_stopped : (p : Plan) (steps : List Step) (refused : ℕ) (before cur next : History) (ws0 ws ws' : Six Watch) (told told' : Bool) (acts log log' : ActLog)
-    → next ≡ cur → ws' ≡ ws → (told' ≡ true → told ≡ true) → (told' ≡ true → ActedAtMostOnce log log')
+pub scheduled_stopped : (p : Plan) (steps : List Step) (refused : ℕ) (before cur next : History) (ws0 ws ws' : Six Watch) (told told' : Bool) (acts log log' : ActLog) (wanted : Option Act)
+    → next ≡ cur → ws' ≡ ws → (told' ≡ true → told ≡ true) → (told' ≡ true → ActedAtMost wanted log log')
     → Scheduled p steps refused before cur ws0 ws told acts log → Scheduled p steps refused before next ws0 ws' told' acts log'
-scheduled_stopped p steps refused before cur next ws0 ws ws' told told' acts log log' is same still tells s =
+scheduled_stopped p steps refused before cur next ws0 ws ws' told told' acts log log' wanted is same still tells s =
     rw (is, same)
     (record { failed = s.failed; limits = s.limits; led = s.led; failures = λ t. (tells t).failures ∙ s.failures (still t) })
+
+-- the steps are those taken, the next one and those left
+pub steps_split : (steps : List Step) (i : ℕ) (next : Step) → i < length steps → get_or steps i next ≡ next → steps ≡ take i steps ++ next ∷ drop (suc i) steps
+steps_split steps i next below is =
+    sym (take-append-drop i steps) ∙ ap (λ (l : List Step). take i steps ++ l) (drop-cons steps i next below ∙ ap (λ (s : Step). s ∷ drop (suc i) steps) is)
 
 -- nothing counts nothing
 pub plus_none : (c : Totals) → c ≡ plus c (count_of [])

@@ -1,5 +1,5 @@
 -- What the operator does by hand for his entries
-use Rattle.std.specs.Prelude.{◌≡◌, ◌≤◌, List, [], ◌∷◌, ◌++◌, length, Option, Some, None, option_to_list}
+use Rattle.std.specs.Prelude.{◌≡◌, ◌⊎◌, List, [], ◌∷◌, ◌++◌, Option, Some, None, option_to_list}
 use Rattle.cell_types.specs.declared.words.Entry.{Entry}
 use Rattle.cell_types.specs.declared.words.Entry.TheVariants.{Quarantined, Repaired}
 use Rattle.cell_turns.specs.declared.port.Act.{Act}
@@ -20,15 +20,19 @@ hands (e ∷ es) = option_to_list (act_of e) ++ hands es
 pub record Did (before now : ActLog) (es : List Entry) : Type 0 where
   pub acts : now.acts ≡ before.acts ++ hands es
 
--- nothing, or one act
-pub record ActedAtMostOnce (before now : ActLog) : Type 0 where
-  pub more : List Act
-  pub few : length more ≤ 1
-  pub acts : now.acts ≡ before.acts ++ more
+-- nothing was done, or this act where one is wanted
+abbrev pub AtMost : Option Act → List Act → Type 0
+AtMost wanted done = (done ≡ []) ⊎ (done ≡ option_to_list wanted)
+
+-- at most this act was done, and none failed
+pub record ActedAtMost (wanted : Option Act) (before now : ActLog) : Type 0 where
+  pub done : List Act
+  pub most : AtMost wanted done
+  pub acts : now.acts ≡ before.acts ++ done
   pub failures : now.failures ≡ before.failures
 
--- the same, and at most one act more
-pub record DidMore (before now : ActLog) (es : List Entry) : Type 0 where
-  pub more : List Act
-  pub few : length more ≤ 1
-  pub acts : now.acts ≡ (before.acts ++ hands es) ++ more
+-- the acts of the entries, and at most this act beyond them
+pub record DidMore (wanted : Option Act) (before now : ActLog) (es : List Entry) : Type 0 where
+  pub beyond : List Act
+  pub most : AtMost wanted beyond
+  pub acts : now.acts ≡ (before.acts ++ hands es) ++ beyond

@@ -8,6 +8,7 @@ pub mod Expected
 pub mod Signs
 pub mod Following
 pub mod Minds
+pub mod Observed
 pub mod Rulings
 pub mod Turns
 pub mod Handing

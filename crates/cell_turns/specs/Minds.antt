@@ -9,7 +9,7 @@ use Rattle.cell_diagnosis.specs.RestFacts.{Noted, agrees}
 use Rattle.cell_diagnosis.specs.RestWatches.{RestFits}
 use Rattle.cell_turns.specs.Visits.{is_visited}
 use Rattle.cell_turns.specs.Following.{Following, FitsAxis}
-use Rattle.cell_turns.specs.declared.memory.Memory.{Memory}
+use Rattle.cell_turns.specs.declared.watch.Memory.{Memory}
 use Rattle.cell_turns.specs.declared.watch.Watch.{Watch}
 
 pub record Mind : Type 0 where

@@ -1,5 +1,5 @@
--- The first eight of the nine points by which a turn decides, in their order
-use Rattle.std.specs.Prelude.{ℕ, ◌+◌, ◌&&◌, Bool, not, nat_lt, Option, Some, None, List, [], ◌∷◌, ◌++◌, if◌then◌else◌}
+-- What a turn decides: the first of nine points that applies
+use Rattle.std.specs.Prelude.{ℕ, ◌+◌, ◌&&◌, Bool, nat_lt, Option, Some, None, List, [], ◌∷◌, if◌then◌else◌}
 use Rattle.std.specs.Option.{option_map}
 use Rattle.std.specs.List.{count_by}
 use Rattle.cell_types.specs.declared.words.Machine.{Machine}
@@ -10,60 +10,22 @@ use Rattle.cell_types.specs.declared.words.Axis.{Axis}
 use Rattle.cell_types.specs.declared.words.Axis.TheVariants as axis
 use Rattle.cell_types.specs.declared.words.Pose.{Pose}
 use Rattle.cell_types.specs.declared.words.Pose.TheVariants as pose
+use Rattle.cell_types.specs.declared.words.Cause.{Cause}
 use Rattle.cell_types.specs.declared.words.Cause.TheVariants as cause
 use Rattle.cell_types.specs.declared.words.Entry.{Entry}
 use Rattle.cell_types.specs.declared.words.Entry.TheVariants.{Admitted, Arrived as ArrivedAt, Conveyed, Forged, Delivered, Declared}
-use Rattle.cell_types.specs.Same.{same_axis, same_pose}
 use Rattle.cell_views.specs.Views.{is_failed, is_asked, is_admitted, plate_of}
 use Rattle.cell_diagnosis.specs.declared.motion.Motion.{Motion}
 use Rattle.cell_diagnosis.specs.declared.reading.Reading.{Reading}
 use Rattle.cell_diagnosis.specs.declared.verdict.Verdict.{Verdict}
-use Rattle.cell_diagnosis.specs.declared.verdict.Verdict.TheVariants.{Pending, Arrived, Fault}
-use Rattle.cell_diagnosis.specs.Readings.{seen}
-use Rattle.cell_diagnosis.specs.AxisRules.{verdict}
-use Rattle.cell_diagnosis.specs.RestFacts.{Noted, noted}
-use Rattle.cell_diagnosis.specs.RestRules.{rest}
+use Rattle.cell_diagnosis.specs.declared.verdict.Verdict.TheVariants.{Arrived, Fault}
 use Rattle.cell_turns.specs.declared.plan.Plan.{Plan}
-use Rattle.cell_turns.specs.declared.memory.Memory.{Memory}
-use Rattle.cell_turns.specs.declared.ruling.Ruling.{Ruling}
-use Rattle.cell_turns.specs.declared.ruling.Ruling.TheVariants.{Nothing, Books, PastLast, Proposes}
-use Rattle.cell_turns.specs.Moving.{motion_of_machine}
-use Rattle.cell_turns.specs.Visits.{is_visited, was_claimed}
-use Rattle.cell_turns.specs.Expected.{expected_of}
-use Rattle.cell_turns.specs.Signs.{shows_sign}
-use Rattle.cell_turns.specs.Following.{Following}
+use Rattle.cell_turns.specs.declared.watch.Memory.{Memory}
+use Rattle.cell_turns.specs.declared.turns.decide.Findings.{Findings}
+use Rattle.cell_turns.specs.declared.turns.decide.Ruling.{Ruling}
+use Rattle.cell_turns.specs.declared.turns.decide.Ruling.TheVariants.{Nothing, Books, PastLast, Proposes}
 use Rattle.cell_turns.specs.Minds.{Mind}
-
--- the axis watch's readings
-
-abbrev pub same_motion : Motion → Motion → Bool
-same_motion a b = same_axis a.axis b.axis && (same_pose a.from b.from && same_pose a.to b.to)
-
--- what follows the motion that the book shows: the watch begins anew where it follows another, or none
-abbrev pub followed : Option Following → Option Motion → Option Following
-followed _ None = None
-followed None (Some m) = Some (record { motion = m; readings = [] })
-followed (Some f) (Some m) = if same_motion f.motion m then Some f else Some (record { motion = m; readings = [] })
-
-abbrev pub with_reading : Option Reading → Following → Following
-with_reading r f = record { motion = f.motion; readings = f.readings ++ seen f.motion r ∷ [] }
-
--- the motion that is followed, with this reading
-abbrev pub axis_noted : List Entry → Machine → Plan → Option Following → Option Reading → Option Following
-axis_noted J m p f r = option_map (with_reading r) (followed f (motion_of_machine J p m))
-
-abbrev pub axis_verdict : Option Following → Verdict
-axis_verdict None = Pending
-axis_verdict (Some f) = verdict f.motion f.readings
-
--- the rest watch's readings
-
--- no visitor holds a zone of the machine, none held one at its last turn, and none claimed one since
-abbrev pub is_unvisited : List Entry → Machine → Memory → Bool
-is_unvisited J m kept = not (is_visited J m) && (not kept.visited && not (was_claimed J m kept.length))
-
-abbrev pub rest_noted : List Entry → Machine → Memory → List Noted → Option Reading → List Noted
-rest_noted J m kept L r = L ++ noted m (expected_of J m (is_unvisited J m kept)) r ∷ []
+use Rattle.cell_turns.specs.Observed.{findings}
 
 -- what is booked where a motion has ended
 
@@ -97,43 +59,50 @@ signed J machine.Feed = next_plate (count_by is_admitted J + 1)
 signed J machine.Deposit = books (option_map (λ k. Delivered k) (plate_of J station.DepEnd))
 signed J _ = Proposes
 
--- the points, by the verdicts of the two watches
+-- the points
 
--- eight and nine: a sign was seen, or a useful entry is proposed
-abbrev pub by_sign : List Entry → Machine → Bool → Ruling
-by_sign J m sign = if sign then signed J m else Proposes
+abbrev pub declares : Machine → Cause → Ruling
+declares m why = Books (Declared m why)
 
--- seven: the motion has ended
-abbrev pub by_arrival : List Entry → Machine → Bool → Option Motion → Verdict → Ruling
-by_arrival J m sign (Some motion) Arrived = books (ending J motion.axis motion.to)
-by_arrival J m sign (Some motion) Pending = by_sign J m sign
-by_arrival J m sign (Some motion) (Fault c) = by_sign J m sign
-by_arrival J m sign None at_axis = by_sign J m sign
+-- a point that applies under a condition
+abbrev pub when : Bool → Ruling → Option Ruling
+when applies k = if applies then Some k else None
 
--- six: the rest watch found a fault
-abbrev pub by_rest : List Entry → Machine → Bool → Option Motion → Verdict → Verdict → Ruling
-by_rest J m sign motion at_axis (Fault c) = Books (Declared m c)
-by_rest J m sign motion at_axis Arrived = by_arrival J m sign motion at_axis
-by_rest J m sign motion at_axis Pending = by_arrival J m sign motion at_axis
+-- a watch found a fault
+abbrev pub fault_of : Machine → Verdict → Option Ruling
+fault_of m (Fault why) = Some (declares m why)
+fault_of m _ = None
 
--- five: the axis watch found a fault
-abbrev pub by_axis : List Entry → Machine → Bool → Option Motion → Verdict → Verdict → Ruling
-by_axis J m sign motion (Fault c) at_rest = Books (Declared m c)
-by_axis J m sign motion Arrived at_rest = by_rest J m sign motion Arrived at_rest
-by_axis J m sign motion Pending at_rest = by_rest J m sign motion Pending at_rest
+-- the motion has ended
+abbrev pub end_of : List Entry → Option Motion → Verdict → Option Ruling
+end_of J None at_axis = None
+end_of J (Some motion) Arrived = Some (books (ending J motion.axis motion.to))
+end_of J (Some motion) _ = None
 
--- one to four: a failed machine books nothing, a failed command and then a stop that is asked are declared, and after a
--- repair an entry is proposed
-abbrev pub ruling_by : List Entry → Machine → Bool → Bool → Bool → Option Motion → Verdict → Verdict → Ruling
-ruling_by J m command_failed was_failed sign motion at_axis at_rest =
-    if is_failed J m then Nothing
-    else if command_failed then Books (Declared m cause.CommandFault)
-    else if is_asked J m then Books (Declared m cause.OperatorStop)
-    else if was_failed then Proposes
-    else by_axis J m sign motion at_axis at_rest
+-- the ruling of the first point that applies
+abbrev pub first_ruling : List (Option Ruling) → Ruling
+first_ruling [] = Nothing
+first_ruling (Some k ∷ points) = k
+first_ruling (None ∷ points) = first_ruling points
 
--- what a turn of m decides, the verdicts being those of the readings so far and this one
+-- what a turn of m decides by what was kept of its last turn and by what it found:
+-- one, the machine is booked failed; two, its last command failed; three, a stop is asked; four, it was booked failed at its
+-- last turn; five, the axis watch found a fault; six, the rest watch found one; seven, the motion has ended; eight, this
+-- reading and the last one show a sign; nine, whatever else
+abbrev pub ruling_by : List Entry → Machine → Memory → Findings → Ruling
+ruling_by J m kept found =
+    first_ruling
+    (when (is_failed J m) Nothing
+    ∷ when kept.command_failed (declares m cause.CommandFault)
+    ∷ when (is_asked J m) (declares m cause.OperatorStop)
+    ∷ when kept.failed Proposes
+    ∷ fault_of m found.at_axis
+    ∷ fault_of m found.at_rest
+    ∷ end_of J found.motion found.at_axis
+    ∷ when (kept.sign && found.sign) (signed J m)
+    ∷ Some Proposes
+    ∷ [])
+
+-- what a turn of m decides at this reading
 unfoldable pub ruling : List Entry → Machine → Plan → Mind → Option Reading → Ruling
-ruling J m p s r =
-    ruling_by J m s.memory.command_failed s.memory.failed (s.memory.sign && shows_sign J m r) (motion_of_machine J p m)
-    (axis_verdict (axis_noted J m p s.axis r)) (rest (rest_noted J m s.memory s.rest r))
+ruling J m p s r = ruling_by J m s.memory (findings J m p s r)

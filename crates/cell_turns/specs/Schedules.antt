@@ -1,5 +1,5 @@
 -- Schedules: which states the steps lead to, and what they did
-use Rattle.std.specs.Prelude.{ℕ, ◌≡◌, ◌+◌, Bool, true, false, Option, None, List, [], ◌∷◌, ◌++◌, take, filter, option_to_list, is_some, IfSome, if◌then◌else◌}
+use Rattle.std.specs.Prelude.{ℕ, ◌≡◌, ◌+◌, Bool, true, false, Option, None, List, [], ◌∷◌, ◌++◌, filter, option_to_list, is_some, IfSome, if◌then◌else◌}
 use Rattle.std.specs.Option.{option_and_then}
 use Rattle.cell_types.specs.declared.words.Machine.{Machine}
 use Rattle.cell_types.specs.declared.words.Actor.{Actor}
@@ -16,6 +16,7 @@ use Rattle.cell_ledger.specs.Counts.{plus}
 use Rattle.cell_ledger.specs.Held.{Held, held}
 use Rattle.cell_diagnosis.specs.declared.reading.Reading.{Reading}
 use Rattle.cell_turns.specs.declared.plan.Plan.{Plan}
+use Rattle.cell_turns.specs.declared.port.Act.{Act}
 use Rattle.cell_turns.specs.declared.schedule.Step.{Step}
 use Rattle.cell_turns.specs.declared.schedule.Step.TheVariants.{Turn, Hand}
 use Rattle.cell_turns.specs.declared.six.Six.{Six}
@@ -100,13 +101,27 @@ abbrev pub AllSent : {P : Type 0} → (P → Bool) → (P → Log) → Six P →
 AllSent tells log ports ports' ws ws' lists =
     (m : Machine) → tells (at ports' m) ≡ true → Sends (log (at ports m)) (has_failed_command (at ws m)) (log (at ports' m)) (at lists m) (has_failed_command (at ws' m))
 
--- memory was refused, and what some of the first steps did stands; the operator may have done one act more
+-- the act that a step wants of the operator
+abbrev pub act_at : Step → Option Act
+act_at (Turn m r) = None
+act_at (Hand e) = act_of e
+
+-- where memory can be refused: at a turn, and at an entry by hand that is the operator's and allowed
+abbrev pub CanStop : Limits → List Entry → Step → Type 0
+CanStop l J (Turn m r) = Unit {0}
+CanStop l J (Hand e) = IsHis l J e
+
+-- memory was refused at one of the steps: what the steps before it did stands, and of its own at most the operator's act
 pub record Stopped {P : Type 0} (tells : P → Bool) (log : P → Log) (p : Plan) (steps : List Step) (ports ports' : Six P) (before after : History) (h h' : Held) (ws ws' : Six Watch) (told : Bool) (acts acts' : ActLog) : Type 0 where
-  pub taken : ℕ
+  pub taken : List Step
+  pub next : Step
+  pub left : List Step
+  pub in_order : steps ≡ taken ++ next ∷ left
   pub refused : ℕ
   pub machines : Six (List Entry)
   pub operator : List Entry
   pub grown : Grown before after h h' machines operator
   pub sent : AllSent tells log ports ports' ws ws' machines
-  pub did : told ≡ true → DidMore acts acts' operator
-  pub scheduled : Scheduled p (take taken steps) refused before after ws ws' told acts acts'
+  pub scheduled : Scheduled p taken refused before after ws ws' told acts acts'
+  pub stops : CanStop after.limits after.entries next
+  pub did : told ≡ true → DidMore (act_at next) acts acts' operator

@@ -18,15 +18,16 @@ use Rattle.cell_ledger.specs.Held.{Held, held}
 use Rattle.cell_diagnosis.specs.declared.reading.Reading.{Reading}
 use Rattle.cell_machines.specs.Useful.{is_useful}
 use Rattle.cell_turns.specs.declared.plan.Plan.{Plan}
-use Rattle.cell_turns.specs.declared.memory.Memory.{Memory}
+use Rattle.cell_turns.specs.declared.watch.Memory.{Memory}
 use Rattle.cell_turns.specs.declared.turns.TurnError.{TurnError}
 use Rattle.cell_turns.specs.declared.turns.TurnError.TheVariants.{OutOfMemory as NoMemory, Refused}
 use Rattle.cell_turns.specs.declared.watch.Watch.{Watch}
-use Rattle.cell_turns.specs.declared.ruling.Ruling.{Ruling}
-use Rattle.cell_turns.specs.declared.ruling.Ruling.TheVariants.{Nothing, Books, PastLast, Proposes}
+use Rattle.cell_turns.specs.declared.turns.decide.Ruling.{Ruling}
+use Rattle.cell_turns.specs.declared.turns.decide.Ruling.TheVariants.{Nothing, Books, PastLast, Proposes}
 use Rattle.cell_turns.specs.Signs.{shows_sign}
 use Rattle.cell_turns.specs.Minds.{Mind, FitsMind, remembered}
-use Rattle.cell_turns.specs.Rulings.{axis_noted, rest_noted, ruling}
+use Rattle.cell_turns.specs.Observed.{axis_noted, rest_noted}
+use Rattle.cell_turns.specs.Rulings.{ruling}
 
 -- what is proposed: a useful entry, and none only where no entry is useful
 abbrev pub IsProposed : Limits → List Entry → Machine → ℕ → Option Entry → Type 0

@@ -4,11 +4,11 @@ ghost use Rattle.cell_views.specs.Views.{count_of};
 ghost use Rattle.cell_ledger.specs.Counts.{plus};
 ghost use Rattle.cell_ledger.specs.Held.{held};
 ghost use Rattle.cell_turns.specs.Logs.{after_act, after_hand};
-ghost use Rattle.cell_turns.specs.Acts.{act_of, ActedAtMostOnce};
+ghost use Rattle.cell_turns.specs.Acts.{act_of, ActedAtMost};
 ghost use Rattle.cell_turns.specs.Handing.{IsHis, IsSpared, IsHanded, handed_entry, handed_log};
 
 use crate::schedule::{Handed, OutOfMemory};
-use crate::turns::book_entry;
+use crate::turns::book::book_entry;
 use crate::{Act, OperatorPort, PortFault};
 use cell_ledger::{Kept, Run, Shares};
 use cell_types::{Actor, Entry, actor_of};
@@ -71,7 +71,7 @@ pub fn hand<O: OperatorPort, R: Run>(
     ensures still { O.tells operator.new ≡ true → O.tells operator.old ≡ true }
     ensures his { OnErr result (IsHis kept.old.limits kept.old.entries entry) }
     ensures unchanged { OnErr result ((entries.new.items ≡ entries.old.items) × (kept.new ≡ kept.old) × (shares.new ≡ shares.old)) }
-    ensures acted { O.tells operator.new ≡ true → OnErr result (ActedAtMostOnce (O.log operator.old) (O.log operator.new)) }
+    ensures acted { O.tells operator.new ≡ true → OnErr result (ActedAtMost (act_of entry) (O.log operator.old) (O.log operator.new)) }
 {
     if !is_his(kept.book(), &entry) {
         return Ok(Handed::Spared);

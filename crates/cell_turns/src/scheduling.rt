@@ -16,16 +16,16 @@ ghost use Rattle.cell_turns.specs.declared.watch.Watch.{Watch as WatchValue};
 ghost use Rattle.cell_turns.specs.Six.{at, map_six};
 ghost use Rattle.cell_turns.specs.Logs.{Log, ActLog};
 ghost use Rattle.cell_turns.specs.Sent.{Sends};
-ghost use Rattle.cell_turns.specs.Acts.{Did, ActedAtMostOnce};
+ghost use Rattle.cell_turns.specs.Acts.{Did, ActedAtMost};
 ghost use Rattle.cell_turns.specs.Minds.{Mind, FitsMind, machine_of_watch, has_failed_command};
 ghost use Rattle.cell_turns.specs.Turns.{IsDecided, mind_after};
-ghost use Rattle.cell_turns.specs.Schedules.{Scheduled, Grown, AllSent, Stopped};
+ghost use Rattle.cell_turns.specs.Schedules.{Scheduled, Grown, AllSent, act_at, CanStop, Stopped};
 ghost use Rattle.cell_turns.specs.Steps.{TurnedAt, TurnedAway, GrewBy};
 
 use crate::hands::hand;
 use crate::schedule::OutOfMemory;
-use crate::sending::send;
 use crate::turns::book_turn;
+use crate::turns::send::send;
 use crate::{OperatorPort, Plan, Port, Ports, Six, Step, TurnError, Watch, Watches};
 use cell_diagnosis::Reading;
 use cell_ledger::{Kept, Run, Shares};
@@ -95,7 +95,8 @@ fn take_step<P: Port, O: OperatorPort, R: Run>(
     ensures did { OnOk result ((acts : ActLog) → O.tells operator.new ≡ true → Did acts (O.log operator.old) ran.old.operator.items → Did acts (O.log operator.new) ran.new.operator.items) }
     ensures scheduled { OnOk result ((steps : List StepValue) (before : History) (ws : SixValue WatchValue) (acts : ActLog) → Scheduled plan.now steps ran.old.refused before kept.old ws watches.old (O.tells operator.old) acts (O.log operator.old) → Scheduled plan.now (steps ++ step.now ∷ []) ran.new.refused before kept.new ws watches.new (O.tells operator.new) acts (O.log operator.new)) }
     ensures unchanged { OnErr result ((kept.new ≡ kept.old) × (shares.new ≡ shares.old) × (watches.new ≡ watches.old) × (ports.new ≡ ports.old)) }
-    ensures acted { O.tells operator.new ≡ true → OnErr result (ActedAtMostOnce (O.log operator.old) (O.log operator.new)) }
+    ensures acted { O.tells operator.new ≡ true → OnErr result (ActedAtMost (act_at step.now) (O.log operator.old) (O.log operator.new)) }
+    ensures stops { OnErr result (CanStop kept.old.limits kept.old.entries step.now) }
 {
     match *step {
         Step::Turn(machine, reading) => {
@@ -136,7 +137,7 @@ fn no_entries(alloc: Global) -> Six<Vec<Entry>>
 /// refuses, or whose act by hand fails, does nothing.
 ///
 /// `OutOfMemory` comes where a list can't take one more entry, or the book can't for a plate in quarantine. The steps
-/// before stand; the operator's act by hand may have been done without its entry.
+/// before stand; at an entry by hand the operator's act may have been done without its entry.
 pub fn run_schedule<P: Port, O: OperatorPort, R: Run>(
     alloc: Global,
     steps: &[Step],

@@ -1,30 +1,34 @@
-//! One turn of a machine.
-ghost use Rattle.std.specs.Prelude.{◌≡◌, ◌<◌, ◌&&◌, ◌||◌, not, false, ◌∷◌, ◌++◌, [], Some, None, Option, List, is_none, IfOk, IfErr, IfSome, OnOk, OnErr, option_to_list, vec_len, vec_capacity, if◌then◌else◌};
-ghost use Rattle.cell_diagnosis.specs.RestFacts.{Noted as NotedValue};
-ghost use Rattle.cell_diagnosis.specs.RestWatches.{machine_of, RestFits};
+//! One turn of a machine, in its steps:
+//! 1. `expect`: what the book says that the machine has to show;
+//! 2. `observe`: both watches note the reading, and what they say is found;
+//! 3. `decide`: the first of nine points that applies;
+//! 4. `book`: the entry of what was decided is booked and listed;
+//! 5. `remember`: what the watch keeps of the turn;
+//! 6. `send`: the command of the entry, once the book's lock is free.
+ghost use Rattle.std.specs.Prelude.{◌≡◌, ◌&&◌, ◌++◌, None, is_none, IfOk, IfErr, IfSome, OnErr, option_to_list, vec_len, vec_capacity};
 ghost use Rattle.cell_types.specs.Entries.{actor_of};
 ghost use Rattle.cell_types.specs.declared.words.Actor.TheVariants as actors;
 ghost use Rattle.cell_views.specs.Views.{count_of};
 ghost use Rattle.plate_book.specs.Telling.{first_of};
 ghost use Rattle.cell_ledger.specs.Counts.{plus};
 ghost use Rattle.cell_ledger.specs.Held.{held};
-ghost use Rattle.cell_turns.specs.Following.{Following, FitsAxis, IsFitted};
-ghost use Rattle.cell_turns.specs.Minds.{Mind, FitsMind, machine_of_watch, has_failed_command, remembered};
+ghost use Rattle.cell_turns.specs.Minds.{Mind, FitsMind, machine_of_watch, has_failed_command};
 ghost use Rattle.cell_turns.specs.Sent.{is_command_fault};
-ghost use Rattle.cell_turns.specs.Turns.{IsRuled, IsDecided, IsTurnedAway, IsUnbooked, IsExcused, begins_anew, ends_motion, mind_after, Turned};
-ghost use Rattle.cell_turns.specs.declared.ruling.Ruling.TheVariants.{PastLast};
+ghost use Rattle.cell_turns.specs.Turns.{IsDecided, IsExcused, mind_after, Turned};
 
-use crate::memory::Memory;
-use crate::noticing::{Noticed, notice, rule};
-use crate::ruling::Ruling;
-use crate::watching::remembered;
+pub(crate) mod book;
+pub mod decide;
+pub mod expect;
+mod observe;
+pub(crate) mod remember;
+pub mod send;
+
 use crate::{Plan, Watch};
-use cell_diagnosis::{AxisWatch, Reading, RestWatch};
+use cell_diagnosis::Reading;
 use cell_ledger::{Kept, Run, Shares};
 use cell_machines::laws::{useful_is_bookable, useful_is_own};
-use cell_machines::propose;
 use cell_types::{Command, Entry, Machine, command_of};
-use plate_book::{Book, Refusal};
+use plate_book::Refusal;
 
 /// Why a turn did nothing.
 #[derive(Clone, Copy, PartialEq, Eq, Debug)]
@@ -33,109 +37,6 @@ pub enum TurnError {
     OutOfMemory,
     /// The book refuses the entry: `JournalFull`, or `PlateLimit` for a plate that would be admitted.
     Refused(Refusal),
-}
-
-/// The entry of a turn by what was decided; `PlateLimit` past plate 100,000.
-fn decide(
-    ruling: Ruling,
-    machine: Machine,
-    book: &Book,
-    plan: &Plan,
-) -> Result<Option<Entry>, Refusal>
-    ensures ok { IfOk result (λ e. IsRuled book.now.limits book.now.entries machine plan.now.plates ruling e) }
-    ensures err { IfErr result (λ why. (ruling ≡ PastLast) × (why ≡ Refusal.PlateLimit)) }
-{
-    match ruling {
-        Ruling::Nothing => Ok(None),
-        Ruling::Books(entry) => Ok(Some(entry)),
-        Ruling::PastLast => Err(Refusal::PlateLimit),
-        Ruling::Proposes => Ok(propose(machine, book, plan.plates)),
-    }
-}
-
-/// Books an entry, if there is one, and lists it.
-pub fn book_entry<R: Run>(
-    kept: &mut Kept<R>,
-    shares: &mut Shares<R>,
-    entries: &mut Vec<Entry>,
-    entry: Option<Entry>,
-) -> Result<(), Refusal>
-    requires { vec_len entries.old < vec_capacity entries.old }
-    ensures entries { OnOk result (entries.new.items ≡ entries.old.items ++ option_to_list entry) }
-    ensures kept { OnOk result (kept.new ≡ record { limits = kept.old.limits; entries = kept.old.entries ++ option_to_list entry }) }
-    ensures shares { OnOk result (shares.new ≡ held shares.old.parts (plus shares.old.counts (count_of (option_to_list entry)))) }
-    ensures allowed { OnOk result (IfSome entry (λ e. first_of kept.old.limits kept.old.entries e ≡ None)) }
-    ensures refused { IfErr result (λ why. IsUnbooked kept.old.limits kept.old.entries entry why) }
-    ensures unchanged { OnErr result ((entries.new.items ≡ entries.old.items) × (kept.new ≡ kept.old) × (shares.new ≡ shares.old)) }
-{
-    let Some(entry) = entry else {
-        return Ok(());
-    };
-    let added = entry;
-    kept.apply(shares, entry)?;
-    entries.push_reserved(added);
-    Ok(())
-}
-
-fn ends_motion(entry: &Option<Entry>) -> bool
-    ensures { result ≡ ends_motion entry.now }
-{
-    matches!(
-        entry,
-        Some(Entry::Arrived { .. } | Entry::Conveyed { .. } | Entry::Forged { .. })
-    )
-}
-
-/// Whether the machine was booked failed at its last turn, is so no more, and has nothing to declare.
-fn begins_anew(book: &Book, machine: Machine, kept: &Memory) -> bool
-    ensures { result ≡ begins_anew book.now.entries machine kept.now }
-{
-    let failed = book.failed(machine);
-    let asked = book.asked(machine);
-    kept.failed && (!failed && (!kept.command_failed && !asked))
-}
-
-fn axis_after(noticed: &Noticed, anew: bool, booked: &Option<Entry>) -> Option<AxisWatch>
-    ensures { (f : Option Following) → FitsAxis noticed.now.axis f → FitsAxis result (if anew || ends_motion booked.now then None else f) }
-{
-    if anew || ends_motion(booked) {
-        None
-    } else {
-        noticed.axis
-    }
-}
-
-fn rest_after(machine: Machine, noticed: &Noticed, anew: bool) -> RestWatch
-    requires { machine_of noticed.now.rest ≡ machine }
-    ensures fits { (L : List NotedValue) → RestFits noticed.now.rest L → RestFits result (if anew then [] else L) }
-    ensures machine { machine_of result ≡ machine }
-{
-    if anew {
-        RestWatch::start(machine)
-    } else {
-        noticed.rest
-    }
-}
-
-/// The watch after a turn that left the book like this.
-fn after(watch: &Watch, book: &Book, noticed: &Noticed, anew: bool, booked: &Option<Entry>) -> Watch
-    requires machine { machine_of noticed.now.rest ≡ watch.now.machine }
-    requires fitted { ∥ IsFitted noticed.now.axis noticed.now.rest ∥₁ }
-    ensures axis { (f : Option Following) → FitsAxis noticed.now.axis f → FitsAxis result.axis (if anew || ends_motion booked.now then None else f) }
-    ensures rest { (L : List NotedValue) → RestFits noticed.now.rest L → RestFits result.rest (if anew then [] else L) }
-    ensures memory { result.memory ≡ remembered book.now.entries watch.now.machine (is_none booked.now && watch.now.memory.command_failed) (not anew && (not watch.now.memory.sign && noticed.now.sign)) }
-    ensures machine { result.machine ≡ watch.now.machine }
-{
-    let machine = watch.machine;
-    let kept = &watch.memory;
-    let command_failed = booked.is_none() && kept.command_failed;
-    let sign = !anew && (!kept.sign && noticed.sign);
-    Watch {
-        machine,
-        axis: axis_after(noticed, anew, booked),
-        rest: rest_after(machine, noticed, anew),
-        memory: remembered(book, machine, command_failed, sign),
-    }
 }
 
 /// One turn of a machine: it notes the reading and books at most one entry, which it answers. Where it answers an error,
@@ -171,18 +72,18 @@ pub fn book_turn<R: Run>(
     useful_is_own();
     useful_is_bookable();
     let book = kept.book();
-    let noticed = notice(watch, book, reading, plan);
-    let anew = begins_anew(book, watch.machine, &watch.memory);
-    let ruling = rule(watch, book, &noticed);
-    let entry = match decide(ruling, watch.machine, book, plan) {
+    let observed = observe::notice(watch, book, reading, plan);
+    let anew = remember::begins_anew(book, watch.machine, &watch.memory);
+    let ruling = decide::decide(book, watch.machine, &watch.memory, &observed.findings);
+    let entry = match book::entry_of(ruling, watch.machine, book, plan) {
         Ok(entry) => entry,
         Err(refusal) => return Err(TurnError::Refused(refusal)),
     };
     let booked = entry;
-    if let Err(refusal) = book_entry(kept, shares, entries, entry) {
+    if let Err(refusal) = book::book_entry(kept, shares, entries, entry) {
         return Err(TurnError::Refused(refusal));
     }
-    *watch = after(watch, kept.book(), &noticed, anew, &booked);
+    *watch = remember::after(watch, kept.book(), &observed, anew, &booked);
     Ok(booked)
 }
 

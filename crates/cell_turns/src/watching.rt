@@ -1,26 +1,12 @@
 //! The start of a machine's watch, and what is asked of it.
 ghost use Rattle.std.specs.Prelude.{◌≡◌, true};
-ghost use Rattle.cell_turns.specs.Minds.{Mind, FitsMind, machine_of_watch, has_failed_command, first_mind, with_failure, remembered, is_quiet};
+ghost use Rattle.cell_turns.specs.Minds.{Mind, FitsMind, machine_of_watch, has_failed_command, first_mind, with_failure, is_quiet};
 
-use crate::memory::Memory;
-use crate::visits::is_visited;
+use crate::turns::remember::remembered;
 use crate::watch::Watch;
 use cell_diagnosis::RestWatch;
 use cell_types::Machine;
 use plate_book::Book;
-
-/// What is kept of a turn after which the book is this.
-pub fn remembered(book: &Book, machine: Machine, command_failed: bool, sign: bool) -> Memory
-    ensures { result ≡ remembered book.now.entries machine command_failed sign }
-{
-    Memory {
-        command_failed,
-        sign,
-        failed: book.failed(machine),
-        visited: is_visited(book, machine),
-        length: book.journal().len(),
-    }
-}
 
 impl Watch {
     /// A watch of a machine that has taken no turn yet. It counts as after a turn that booked nothing.

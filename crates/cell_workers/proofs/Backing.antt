@@ -30,15 +30,17 @@ use Rattle.cell_diagnosis.specs.RestRules.{is_silent_at_rest, axis_fault, is_pla
 use Rattle.cell_machines.specs.Room.{is_bookable}
 use Rattle.cell_machines.specs.Useful.{wants, is_useful_now, is_useful}
 use Rattle.cell_turns.specs.declared.plan.Plan.{Plan}
-use Rattle.cell_turns.specs.declared.memory.Memory.{Memory}
-use Rattle.cell_turns.specs.declared.ruling.Ruling.{Ruling}
-use Rattle.cell_turns.specs.declared.ruling.Ruling.TheVariants.{Nothing, Books, PastLast, Proposes}
+use Rattle.cell_turns.specs.declared.watch.Memory.{Memory}
+use Rattle.cell_turns.specs.declared.turns.decide.Findings.{Findings}
+use Rattle.cell_turns.specs.declared.turns.decide.Ruling.{Ruling}
+use Rattle.cell_turns.specs.declared.turns.decide.Ruling.TheVariants.{Nothing, Books, PastLast, Proposes}
 use Rattle.cell_turns.specs.Moving.{motion_of_machine}
-use Rattle.cell_turns.specs.Signs.{shows_sign}
 use Rattle.cell_turns.specs.Following.{Following}
 use Rattle.cell_turns.specs.Minds.{Mind}
-use Rattle.cell_turns.specs.Rulings.{axis_noted, axis_verdict, rest_noted, ending, books, signed, by_sign, by_arrival, by_rest, by_axis, ruling_by, ruling}
+use Rattle.cell_turns.specs.Observed.{axis_noted, axis_verdict, rest_noted, findings}
+use Rattle.cell_turns.specs.Rulings.{ending, books, signed, ruling_by, ruling}
 use Rattle.cell_turns.specs.Turns.{IsRuled, IsDecided, ends_motion, mind_after}
+use Rattle.cell_turns.proofs.Points.{by_sign, by_end, by_rest, by_axis, by_all}
 use Rattle.cell_workers.specs.Evidence.{ShowsArrival, ShowsFault, RestShows, SignShows, Backed}
 use Rattle.cell_workers.specs.Traces.{Traces, Calm}
 use Rattle.cell_workers.proofs.Traces.{OwnMotion, own_motion, axis_faults, axis_arrives, axis_idle, rest_shown, sign_shown}
@@ -245,7 +247,7 @@ of_sign : (p : Plan) (got : List (Option Reading)) (J : List Entry) (m : Machine
 of_sign p got J m true h = of_signed p got J m (h refl)
 of_sign p got J m false h = tt
 
-of_arrival : (p : Plan) (got : List (Option Reading)) (J : List Entry) (m : Machine) (sign : Bool) (o : Option Motion) (v u : Verdict) → (sign ≡ true → SignShows m got) → Shows p got m o v u → RulingBacked p got (by_arrival J m sign o v)
+of_arrival : (p : Plan) (got : List (Option Reading)) (J : List Entry) (m : Machine) (sign : Bool) (o : Option Motion) (v u : Verdict) → (sign ≡ true → SignShows m got) → Shows p got m o v u → RulingBacked p got (by_end J m sign o v)
 of_arrival p got J m sign None v u h k = of_sign p got J m sign h
 of_arrival p got J m sign (Some mo) Pending u h k = of_sign p got J m sign h
 of_arrival p got J m sign (Some mo) (Fault c) u h k = of_sign p got J m sign h
@@ -261,15 +263,15 @@ of_axis_point p got J m sign o (Fault c) u h k = λ _. inl (k.axis_fault c refl)
 of_axis_point p got J m sign o Arrived u h k = of_rest_point p got J m sign o Arrived u h k
 of_axis_point p got J m sign o Pending u h k = of_rest_point p got J m sign o Pending u h k
 
-of_points : (p : Plan) (got : List (Option Reading)) (J : List Entry) (m : Machine) (command_failed was_failed sign : Bool) (o : Option Motion) (v u : Verdict) → (sign ≡ true → SignShows m got) → (was_failed ≡ false → Shows p got m o v u) → RulingBacked p got (ruling_by J m command_failed was_failed sign o v u)
-of_points p got J m command_failed was_failed sign o v u h k = go (is_failed J m) command_failed (is_asked J m) was_failed k
+of_points : (p : Plan) (got : List (Option Reading)) (J : List Entry) (m : Machine) (kept : Memory) (found : Findings) → ((kept.sign && found.sign) ≡ true → SignShows m got) → (kept.failed ≡ false → Shows p got m found.motion found.at_axis found.at_rest) → RulingBacked p got (ruling_by J m kept found)
+of_points p got J m kept found h k = go (is_failed J m) kept.command_failed (is_asked J m) kept.failed k
   where
-    go : (failed a b c : Bool) → (c ≡ false → Shows p got m o v u) → RulingBacked p got (if failed then Nothing else if a then Books (Declared m cause.CommandFault) else if b then Books (Declared m cause.OperatorStop) else if c then Proposes else by_axis J m sign o v u)
+    go : (failed a b c : Bool) → (c ≡ false → Shows p got m found.motion found.at_axis found.at_rest) → RulingBacked p got (by_all J m failed a b c (kept.sign && found.sign) found.motion found.at_axis found.at_rest)
     go true a b c k = tt
     go false true b c k = λ d. cc
     go false false true c k = λ d. cc
     go false false false true k = tt
-    go false false false false k = of_axis_point p got J m sign o v u h (k refl)
+    go false false false false k = of_axis_point p got J m (kept.sign && found.sign) found.motion found.at_axis found.at_rest h (k refl)
 
 -- a calm mind of a machine that wasn't booked failed
 pending : (s : Mind) → Calm s → s.memory.failed ≡ false → (axis_verdict s.axis ≡ Pending) × (rest s.rest ≡ Pending)
@@ -282,8 +284,7 @@ pending s (inr h) is = h
 of_ruling : (J : List Entry) (m : Machine) (p : Plan) (got : List (Option Reading)) (s : Mind) (r : Option Reading) → Traces m p got s → Calm s → RulingBacked p (got ++ r ∷ []) (ruling J m p s r)
 unfolding ruling
 of_ruling J m p got s r t calm =
-    of_points p (got ++ r ∷ []) J m s.memory.command_failed s.memory.failed (s.memory.sign && shows_sign J m r) (motion_of_machine J p m)
-    (axis_verdict (axis_noted J m p s.axis r)) (rest (rest_noted J m s.memory s.rest r))
+    of_points p (got ++ r ∷ []) J m s.memory (findings J m p s r)
     (sign_shown J m got r s.memory.sign t.sign)
     (λ healthy.
     let still = pending s calm healthy in
@@ -346,19 +347,19 @@ settles l J m plates sign None Arrived Pending e F L has idle never v_is u_is h 
     differ q = cc
 settles l J m plates sign (Some mo) Arrived Pending e F L has idle never v_is u_is h = at_end l J m plates (ending J mo.axis mo.to) e F L (ending_ends J mo.axis mo.to) (has mo refl) (sym u_is) h
 
-calm_points : (l : Limits) (J : List Entry) (m : Machine) (plates : ℕ) (cf wf sign : Bool) (o : Option Motion) (v u : Verdict) (e : Option Entry) (F : Option Following) (L : List Noted)
-    → (is_failed J m ≡ false → (mo : Motion) → o ≡ Some mo → is_some (ending J mo.axis mo.to) ≡ true)
-    → (o ≡ None → v ≡ Pending) → (u ≡ Arrived → ⊥) → v ≡ axis_verdict F → u ≡ rest L
-    → IsRuled l J m plates (ruling_by J m cf wf sign o v u) e
-    → Settled (is_failed (J ++ option_to_list e) m) (wf && (not (is_failed J m) && (not cf && not (is_asked J m)))) (ends_motion e) F L
-calm_points l J m plates cf wf sign o v u e F L has idle never v_is u_is h = go (is_failed J m) cf (is_asked J m) wf refl h
+calm_points : (l : Limits) (J : List Entry) (m : Machine) (plates : ℕ) (kept : Memory) (found : Findings) (e : Option Entry) (F : Option Following) (L : List Noted)
+    → (is_failed J m ≡ false → (mo : Motion) → found.motion ≡ Some mo → is_some (ending J mo.axis mo.to) ≡ true)
+    → (found.motion ≡ None → found.at_axis ≡ Pending) → (found.at_rest ≡ Arrived → ⊥) → found.at_axis ≡ axis_verdict F → found.at_rest ≡ rest L
+    → IsRuled l J m plates (ruling_by J m kept found) e
+    → Settled (is_failed (J ++ option_to_list e) m) (kept.failed && (not (is_failed J m) && (not kept.command_failed && not (is_asked J m)))) (ends_motion e) F L
+calm_points l J m plates kept found e F L has idle never v_is u_is h = go (is_failed J m) kept.command_failed (is_asked J m) kept.failed refl h
   where
-    go : (failed a b c : Bool) → is_failed J m ≡ failed → IsRuled l J m plates (if failed then Nothing else if a then Books (Declared m cause.CommandFault) else if b then Books (Declared m cause.OperatorStop) else if c then Proposes else by_axis J m sign o v u) e → Settled (is_failed (J ++ option_to_list e) m) (c && (not failed && (not a && not b))) (ends_motion e) F L
+    go : (failed a b c : Bool) → is_failed J m ≡ failed → IsRuled l J m plates (by_all J m failed a b c (kept.sign && found.sign) found.motion found.at_axis found.at_rest) e → Settled (is_failed (J ++ option_to_list e) m) (c && (not failed && (not a && not b))) (ends_motion e) F L
     go true a b c is k = inl (ap (λ (x : Option Entry). is_failed (J ++ option_to_list x) m) k ∙ ap (λ x. is_failed x m) (append-nil J) ∙ is)
     go false true b c is k = inl (failed_by J m cause.CommandFault e k)
     go false false true c is k = inl (failed_by J m cause.OperatorStop e k)
     go false false false true is k = inr (refl, rest_nil)
-    go false false false false is k = settles l J m plates sign o v u e F L (has is) idle never v_is u_is k
+    go false false false false is k = settles l J m plates (kept.sign && found.sign) found.motion found.at_axis found.at_rest e F L (has is) idle never v_is u_is k
 
 has_ending : (J : List Entry) (p : Plan) (m : Machine) → HasEndings J → is_failed J m ≡ false → (mo : Motion) → motion_of_machine J p m ≡ Some mo → is_some (ending J mo.axis mo.to) ≡ true
 has_ending J p m has healthy mo is =
@@ -368,8 +369,7 @@ has_ending J p m has healthy mo is =
 pub calm_after : (l : Limits) (J : List Entry) (m : Machine) (p : Plan) (s : Mind) (r : Option Reading) (e : Option Entry) → HasEndings J → IsDecided l J m p s r e → Calm (mind_after J m p s r e)
 unfolding ruling mind_after
 calm_after l J m p s r e has h =
-    calm_points l J m p.plates s.memory.command_failed s.memory.failed (s.memory.sign && shows_sign J m r) (motion_of_machine J p m)
-    (axis_verdict (axis_noted J m p s.axis r)) (rest (rest_noted J m s.memory s.rest r)) e (axis_noted J m p s.axis r) (rest_noted J m s.memory s.rest r)
+    calm_points l J m p.plates s.memory (findings J m p s r) e (axis_noted J m p s.axis r) (rest_noted J m s.memory s.rest r)
     (has_ending J p m has) (axis_idle J m p r s.axis) (never_arrives (rest_noted J m s.memory s.rest r)) refl refl h
 
 pub calm_first : (memory : Memory) → Calm (record { axis = None; rest = []; memory = memory })

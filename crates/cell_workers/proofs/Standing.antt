@@ -10,7 +10,6 @@ use Rattle.cell_types.specs.declared.words.Axis.{Axis}
 use Rattle.cell_types.specs.declared.words.Axis.TheVariants as axis
 use Rattle.cell_types.specs.declared.words.Pose.{Pose}
 use Rattle.cell_types.specs.declared.words.Pose.TheVariants as pose
-use Rattle.cell_types.specs.declared.words.Cause.TheVariants as cause
 use Rattle.cell_types.specs.declared.words.Actor.TheVariants as actor
 use Rattle.cell_types.specs.declared.words.Actor.{Actor}
 use Rattle.cell_types.specs.declared.words.Entry.{Entry}
@@ -25,18 +24,19 @@ use Rattle.cell_diagnosis.specs.declared.motion.Motion.{Motion}
 use Rattle.cell_diagnosis.specs.declared.reading.Reading.{Reading}
 use Rattle.cell_diagnosis.specs.declared.verdict.Verdict.{Verdict}
 use Rattle.cell_diagnosis.specs.declared.verdict.Verdict.TheVariants.{Pending, Arrived, Fault}
-use Rattle.cell_diagnosis.specs.RestRules.{rest}
 use Rattle.cell_turns.specs.declared.plan.Plan.{Plan}
-use Rattle.cell_turns.specs.declared.ruling.Ruling.{Ruling}
-use Rattle.cell_turns.specs.declared.ruling.Ruling.TheVariants.{Nothing, Books, PastLast, Proposes}
+use Rattle.cell_turns.specs.declared.turns.decide.Findings.{Findings}
+use Rattle.cell_turns.specs.declared.turns.decide.Ruling.{Ruling}
+use Rattle.cell_turns.specs.declared.turns.decide.Ruling.TheVariants.{Nothing, Books, PastLast, Proposes}
+use Rattle.cell_turns.specs.declared.watch.Memory.{Memory}
 use Rattle.cell_turns.specs.declared.watch.Watch.{Watch}
-use Rattle.cell_turns.specs.Moving.{motion_of_machine}
-use Rattle.cell_turns.specs.Signs.{shows_sign}
 use Rattle.cell_turns.specs.Minds.{Mind, FitsMind}
-use Rattle.cell_turns.specs.Rulings.{axis_noted, axis_verdict, rest_noted, ending, books, signed, by_sign, by_arrival, by_rest, by_axis, ruling_by, ruling}
+use Rattle.cell_turns.specs.Observed.{findings}
+use Rattle.cell_turns.specs.Rulings.{ending, books, signed, ruling_by, ruling}
 use Rattle.cell_turns.specs.Turns.{IsRuled, IsDecided}
 use Rattle.cell_workers.specs.Standing.{is_move, is_useful_for, is_called_for, called_for_from, all_called_for}
 use Rattle.cell_turns.proofs.Minds.{of_some}
+use Rattle.cell_turns.proofs.Points.{by_sign, by_end, by_rest, by_axis, by_all}
 
 -- what the points book by themselves is no move
 abbrev Still : Ruling → Type 0
@@ -81,7 +81,7 @@ of_sign : (J : List Entry) (m : Machine) (sign : Bool) → Still (by_sign J m si
 of_sign J m true = of_signed J m
 of_sign J m false = tt
 
-of_arrival : (J : List Entry) (m : Machine) (sign : Bool) (o : Option Motion) (v : Verdict) → Still (by_arrival J m sign o v)
+of_arrival : (J : List Entry) (m : Machine) (sign : Bool) (o : Option Motion) (v : Verdict) → Still (by_end J m sign o v)
 of_arrival J m sign None v = of_sign J m sign
 of_arrival J m sign (Some mo) Pending = of_sign J m sign
 of_arrival J m sign (Some mo) (Fault c) = of_sign J m sign
@@ -97,21 +97,19 @@ of_axis_point J m sign o (Fault c) u = refl
 of_axis_point J m sign o Arrived u = of_rest_point J m sign o Arrived u
 of_axis_point J m sign o Pending u = of_rest_point J m sign o Pending u
 
-of_points : (J : List Entry) (m : Machine) (command_failed was_failed sign : Bool) (o : Option Motion) (v u : Verdict) → Still (ruling_by J m command_failed was_failed sign o v u)
-of_points J m command_failed was_failed sign o v u = go (is_failed J m) command_failed (is_asked J m) was_failed
+of_points : (J : List Entry) (m : Machine) (kept : Memory) (found : Findings) → Still (ruling_by J m kept found)
+of_points J m kept found = go (is_failed J m) kept.command_failed (is_asked J m) kept.failed
   where
-    go : (failed a b c : Bool) → Still (if failed then Nothing else if a then Books (Declared m cause.CommandFault) else if b then Books (Declared m cause.OperatorStop) else if c then Proposes else by_axis J m sign o v u)
+    go : (failed a b c : Bool) → Still (by_all J m failed a b c (kept.sign && found.sign) found.motion found.at_axis found.at_rest)
     go true a b c = tt
     go false true b c = refl
     go false false true c = refl
     go false false false true = tt
-    go false false false false = of_axis_point J m sign o v u
+    go false false false false = of_axis_point J m (kept.sign && found.sign) found.motion found.at_axis found.at_rest
 
 of_ruling : (J : List Entry) (m : Machine) (p : Plan) (s : Mind) (r : Option Reading) → Still (ruling J m p s r)
 unfolding ruling
-of_ruling J m p s r =
-    of_points J m s.memory.command_failed s.memory.failed (s.memory.sign && shows_sign J m r) (motion_of_machine J p m)
-    (axis_verdict (axis_noted J m p s.axis r)) (rest (rest_noted J m s.memory s.rest r))
+of_ruling J m p s r = of_points J m s.memory (findings J m p s r)
 
 still_called : (l : Limits) (J : List Entry) (e : Entry) → is_move e ≡ false → is_called_for l J e ≡ true
 still_called l J e h = ap (λ b. if b then is_useful_for l J e (actor_of e) else true) h

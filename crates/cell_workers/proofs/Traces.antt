@@ -25,12 +25,12 @@ use Rattle.cell_diagnosis.specs.AxisRules.{verdict}
 use Rattle.cell_diagnosis.specs.RestFacts.{Noted, noted}
 use Rattle.cell_diagnosis.specs.RestRules.{rest}
 use Rattle.cell_turns.specs.declared.plan.Plan.{Plan}
-use Rattle.cell_turns.specs.declared.memory.Memory.{Memory}
+use Rattle.cell_turns.specs.declared.watch.Memory.{Memory}
 use Rattle.cell_turns.specs.Moving.{limits_of, motion_on, motion_of_machine}
 use Rattle.cell_turns.specs.Signs.{shows_sign}
 use Rattle.cell_turns.specs.Following.{Following}
 use Rattle.cell_turns.specs.Minds.{Mind}
-use Rattle.cell_turns.specs.Rulings.{same_motion, followed, with_reading, axis_noted, axis_verdict, rest_noted}
+use Rattle.cell_turns.specs.Observed.{same_motion, followed, with_reading, axis_noted, axis_verdict, rest_noted}
 use Rattle.cell_turns.specs.Turns.{begins_anew, opens_sign, ends_motion, mind_after}
 use Rattle.cell_workers.specs.Evidence.{MotionShows, RestShows, Watched, readings_of, seen_all, signals, SignShows, ShowsArrival, ShowsFault}
 use Rattle.cell_workers.specs.Traces.{AxisTrace, RestTrace, SignTrace, Traces}

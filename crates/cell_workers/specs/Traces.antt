@@ -12,7 +12,7 @@ use Rattle.cell_turns.specs.declared.watch.Watch.{Watch}
 use Rattle.cell_turns.specs.Moving.{limits_of}
 use Rattle.cell_turns.specs.Following.{Following}
 use Rattle.cell_turns.specs.Minds.{Mind, FitsMind}
-use Rattle.cell_turns.specs.Rulings.{axis_verdict}
+use Rattle.cell_turns.specs.Observed.{axis_verdict}
 use Rattle.cell_workers.specs.Evidence.{Watched, readings_of, noted_all, seen_all, signals}
 
 -- the readings of a motion that is followed are the last answers; it is one of m's, with the plan's limits

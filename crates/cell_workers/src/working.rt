@@ -17,7 +17,7 @@ use crate::hall::{Ended, Hall, Room, Worker};
 use crate::{Plan, Port, Watch};
 use cell_diagnosis::Reading;
 use cell_ledger::{Run, Shares};
-use cell_turns::sending::send;
+use cell_turns::turns::send::send;
 use cell_types::{Command, Entry, Machine};
 use std::alloc::Global;
 use std::sync::{MutexGuard, Wait};

@@ -1,13 +1,14 @@
-use Rattle.std.proofs.Common.{◌<◌, length, Vec, sym, ◌∙◌, arith, rules, take}
+use Rattle.std.proofs.Common.{◌<◌, length, Vec, sym, ◌∙◌, arith, rules, take, drop, suc}
 use Rattle.std.proofs.lemmas.List.{take_more}
 use Rattle.cell_types.specs.declared.words.Machine.{Machine}
 use Rattle.cell_types.specs.declared.words.Entry.{Entry}
 use Rattle.cell_turns.specs.Six.{at, map_six}
 use Rattle.cell_turns.specs.Minds.{has_failed_command}
+use Rattle.cell_turns.specs.Schedules.{act_at}
 use Rattle.cell_turns.proofs.Logs.{sends_start}
 use Rattle.cell_turns.proofs.Acts.{did_start}
 use Rattle.cell_turns.proofs.Sixes.{map_at}
-use Rattle.cell_turns.proofs.Schedules.{scheduled_start, scheduled_stopped, grown_start, did_more}
+use Rattle.cell_turns.proofs.Schedules.{scheduled_start, scheduled_stopped, grown_start, did_more, steps_split}
 use Rattle.cell_turns.proofs.scheduling.run_schedule.Goals as goal
 
 pub loop-step-init : goal.loop-step-init
@@ -42,6 +43,8 @@ loop-step-preserved g c =
 
 pub returns-in-Err-clause-stopped : goal.returns-in-Err-clause-stopped
 returns-in-Err-clause-stopped g c =
+    let i = c.loop-step.step-index in
+    let below : i < length c.args.steps.now = search rules in
     let was = c.loop-step.invariant in
     let same = c.in-Err.ensures.unchanged in
     let operator = c.loop-step.operator in
@@ -49,14 +52,18 @@ returns-in-Err-clause-stopped g c =
     let tells = g.O.OperatorPort.tells in
     let log = g.O.OperatorPort.log in
     record {
-      taken = c.loop-step.step-index;
+      taken = take i c.args.steps.now;
+      next = c.step-item.result;
+      left = drop (suc i) c.args.steps.now;
+      in_order = steps_split c.args.steps.now i c.step-item.result below (sym c.step-item.is);
       refused = c.loop-step.ran.refused;
       machines = map_six items c.loop-step.ran.machines;
       operator = c.loop-step.ran.operator.items;
       grown = rw (same.0, same.1) was.grown;
       sent = rw (same.2, same.3) was.sent;
-      did = λ t. did_more (log c.args.operator.now) (log operator) (log c.take_step-taken.new.operator) c.loop-step.ran.operator.items (c.in-Err.ensures.acted t) (was.did (c.take_step-taken.ensures.still t));
       scheduled =
-          scheduled_stopped c.args.plan.now (take c.loop-step.step-index c.args.steps.now) c.loop-step.ran.refused c.args.kept.now c.loop-step.kept c.take_step-taken.new.kept c.args.watches.now c.loop-step.watches c.take_step-taken.new.watches
-          (tells operator) (tells c.take_step-taken.new.operator) (log c.args.operator.now) (log operator) (log c.take_step-taken.new.operator) same.0 same.2 c.take_step-taken.ensures.still c.in-Err.ensures.acted was.scheduled;
+          scheduled_stopped c.args.plan.now (take i c.args.steps.now) c.loop-step.ran.refused c.args.kept.now c.loop-step.kept c.take_step-taken.new.kept c.args.watches.now c.loop-step.watches c.take_step-taken.new.watches
+          (tells operator) (tells c.take_step-taken.new.operator) (log c.args.operator.now) (log operator) (log c.take_step-taken.new.operator) (act_at c.step-item.result) same.0 same.2 c.take_step-taken.ensures.still c.in-Err.ensures.acted was.scheduled;
+      stops = rw same.0 c.in-Err.ensures.stops;
+      did = λ t. did_more (log c.args.operator.now) (log operator) (log c.take_step-taken.new.operator) c.loop-step.ran.operator.items (act_at c.step-item.result) (c.in-Err.ensures.acted t) (was.did (c.take_step-taken.ensures.still t));
     }

@@ -7,50 +7,50 @@ use Rattle.cell_turns.proofs.turns.book_turn.Goals as goal
 
 pub returns-clause-decided : goal.returns-clause-decided
 returns-clause-decided g c = λ s fit.
-    let noticed = c.notice-noticed in
+    let observed = c.notice-observed in
     rw (sym c.book-book.ensures, sym c.requires)
-    (decided c.book-book.result.now.limits c.args.watch.now c.book-book.result.now.entries c.args.plan.now s c.args.reading c.rule-ruling.result c.in-Ok.entry noticed.result.motion noticed.result.sign noticed.result.at_axis noticed.result.at_rest
-    noticed.ensures.motion noticed.ensures.sign c.rule-ruling.ensures fit noticed.ensures.at_axis noticed.ensures.at_rest c.in-Ok.ensures.ok)
+    (decided c.book-book.result.now.limits c.args.watch.now c.book-book.result.now.entries c.args.plan.now s c.args.reading c.decide-ruling.result c.in-Ok.entry observed.result.findings
+    observed.ensures.motion observed.ensures.sign c.decide-ruling.ensures fit observed.ensures.at_axis observed.ensures.at_rest c.in-Ok.ensures.ok)
 
 pub returns-clause-fits : goal.returns-clause-fits
 returns-clause-fits g c = λ s fit.
-    let noticed = c.notice-noticed in
+    let observed = c.notice-observed in
     let journal = ap (λ (h : History). h.entries) (c.book.ensures ∙ c.in_default.ensures.kept) in
     rw (sym c.book-book.ensures, sym c.requires)
-    (fits_turned c.args.watch.now c.book-book.result.now.entries c.book.result.now.entries c.args.plan.now s c.args.reading c.in-Ok.entry c.after.result noticed.result.axis noticed.result.rest c.begins_anew-anew.result noticed.result.sign
-    c.begins_anew-anew.ensures noticed.ensures.sign (rw c.book-book.ensures journal) fit noticed.ensures.axis noticed.ensures.rest c.after.ensures.axis c.after.ensures.rest c.after.ensures.memory)
+    (fits_turned c.args.watch.now c.book-book.result.now.entries c.book.result.now.entries c.args.plan.now s c.args.reading c.in-Ok.entry c.after.result observed.result.axis observed.result.rest c.begins_anew-anew.result observed.result.findings.sign
+    c.begins_anew-anew.ensures observed.ensures.sign (rw c.book-book.ensures journal) fit observed.ensures.axis observed.ensures.rest c.after.ensures.axis c.after.ensures.rest c.after.ensures.memory)
 
 pub returns-clause-actor : goal.returns-clause-actor
 returns-clause-actor g c =
-    let noticed = c.notice-noticed in
+    let observed = c.notice-observed in
     rw (sym c.requires)
     (own_actor c.book-book.result.now.limits c.book-book.result.now.entries c.args.watch.now.machine c.in-Ok.entry
-    (own_turn c.book-book.result.now.limits c.args.watch.now c.book-book.result.now.entries c.args.plan.now c.args.reading c.rule-ruling.result c.in-Ok.entry noticed.result.motion noticed.result.sign noticed.result.at_axis noticed.result.at_rest
-    c.useful_is_own.ensures c.useful_is_bookable.ensures (rw c.book-book.ensures c.is_lawful.ensures.told) noticed.ensures.motion noticed.ensures.sign c.rule-ruling.ensures c.in-Ok.ensures.ok))
+    (own_turn c.book-book.result.now.limits c.args.watch.now c.book-book.result.now.entries c.args.plan.now c.args.reading c.decide-ruling.result c.in-Ok.entry observed.result.findings
+    c.useful_is_own.ensures c.useful_is_bookable.ensures (rw c.book-book.ensures c.is_lawful.ensures.told) observed.ensures.motion observed.ensures.sign c.decide-ruling.ensures c.in-Ok.ensures.ok))
 
 pub returns-in-Err-clause-excused : goal.returns-in-Err-clause-excused
 returns-in-Err-clause-excused g c =
-    let noticed = c.notice-noticed in
+    let observed = c.notice-observed in
     rw (sym c.book-book.ensures, sym c.requires)
-    (past_last c.book-book.result.now.limits c.book-book.result.now.entries c.args.watch.now.machine c.args.plan.now c.args.reading c.args.watch.now c.rule-ruling.result c.in-Err.refusal
-    (λ s fit. ruling_is c.args.watch.now c.book-book.result.now.entries c.args.plan.now s c.args.reading c.rule-ruling.result noticed.result.motion noticed.result.sign noticed.result.at_axis noticed.result.at_rest
-    noticed.ensures.motion noticed.ensures.sign c.rule-ruling.ensures fit noticed.ensures.at_axis noticed.ensures.at_rest)
+    (past_last c.book-book.result.now.limits c.book-book.result.now.entries c.args.watch.now.machine c.args.plan.now c.args.reading c.args.watch.now c.decide-ruling.result c.in-Err.refusal
+    (λ s fit. ruling_is c.args.watch.now c.book-book.result.now.entries c.args.plan.now s c.args.reading c.decide-ruling.result observed.result.findings
+    observed.ensures.motion observed.ensures.sign c.decide-ruling.ensures fit observed.ensures.at_axis observed.ensures.at_rest)
     c.in-Err.ensures.err)
 
 pub returns-in-Err-book_entry-clause-excused : goal.returns-in-Err-book_entry-clause-excused
 returns-in-Err-book_entry-clause-excused g c =
-    let noticed = c.notice-noticed in
+    let observed = c.notice-observed in
     rw (sym c.book-book.ensures, sym c.requires)
     (excused c.book-book.result.now.limits c.book-book.result.now.entries c.args.watch.now.machine c.args.plan.now c.args.reading c.args.watch.now c.in-Ok.entry c.in-Err-book_entry.refusal
-    (λ s fit. decided c.book-book.result.now.limits c.args.watch.now c.book-book.result.now.entries c.args.plan.now s c.args.reading c.rule-ruling.result c.in-Ok.entry noticed.result.motion noticed.result.sign noticed.result.at_axis noticed.result.at_rest
-    noticed.ensures.motion noticed.ensures.sign c.rule-ruling.ensures fit noticed.ensures.at_axis noticed.ensures.at_rest c.in-Ok.ensures.ok)
-    (own_turn c.book-book.result.now.limits c.args.watch.now c.book-book.result.now.entries c.args.plan.now c.args.reading c.rule-ruling.result c.in-Ok.entry noticed.result.motion noticed.result.sign noticed.result.at_axis noticed.result.at_rest
-    c.useful_is_own.ensures c.useful_is_bookable.ensures (rw c.book-book.ensures c.is_lawful.ensures.told) noticed.ensures.motion noticed.ensures.sign c.rule-ruling.ensures c.in-Ok.ensures.ok)
+    (λ s fit. decided c.book-book.result.now.limits c.args.watch.now c.book-book.result.now.entries c.args.plan.now s c.args.reading c.decide-ruling.result c.in-Ok.entry observed.result.findings
+    observed.ensures.motion observed.ensures.sign c.decide-ruling.ensures fit observed.ensures.at_axis observed.ensures.at_rest c.in-Ok.ensures.ok)
+    (own_turn c.book-book.result.now.limits c.args.watch.now c.book-book.result.now.entries c.args.plan.now c.args.reading c.decide-ruling.result c.in-Ok.entry observed.result.findings
+    c.useful_is_own.ensures c.useful_is_bookable.ensures (rw c.book-book.ensures c.is_lawful.ensures.told) observed.ensures.motion observed.ensures.sign c.decide-ruling.ensures c.in-Ok.ensures.ok)
     (rw c.book-book.ensures c.in-Err-book_entry.ensures.refused))
 
 pub returns-clause-fault : goal.returns-clause-fault
 returns-clause-fault g c =
-    let noticed = c.notice-noticed in
+    let observed = c.notice-observed in
     fault_booked c.book-book.result.now.limits c.book-book.result.now.entries c.args.watch.now.machine c.args.plan.now c.args.watch.now c.args.reading c.in-Ok.entry
-    (λ s fit. decided c.book-book.result.now.limits c.args.watch.now c.book-book.result.now.entries c.args.plan.now s c.args.reading c.rule-ruling.result c.in-Ok.entry noticed.result.motion noticed.result.sign noticed.result.at_axis noticed.result.at_rest
-    noticed.ensures.motion noticed.ensures.sign c.rule-ruling.ensures fit noticed.ensures.at_axis noticed.ensures.at_rest c.in-Ok.ensures.ok)
+    (λ s fit. decided c.book-book.result.now.limits c.args.watch.now c.book-book.result.now.entries c.args.plan.now s c.args.reading c.decide-ruling.result c.in-Ok.entry observed.result.findings
+    observed.ensures.motion observed.ensures.sign c.decide-ruling.ensures fit observed.ensures.at_axis observed.ensures.at_rest c.in-Ok.ensures.ok)

@@ -1,13 +1,104 @@
-//! What a machine at rest has to show, as the book has it.
+//! The first step of a turn: what the book says that the machine has to show, and where. An axis that moves has to show
+//! its motion; those at rest show their poses, and the stations their plates where no visitor may be.
 ghost use Rattle.std.specs.Prelude.{◌≡◌, ◌≤◌};
+ghost use Rattle.cell_types.specs.Cell.{visitor};
+ghost use Rattle.cell_types.specs.After.{is_machine};
 ghost use Rattle.cell_types.specs.Same.{same_colour};
 ghost use Rattle.cell_types.specs.declared.words.Colour.{Colour as ColourValue};
-ghost use Rattle.cell_views.specs.Views.{lamp_of};
+ghost use Rattle.cell_views.specs.Views.{lamp_of, holder_of};
+ghost use Rattle.cell_turns.specs.Moving.{motion_on, motion_of_machine};
+ghost use Rattle.cell_turns.specs.Visits.{is_visited, was_claimed, is_unvisited};
 ghost use Rattle.cell_turns.specs.Expected.{pose_at_rest, poses_at_rest, bit_where, is_booked_at, booked_plates, belt_bits, unwatched_plates, expected_of};
 
-use cell_diagnosis::Expect;
-use cell_types::{Axis, Belt, Colour, Machine, Pose, Station};
+use crate::Plan;
+use crate::watch::Memory;
+use cell_diagnosis::{Expect, Motion};
+use cell_types::{Axis, Belt, Colour, Machine, Pose, Station, Zone, visitor};
 use plate_book::Book;
+
+fn motion_on(book: &Book, plan: &Plan, axis: Axis) -> Option<Motion>
+    ensures { result ≡ motion_on book.now.entries plan.now axis }
+{
+    let state = book.pose(axis);
+    match state.going {
+        Some(to) => Some(Motion {
+            axis,
+            from: state.at,
+            to,
+            limits: plan.limits[axis as usize],
+        }),
+        None => None,
+    }
+}
+
+/// The motion of the machine's axis that moves, if one does.
+pub fn motion_of_machine(book: &Book, plan: &Plan, machine: Machine) -> Option<Motion>
+    ensures { result ≡ motion_of_machine book.now.entries plan.now machine }
+{
+    match machine {
+        Machine::Feed => motion_on(book, plan, Axis::FeedBelt),
+        Machine::Table => motion_on(book, plan, Axis::TableLift).or(motion_on(
+            book,
+            plan,
+            Axis::TableTurn,
+        )),
+        Machine::Robot => motion_on(book, plan, Axis::RobotTurn).or(motion_on(
+            book,
+            plan,
+            Axis::ArmOne,
+        ).or(motion_on(book, plan, Axis::ArmTwo))),
+        Machine::Press1 => motion_on(book, plan, Axis::PressOne),
+        Machine::Press2 => motion_on(book, plan, Axis::PressTwo),
+        Machine::Deposit => motion_on(book, plan, Axis::DepositBelt),
+    }
+}
+
+#[tactic(auto, unfolding(cell_types::specs::After::is_machine))]
+fn is_held_by_visitor(book: &Book, zone: Zone) -> bool
+    ensures { result ≡ is_machine (visitor zone) (holder_of book.now.entries zone) }
+{
+    match book.holder(zone) {
+        Some(machine) => machine == visitor(zone),
+        None => false,
+    }
+}
+
+/// Whether a visitor holds a zone of the machine.
+pub fn is_visited(book: &Book, machine: Machine) -> bool
+    ensures { result ≡ is_visited book.now.entries machine }
+{
+    match machine {
+        Machine::Table => {
+            is_held_by_visitor(book, Zone::Z1) || is_held_by_visitor(book, Zone::Z2)
+        }
+        Machine::Press1 => is_held_by_visitor(book, Zone::Z3),
+        Machine::Press2 => is_held_by_visitor(book, Zone::Z4),
+        Machine::Deposit => is_held_by_visitor(book, Zone::Z5),
+        Machine::Feed | Machine::Robot => false,
+    }
+}
+
+/// Whether a visitor claimed a zone of the machine at place `i` of the journal or later.
+pub fn was_claimed(book: &Book, machine: Machine, i: u32) -> bool
+    ensures { result ≡ was_claimed book.now.entries machine i }
+{
+    match machine {
+        Machine::Table => book.claimed_since(Zone::Z1, i) || book.claimed_since(Zone::Z2, i),
+        Machine::Press1 => book.claimed_since(Zone::Z3, i),
+        Machine::Press2 => book.claimed_since(Zone::Z4, i),
+        Machine::Deposit => book.claimed_since(Zone::Z5, i),
+        Machine::Feed | Machine::Robot => false,
+    }
+}
+
+/// Whether no visitor holds a zone of the machine, none held one at its last turn, and none claimed one since.
+pub fn is_unvisited(book: &Book, machine: Machine, kept: &Memory) -> bool
+    ensures { result ≡ is_unvisited book.now.entries machine kept.now }
+{
+    let visited = is_visited(book, machine);
+    let claimed = was_claimed(book, machine, kept.length);
+    !visited && (!kept.visited && !claimed)
+}
 
 fn pose_at_rest(book: &Book, axis: Axis) -> Option<Pose>
     ensures { result ≡ pose_at_rest book.now.entries axis }

@@ -1,9 +1,9 @@
 use Rattle.std.proofs.Common.{[], ◌∷◌, ◌++◌}
 use Rattle.std.specs.Option.{option_map}
 use Rattle.cell_diagnosis.specs.RestWatches.{noted_by}
-use Rattle.cell_turns.specs.Rulings.{with_reading, followed}
+use Rattle.cell_turns.specs.Observed.{with_reading, followed}
 use Rattle.cell_turns.proofs.Minds.{fitted_again}
-use Rattle.cell_turns.proofs.noticing.notice.Goals as goal
+use Rattle.cell_turns.proofs.turns.observe.notice.Goals as goal
 
 pub returns-clause-fitted : goal.returns-clause-fitted
 returns-clause-fitted c =

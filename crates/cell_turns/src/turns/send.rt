@@ -1,4 +1,4 @@
-//! The command of an entry that was booked.
+//! The last step of a turn: the command of the entry is sent.
 ghost use Rattle.std.specs.Prelude.{◌≡◌, true, false, is_some, if◌then◌else◌};
 ghost use Rattle.cell_types.specs.Entries.{command_of};
 ghost use Rattle.cell_turns.specs.Logs.{after_sending};

@@ -1,7 +1,8 @@
-//! What a turn decides.
+//! The third step of a turn: what is decided, by the first of nine points that applies.
 ghost use Rattle.std.specs.Prelude.{◌≡◌, ◌+◌};
-ghost use Rattle.cell_turns.specs.Rulings.{forged, conveyed, ending, next_plate, books, signed, by_sign, by_arrival, by_rest, by_axis, ruling_by};
+ghost use Rattle.cell_turns.specs.Rulings.{forged, conveyed, ending, next_plate, books, signed, declares, ruling_by};
 
+use crate::watch::Memory;
 use cell_diagnosis::{Motion, Verdict};
 use cell_types::{Axis, Cause, Entry, Machine, PlateId, Pose, Station};
 use plate_book::Book;
@@ -9,7 +10,20 @@ use plate_book::Book;
 /// The greatest number of a plate.
 const LAST_PLATE: u32 = 100_000;
 
-/// What a turn decides before an entry is proposed.
+/// What a turn found when it noted its reading.
+#[derive(Clone, Copy, PartialEq, Eq, Debug)]
+pub struct Findings {
+    /// The motion that the book shows, if an axis of the machine moves.
+    pub motion: Option<Motion>,
+    /// What the axis watch says.
+    pub at_axis: Verdict,
+    /// What the rest watch says.
+    pub at_rest: Verdict,
+    /// The reading shows a sign.
+    pub sign: bool,
+}
+
+/// What a turn decides.
 #[derive(Clone, Copy, PartialEq, Eq, Debug)]
 pub enum Ruling {
     /// Nothing is booked.
@@ -101,69 +115,13 @@ fn signed(book: &Book, machine: Machine) -> Ruling
     }
 }
 
-fn by_sign(book: &Book, machine: Machine, sign: bool) -> Ruling
-    ensures { result ≡ by_sign book.now.entries machine sign }
+fn declares(machine: Machine, cause: Cause) -> Ruling
+    ensures { result ≡ declares machine cause }
 {
-    if sign {
-        signed(book, machine)
-    } else {
-        Ruling::Proposes
-    }
+    Ruling::Books(Entry::Declared { machine, cause })
 }
 
-fn by_arrival(
-    book: &Book,
-    machine: Machine,
-    sign: bool,
-    motion: Option<Motion>,
-    at_axis: Verdict,
-) -> Ruling
-    ensures { result ≡ by_arrival book.now.entries machine sign motion at_axis }
-{
-    match motion {
-        Some(motion) => match at_axis {
-            Verdict::Arrived => books(ending(book, motion.axis, motion.to)),
-            Verdict::Pending | Verdict::Fault(_) => by_sign(book, machine, sign),
-        },
-        None => by_sign(book, machine, sign),
-    }
-}
-
-fn by_rest(
-    book: &Book,
-    machine: Machine,
-    sign: bool,
-    motion: Option<Motion>,
-    at_axis: Verdict,
-    at_rest: Verdict,
-) -> Ruling
-    ensures { result ≡ by_rest book.now.entries machine sign motion at_axis at_rest }
-{
-    match at_rest {
-        Verdict::Fault(cause) => Ruling::Books(Entry::Declared { machine, cause }),
-        Verdict::Arrived | Verdict::Pending => by_arrival(book, machine, sign, motion, at_axis),
-    }
-}
-
-fn by_axis(
-    book: &Book,
-    machine: Machine,
-    sign: bool,
-    motion: Option<Motion>,
-    at_axis: Verdict,
-    at_rest: Verdict,
-) -> Ruling
-    ensures { result ≡ by_axis book.now.entries machine sign motion at_axis at_rest }
-{
-    match at_axis {
-        Verdict::Fault(cause) => Ruling::Books(Entry::Declared { machine, cause }),
-        Verdict::Arrived | Verdict::Pending => {
-            by_rest(book, machine, sign, motion, at_axis, at_rest)
-        }
-    }
-}
-
-/// What a turn decides by the verdicts of the two watches, and by what is kept of the last turn: the first that applies.
+/// What a turn decides: the first of nine points that applies.
 /// 1. The machine is booked failed: nothing is booked.
 /// 2. Its last command failed: `Declared` with `CommandFault`.
 /// 3. A stop is asked: `Declared` with `OperatorStop`.
@@ -171,35 +129,34 @@ fn by_axis(
 /// 5. The axis watch found a fault: `Declared` with it.
 /// 6. The rest watch found a fault: `Declared` with it.
 /// 7. The motion has ended: `Forged` for a press at Top, `Conveyed` for a belt, else `Arrived`.
-/// 8. A sign was seen: `Admitted` with the next number, or `Delivered` of the plate at DepEnd.
+/// 8. This reading and the last one show a sign: `Admitted` with the next number, or `Delivered` of the plate at DepEnd.
 /// 9. An entry is proposed.
-pub fn ruling_by(
-    book: &Book,
-    machine: Machine,
-    command_failed: bool,
-    was_failed: bool,
-    sign: bool,
-    motion: Option<Motion>,
-    at_axis: Verdict,
-    at_rest: Verdict,
-) -> Ruling
-    ensures { result ≡ ruling_by book.now.entries machine command_failed was_failed sign motion at_axis at_rest }
+pub fn decide(book: &Book, machine: Machine, kept: &Memory, found: &Findings) -> Ruling
+    ensures { result ≡ ruling_by book.now.entries machine kept.now found.now }
 {
     if book.failed(machine) {
-        Ruling::Nothing
-    } else if command_failed {
-        Ruling::Books(Entry::Declared {
-            machine,
-            cause: Cause::CommandFault,
-        })
-    } else if book.asked(machine) {
-        Ruling::Books(Entry::Declared {
-            machine,
-            cause: Cause::OperatorStop,
-        })
-    } else if was_failed {
-        Ruling::Proposes
-    } else {
-        by_axis(book, machine, sign, motion, at_axis, at_rest)
+        return Ruling::Nothing;
     }
+    if kept.command_failed {
+        return declares(machine, Cause::CommandFault);
+    }
+    if book.asked(machine) {
+        return declares(machine, Cause::OperatorStop);
+    }
+    if kept.failed {
+        return Ruling::Proposes;
+    }
+    if let Verdict::Fault(cause) = found.at_axis {
+        return declares(machine, cause);
+    }
+    if let Verdict::Fault(cause) = found.at_rest {
+        return declares(machine, cause);
+    }
+    if let (Some(motion), Verdict::Arrived) = (found.motion, found.at_axis) {
+        return books(ending(book, motion.axis, motion.to));
+    }
+    if kept.sign && found.sign {
+        return signed(book, machine);
+    }
+    Ruling::Proposes
 }
