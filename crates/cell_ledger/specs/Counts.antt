@@ -1,5 +1,5 @@
 -- Sums of totals
-use Rattle.std.specs.Prelude.{◌<◌, ◌+◌, ◌^◌, [], ◌∷◌}
+use Rattle.std.specs.Prelude.{◌<◌, ◌≤◌, ◌+◌, ◌^◌, [], ◌∷◌}
 use Rattle.cell_types.specs.declared.words.Totals.{Totals}
 use Rattle.cell_types.specs.declared.words.Entry.{Entry}
 use Rattle.cell_views.specs.Views.{count_of}
@@ -28,3 +28,11 @@ pub record AreCounts (t : Totals) : Type 0 where
   pub forged : t.forged < 2 ^ 32
   pub quarantined : t.quarantined < 2 ^ 32
   pub delivered : t.delivered < 2 ^ 32
+
+-- no count of a passes that of b
+pub record AreWithin (a b : Totals) : Type 0 where
+  pub entries : a.entries ≤ b.entries
+  pub admitted : a.admitted ≤ b.admitted
+  pub forged : a.forged ≤ b.forged
+  pub quarantined : a.quarantined ≤ b.quarantined
+  pub delivered : a.delivered ≤ b.delivered

@@ -3,6 +3,7 @@
 
 pub mod blanks;
 mod counts;
+mod five;
 pub mod kept;
 pub mod run;
 pub mod shares;
