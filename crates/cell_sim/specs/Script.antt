@@ -1,9 +1,13 @@
 -- The planned faults of a script's text
-use Rattle.std.specs.Prelude.{◌≡◌, ◌+◌, ◌==◌, ◌&&◌, ℕ, Bool, List, [], ◌∷◌, ◌++◌, length, nat_lt, Option, Some, None, Result, Ok, Err, ⊤, if◌then◌else◌}
+use Rattle.std.specs.Prelude.{◌≡◌, ◌==◌, ◌&&◌, ℕ, Bool, List, [], ◌∷◌, Option, Some, None, Result, Ok, Err, ⊤, if◌then◌else◌}
 use Rattle.std.specs.List.{list_any}
+use Rattle.std.specs.Result.{result_map_both}
 use Rattle.cell_rows.specs.Rows.{Row}
+use Rattle.cell_rows.specs.Scripts.{Reading, lines_of}
+use Rattle.cell_rows.specs.declared.script.LineError.{LineError}
+use Rattle.cell_rows.specs.declared.script.LineError.TheVariants as line
 use Rattle.cell_types.specs.Same.{same_axis}
-use Rattle.cell_sim.specs.Faults.{read_fault}
+use Rattle.cell_sim.specs.Faults.{planned_by}
 use Rattle.cell_types.specs.declared.words.Axis.{Axis}
 use Rattle.cell_sim.specs.declared.fault.Fault.{Fault}
 use Rattle.cell_sim.specs.declared.fault.PlannedFault.{PlannedFault}
@@ -23,25 +27,19 @@ abbrev pub unless_planned : List PlannedFault → Option PlannedFault → Option
 unless_planned faults None = None
 unless_planned faults (Some f) = if is_planned f faults then None else Some f
 
--- the fault of a record that comes after these faults: a motion has one at most
-unfoldable pub next_fault : List PlannedFault → Row → Option PlannedFault
-next_fault faults row = unless_planned faults (read_fault row)
+-- the fault of four fields that come after these faults: a motion has one at most
+unfoldable pub next_fault : Reading PlannedFault
+next_fault faults axis motion word argument = unless_planned faults (planned_by axis motion word argument)
 
--- the answer at a record: that it can't be read, or what follows of its fault
-abbrev pub with_fault : ℕ → Option PlannedFault → (PlannedFault → Result (List PlannedFault) FaultError) → Result (List PlannedFault) FaultError
-with_fault place None more = Err (error.Unreadable place)
-with_fault place (Some f) more = more f
+-- the error of a script, by the error of its lines
+abbrev pub fault_error : LineError → FaultError
+fault_error (line.Unreadable place) = error.Unreadable place
+fault_error line.TooManyLines = error.TooManyLines
+fault_error line.OutOfMemory = error.OutOfMemory
 
--- these faults and those of the records after them: at most 1,000 in all, and each record a fault
-unfoldable pub faults_after : List PlannedFault → List Row → Result (List PlannedFault) FaultError
-faults_after faults [] = Ok faults
-faults_after faults (row ∷ rest) =
-    if nat_lt (length faults) 1000 then with_fault (length faults + 1) (next_fault faults row) (λ f. faults_after (faults ++ f ∷ []) rest)
-    else Err error.TooManyLines
-
--- the faults of a text's records, or the first fault in reading them
+-- the faults of a text's records, at most 1,000, or the first fault in reading them
 abbrev pub faults_of : List Row → Result (List PlannedFault) FaultError
-faults_of rows = faults_after [] rows
+faults_of rows = result_map_both (λ faults. faults) fault_error (lines_of next_fault rows)
 
 -- the answer is the one that is due, unless memory was refused
 abbrev pub Gives : {X : Type 0} → Result X FaultError → Result X FaultError → Type 0

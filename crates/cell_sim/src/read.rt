@@ -1,13 +1,11 @@
-//! The fault of a record.
+//! The fault of four fields.
 ghost use Rattle.std.specs.Prelude.{◌≡◌};
-ghost use Rattle.cell_rows.specs.Rows.{current_row};
-ghost use Rattle.cell_sim.specs.Faults.{fault_of, planned_by, plain_fault, read_fault};
+ghost use Rattle.cell_sim.specs.Faults.{fault_of, planned_by, plain_fault};
 
 use crate::fault::{Fault, PlannedFault};
-use cell_rows::{Four, RowReader};
+use cell_rows::Four;
 use cell_types::number::read_number;
 use cell_types::texts::read_axis;
-use std::io::Read;
 
 const MAX_MOTION: u32 = 1_000_000;
 
@@ -49,8 +47,8 @@ fn read_fault(word: &[u8], argument: &[u8]) -> Option<Fault>
     }
 }
 
-// The planned fault of four fields.
-fn read_fields(four: Four<'_>) -> Option<PlannedFault>
+/// The planned fault of four fields.
+pub(crate) fn read_fields(four: Four<'_>) -> Option<PlannedFault>
     ensures { result ≡ planned_by four.entry.first.now four.entry.second.now four.entry.third.now four.entry.fourth.now }
 {
     match (
@@ -64,15 +62,5 @@ fn read_fields(four: Four<'_>) -> Option<PlannedFault>
             fault,
         }),
         _ => None,
-    }
-}
-
-/// The planned fault of the record that was read.
-pub(crate) fn current_fault<R: Read>(rows: &RowReader<R>) -> Option<PlannedFault>
-    ensures { result ≡ read_fault (current_row rows.now) }
-{
-    match rows.four() {
-        Some(four) => read_fields(four),
-        None => None,
     }
 }

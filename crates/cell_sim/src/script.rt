@@ -1,20 +1,16 @@
 //! The script of faults.
 ghost use Rattle.std.specs.Prelude.{◌≡◌};
-ghost use Rattle.cell_rows.specs.Rows.{current_row, rows_of};
+ghost use Rattle.cell_rows.specs.Rows.{rows_of};
 ghost use Rattle.cell_types.specs.Same.{same_axis};
 ghost use Rattle.cell_sim.specs.Meaning.{Means};
-ghost use Rattle.cell_sim.specs.Script.{Gives, fault_in, faults_of, is_planned, next_fault};
+ghost use Rattle.cell_sim.specs.Script.{Gives, fault_in, faults_of, is_planned};
 
 use crate::fault::{Fault, PlannedFault};
-use crate::read::current_fault;
-use cell_rows::RowReader;
+use crate::read::read_fields;
+use cell_rows::{Four, LineError, ScriptLine, read_script};
 use cell_types::Axis;
 use std::alloc::Global;
-use std::io::Read;
 use std::marker::Model;
-
-/// The most records that a script may have.
-const MAX_LINES: u32 = 1000;
 
 /// Why a script of faults can't be read.
 #[derive(Clone, Copy, Debug, PartialEq, Eq)]
@@ -25,6 +21,20 @@ pub enum FaultError {
     TooManyLines,
     /// Memory was refused.
     OutOfMemory,
+}
+
+impl From<LineError> for FaultError {
+    ghost use Rattle.cell_sim.specs.Script.{fault_error};
+
+    ghost from_gives = { λ lines script. script ≡ fault_error lines };
+
+    fn from(error: LineError) -> FaultError {
+        match error {
+            LineError::Unreadable(place) => FaultError::Unreadable(place),
+            LineError::TooManyLines => FaultError::TooManyLines,
+            LineError::OutOfMemory => FaultError::OutOfMemory,
+        }
+    }
 }
 
 /// The planned faults, each of another motion.
@@ -72,21 +82,19 @@ fn fault_in(faults: &[PlannedFault], axis: Axis, motion: u32) -> Option<Fault>
     None
 }
 
-// The fault of the record that was read, after these faults.
-#[tactic(auto, unfolding(crate::specs::Script::next_fault))]
-fn next_fault<R: Read>(faults: &[PlannedFault], rows: &RowReader<R>) -> Option<PlannedFault>
-    ensures { result ≡ next_fault faults.now (current_row rows.now) }
-{
-    match current_fault(rows) {
-        Some(fault) => {
-            let found = fault;
-            if is_planned(faults, fault) {
-                None
-            } else {
-                Some(found)
-            }
+impl ScriptLine for PlannedFault {
+    ghost use Rattle.cell_sim.specs.Script.{next_fault};
+
+    ghost line_of = { next_fault };
+
+    #[tactic(auto, unfolding(crate::specs::Script::next_fault))]
+    fn read_line(before: &[PlannedFault], fields: Four<'_>) -> Option<PlannedFault> {
+        let fault = read_fields(fields)?;
+        if is_planned(before, fault) {
+            None
+        } else {
+            Some(fault)
         }
-        None => None,
     }
 }
 
@@ -100,30 +108,8 @@ impl FaultScript {
         ensures exact { Gives result (faults_of (rows_of text.now)) }
         ensures means { Means (rows_of text.now) result }
     {
-        let mut rows = RowReader::new(alloc, text);
-        let mut faults = Vec::new(alloc);
-        for place in 0..MAX_LINES + 1 {
-            match rows.advance() {
-                Ok(found) => {
-                    if !found {
-                        return Ok(FaultScript { faults });
-                    }
-                }
-                Err(_) => return Err(FaultError::OutOfMemory),
-            }
-            if place == MAX_LINES {
-                return Err(FaultError::TooManyLines);
-            }
-            match next_fault(faults.as_slice(), &rows) {
-                Some(fault) => {
-                    if faults.push(fault).is_err() {
-                        return Err(FaultError::OutOfMemory);
-                    }
-                }
-                None => return Err(FaultError::Unreadable(place + 1)),
-            }
-        }
-        unreachable!()
+        let faults = read_script(alloc, text)?;
+        Ok(FaultScript { faults })
     }
 
     /// The fault that is planned for a motion of an axis, counted from 1; `None` where none is.
