@@ -4,8 +4,10 @@
 mod error;
 mod judge;
 pub mod laws;
+mod watched;
 mod write;
 
 pub use error::AuditError;
 pub use judge::{audit, audit_rows};
-pub use write::{WriteError, write_journal};
+pub use watched::{WatchedWriter, WriteFault};
+pub use write::{WriteError, write_journal, write_journal_watched};
