@@ -6,3 +6,4 @@ pub mod Rooms
 pub mod Faults
 pub mod Declared
 pub mod Schedules
+pub mod Joined

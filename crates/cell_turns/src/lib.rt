@@ -5,6 +5,7 @@
 mod expected;
 mod following;
 pub mod hands;
+pub mod joining;
 pub mod memory;
 #[cfg(test)]
 mod memory_ports;
