@@ -7,3 +7,4 @@ pub mod Rooms
 pub mod Faults
 pub mod Declared
 pub mod Schedules
+pub mod Joined

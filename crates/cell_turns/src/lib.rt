@@ -3,6 +3,7 @@
 #![tactic(auto)]
 
 pub mod hands;
+pub mod joining;
 #[cfg(test)]
 mod memory_ports;
 pub mod plan;
