@@ -1,6 +1,7 @@
 //! Worked examples: one plate carried whole through the cell, and what is answered on the way.
-use crate::entries::{book_all, entry_of};
-use crate::journal_of_one_plate::JOURNAL;
+mod order_of_refusals;
+
+use cell_samples::{ONE_PLATE, begun, book_all, entry_of};
 use cell_types::{Axis, Belt, Entry, Machine, Place, PlateId, Pose, Station, Zone};
 use plate_book::{Book, OpenError, Records, Refusal};
 use std::alloc::Global;
@@ -16,14 +17,11 @@ const ALL_DECLARED: [&str; 6] = [
 ];
 
 // A book with the first entries of the journal, and these besides.
-fn begun(rt: &impl Abort, alloc: Global, count: usize, records: &[&str]) -> Book {
-    let Ok(mut book) = Book::new(alloc, 100, 10) else {
-        panic!(rt; "the limits are in range, and there is memory");
+fn begun_with(rt: &impl Abort, alloc: Global, count: usize, records: &[&str]) -> Book {
+    let Ok(mut book) = begun(alloc, 100, 10, count) else {
+        panic!(rt; "the entries are allowed, and there is memory");
     };
-    for record in JOURNAL.iter().take(count) {
-        book_all(rt, &mut book, &[record]);
-    }
-    book_all(rt, &mut book, records);
+    assert_eq!(rt; book_all(&mut book, records), Ok(()));
     book
 }
 
@@ -35,10 +33,10 @@ fn answer(
     records: &[&str],
     last: &str,
 ) -> Result<(), Refusal> {
-    let mut book = begun(rt, alloc, count, records);
+    let mut book = begun_with(rt, alloc, count, records);
     let before = book.journal().len();
-    let allowed = book.allows(entry_of(rt, last));
-    let applied = book.apply(entry_of(rt, last));
+    let allowed = book.allows(entry_of(last).expect(rt, last));
+    let applied = book.apply(entry_of(last).expect(rt, last));
     assert!(rt; allowed == applied, "{last}");
     let added = book.journal().len() != before;
     assert!(rt; added == applied.is_ok(), "{last}");
@@ -190,19 +188,16 @@ fn limits_are_kept(rt: HostRuntime) {
 
 #[test]
 fn plates_beyond_the_limit_are_refused(rt: HostRuntime) {
-    let Ok(mut book) = Book::new(rt.alloc(), 10, 1) else {
-        panic!(rt; "the limits are in range, and there is memory");
+    let Ok(mut book) = begun(rt.alloc(), 10, 1, 4) else {
+        panic!(rt; "the entries are allowed, and there is memory");
     };
-    for record in JOURNAL.iter().take(4) {
-        book_all(&rt, &mut book, &[record]);
-    }
     for (before, record) in [
         ("stop_asked,table,,", "admitted,2,,"),
         ("stop_asked,robot,,", "admitted,3,,"),
         ("declared,feed,silent,", "admitted,3,,"),
     ] {
-        book_all(&rt, &mut book, &[before]);
-        let given = book.apply(entry_of(&rt, record));
+        assert_eq!(rt; book_all(&mut book, &[before]), Ok(()));
+        let given = book.apply(entry_of(record).expect(&rt, record));
         assert!(rt; given == Err(Refusal::PlateLimit), "after {before}");
     }
 }
@@ -210,7 +205,7 @@ fn plates_beyond_the_limit_are_refused(rt: HostRuntime) {
 // None of these records is booked, since the journal is full.
 fn none_is_booked(rt: &impl Abort, book: &mut Book, records: &[&str]) {
     for record in records {
-        let given = book.apply(entry_of(rt, record));
+        let given = book.apply(entry_of(record).expect(rt, record));
         assert!(rt; given == Err(Refusal::JournalFull), "{record}");
     }
 }
@@ -220,19 +215,19 @@ fn a_full_journal_takes_declarations_alone(rt: HostRuntime) {
     let Ok(mut book) = Book::new(rt.alloc(), 1, 1) else {
         panic!(rt; "the limits are in range, and there is memory");
     };
-    book_all(&rt, &mut book, &["lamp,feed,green,"]);
+    assert_eq!(rt; book_all(&mut book, &["lamp,feed,green,"]), Ok(()));
     for record in [
         "lamp,feed,red,",
         "stop_asked,feed,,",
         "declared,feed,silent,",
     ] {
-        let given = book.allows(entry_of(&rt, record));
+        let given = book.allows(entry_of(record).expect(&rt, record));
         let declared = record == "declared,feed,silent,";
         assert!(rt; given.is_ok() == declared, "{record}");
     }
-    book_all(&rt, &mut book, &ALL_DECLARED);
+    assert_eq!(rt; book_all(&mut book, &ALL_DECLARED), Ok(()));
     assert!(rt; book.journal().len() == 7);
-    none_is_booked(&rt, &mut book, &JOURNAL);
+    none_is_booked(&rt, &mut book, &ONE_PLATE);
     none_is_booked(&rt, &mut book, &ALL_DECLARED);
 }
 
@@ -259,15 +254,15 @@ fn delivery_is_told(rt: &impl Abort, book: &Book, plate: PlateId) {
 #[test]
 fn the_book_tells_its_journal(rt: HostRuntime) {
     let first = PlateId::new(1).expect(&rt, "a plate's number");
-    let loading = begun(&rt, rt.alloc(), 28, &[]);
+    let loading = begun_with(&rt, rt.alloc(), 28, &[]);
     plate_is_told(&rt, &loading, first);
     visit_is_told(&rt, &loading);
-    delivery_is_told(&rt, &begun(&rt, rt.alloc(), 62, &[]), first);
+    delivery_is_told(&rt, &begun_with(&rt, rt.alloc(), 62, &[]), first);
 }
 
 #[test]
 fn a_repaired_press_is_at_home(rt: HostRuntime) {
-    let repaired = begun(
+    let repaired = begun_with(
         &rt,
         rt.alloc(),
         34,
@@ -300,16 +295,16 @@ fn a_refused_growth_leaves_the_book(rt: HostRuntime) {
     else {
         panic!(rt; "the limits are in range, and there is memory");
     };
-    for record in JOURNAL.iter().take(7) {
-        book_all(&rt, &mut book, &[record]);
-    }
-    book_all(
-        &rt,
-        &mut book,
-        &["yielded,feed,z1,", "declared,table,operator_stop,"],
+    assert_eq!(rt; book_all(&mut book, &ONE_PLATE[..7]), Ok(()));
+    assert_eq!(rt;
+        book_all(
+            &mut book,
+            &["yielded,feed,z1,", "declared,table,operator_stop,"]
+        ),
+        Ok(())
     );
     let first = PlateId::new(1).expect(&rt, "a plate's number");
-    let cleared = entry_of(&rt, "quarantined,1,table,");
+    let cleared = entry_of("quarantined,1,table,").expect(&rt, "a record");
     clear(&rt, &mut book, first, cleared);
     assert!(rt; book.journal().len() == 10 && book.place(first) == Place::Quarantine);
     assert!(rt; book.quarantine().get(&first).copied() == Some(Station::Table));
@@ -325,8 +320,8 @@ fn records_tell_a_cleared_plate(rt: HostRuntime) {
         "declared,table,operator_stop,",
         "quarantined,1,table,",
     ];
-    for record in JOURNAL.iter().take(7).chain(cleared.iter()) {
-        let given = records.apply(entry_of(&rt, record));
+    for record in ONE_PLATE.iter().take(7).chain(cleared.iter()) {
+        let given = records.apply(entry_of(record).expect(&rt, record));
         assert!(rt; given == Ok(()), "{record}");
     }
     let first = PlateId::new(1).expect(&rt, "a plate's number");

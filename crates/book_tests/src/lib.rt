@@ -1,5 +1,4 @@
-//! The tests of the plate book and of the crates that it stands on or beside: `cell_types`, `cell_views`,
-//! `cell_journal`, `plate_book` and `cell_diagnosis`. There is nothing here but tests.
+//! The tests of `cell_types`, `cell_views`, `cell_journal`, `cell_diagnosis` and `plate_book`, each in the module of its crate.
 #![tactic(auto)]
 
 #[cfg(test)]
@@ -7,13 +6,7 @@ mod book;
 #[cfg(test)]
 mod diagnosis;
 #[cfg(test)]
-mod entries;
-#[cfg(test)]
-mod journal_of_one_plate;
-#[cfg(test)]
-mod order_of_refusals;
-#[cfg(test)]
-mod stored_journal;
+mod journal;
 #[cfg(test)]
 mod types;
 #[cfg(test)]

@@ -1,7 +1,9 @@
-//! The journal of one plate's way through the cell: it is admitted, forged in the first press and delivered.
+//! Records of entries, and the journal of one plate's way through the cell.
+use cell_types::{Entry, PlateId, read_fields};
+use std::alloc::{AllocError, Global};
 
-/// The records of that journal.
-pub(crate) const JOURNAL: [&str; 62] = [
+/// The records of the journal of one plate: it is admitted, forged in the first press and delivered.
+pub const ONE_PLATE: [&str; 62] = [
     "lamp,feed,green,",
     "admitted,1,,",
     "started,feed_belt,to_end,",
@@ -65,3 +67,29 @@ pub(crate) const JOURNAL: [&str; 62] = [
     "lamp,deposit,green,",
     "delivered,1,,",
 ];
+
+/// The text of the journal of one plate, with its profile.
+pub fn one_plate_text(alloc: Global) -> Result<Vec<u8>, AllocError> {
+    let mut text = Vec::new(alloc);
+    text.extend_from_slice(b"profile,1,,\n")?;
+    for record in ONE_PLATE.iter() {
+        text.extend_from_slice(record.as_bytes())?;
+        text.push(b'\n')?;
+    }
+    Ok(text)
+}
+
+/// The plate of a number from 1 to 100,000.
+pub fn plate(number: u32) -> Result<PlateId, &'static str> {
+    PlateId::new(number).ok_or("no plate has this number")
+}
+
+/// The entry of a record, whose fields are parted by commas and are not quoted. A field that is left out is blank.
+pub fn entry_of(record: &str) -> Option<Entry> {
+    let mut fields = record.split(',');
+    let kind = fields.next().unwrap_or("").as_bytes();
+    let first = fields.next().unwrap_or("").as_bytes();
+    let second = fields.next().unwrap_or("").as_bytes();
+    let third = fields.next().unwrap_or("").as_bytes();
+    read_fields(&[kind, first, second, third])
+}

@@ -1,7 +1,6 @@
 //! The one order of refusals: for each two refusals that an entry can meet together, a case in which the first is
 //! answered while both conditions hold. docs/ORDER.md lists the pairs, in the order of these cases.
-use crate::entries::{book_all, entry_of};
-use crate::journal_of_one_plate::JOURNAL;
+use cell_samples::{begun, book_all, entry_of};
 use plate_book::{Book, Refusal};
 use std::alloc::Global;
 use std::process::Abort;
@@ -285,13 +284,11 @@ fn number(rt: &impl Abort, line: &str, place: usize) -> u32 {
 }
 
 // A book of the limits of a case, with as many of the journal's entries.
-fn begun(rt: &impl Abort, alloc: Global, numbers: &str) -> Book {
-    let Ok(mut book) = Book::new(alloc, number(rt, numbers, 0), number(rt, numbers, 1)) else {
+fn book_of(rt: &impl Abort, alloc: Global, numbers: &str) -> Book {
+    let [limit, plates, count] = [0, 1, 2].map(|place| number(rt, numbers, place));
+    let Ok(book) = begun(alloc, limit, plates, count as usize) else {
         panic!(rt; "{numbers}");
     };
-    for record in JOURNAL.iter().take(number(rt, numbers, 2) as usize) {
-        book_all(rt, &mut book, &[record]);
-    }
     book
 }
 
@@ -299,7 +296,7 @@ fn begun(rt: &impl Abort, alloc: Global, numbers: &str) -> Book {
 fn book_line(rt: &impl Abort, book: &mut Book, line: &str) {
     for record in line.split(' ') {
         if !record.is_empty() {
-            book_all(rt, book, &[record]);
+            assert_eq!(rt; book_all(book, &[record]), Ok(()));
         }
     }
 }
@@ -314,9 +311,10 @@ fn is_wanted(rt: &impl Abort, refusal: Refusal, wanted: &str, case: &str) {
 // Books all but the last record of a case, and compares the answer to it.
 fn answers(rt: &impl Abort, alloc: Global, case: &str) {
     let mut parts = case.split('|');
-    let mut book = begun(rt, alloc, parts.next().unwrap_or(""));
+    let mut book = book_of(rt, alloc, parts.next().unwrap_or(""));
     book_line(rt, &mut book, parts.next().unwrap_or(""));
-    let Err(refusal) = book.apply(entry_of(rt, parts.next().unwrap_or(""))) else {
+    let Err(refusal) = book.apply(entry_of(parts.next().unwrap_or("")).expect(rt, "a record"))
+    else {
         panic!(rt; "{case}");
     };
     is_wanted(rt, refusal, parts.next().unwrap_or(""), case);

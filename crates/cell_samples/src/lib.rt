@@ -1,0 +1,11 @@
+//! Samples for the test crates: the journal of one plate, entries and books by their records, and readers and writers
+//! that fail. No test stands here, and no crate but the test crates uses it.
+#![tactic(auto)]
+
+mod books;
+mod records;
+mod streams;
+
+pub use books::{begun, book_all};
+pub use records::{ONE_PLATE, entry_of, one_plate_text, plate};
+pub use streams::{Bytewise, Full};
