@@ -36,6 +36,7 @@ impl<R: Read> ReadAhead<R> {
     pub(crate) fn new(source: R) -> ReadAhead<R>
         ensures sight { InSight result }
         ensures left { bytes_left R.remaining result ≡ R.remaining source }
+        ensures fresh { result.source.failed ≡ false }
     {
         ReadAhead {
             source: Watched::new(source),

@@ -1,5 +1,5 @@
 //! The records of a reader's text.
-ghost use Rattle.std.specs.Prelude.{◌≡◌, ◌<◌, Some, ◌≢◌, ◌∷◌, [], true, length, IfOk, IfSome, IsErrOf, IsNone, OnOk, option_map};
+ghost use Rattle.std.specs.Prelude.{◌≡◌, ◌<◌, Some, ◌≢◌, ◌∷◌, [], true, false, length, IfOk, IfSome, IsErrOf, IsNone, OnOk, option_map};
 ghost use Rattle.csv.specs.Records.{field_at, fields_of};
 ghost use Rattle.cell_rows.specs.Rows.{IsOpen, TakesRow, current_row, device_failed, failed_in, is_csv, open_in, rows_in, rows_left, rows_of};
 ghost use Rattle.cell_rows.specs.Sights.{bytes_left};
@@ -101,6 +101,8 @@ impl<R: Read> RowReader<R> {
     pub fn new(alloc: Global, source: R) -> RowReader<R>
         ensures open { IsOpen result }
         ensures rows { rows_left R.remaining result ≡ option_map rows_of (R.remaining source) }
+        // No read failed yet.
+        ensures fresh { device_failed result ≡ false }
     {
         RowReader {
             alloc,

@@ -3,5 +3,4 @@ mod faults;
 mod machines;
 mod plates;
 mod ports;
-mod script;
 mod steps;

@@ -3,6 +3,7 @@ mod faults;
 mod hands;
 mod refusals;
 mod runs;
+mod script;
 
 use cell_audit::{audit, write_journal};
 use cell_lines::WriteFault;

@@ -1,4 +1,4 @@
-use crate::{FaultError, FaultScript};
+use cell_sim::{FaultError, FaultScript};
 use std::alloc::Global;
 use std::test::Fail;
 
