@@ -25,7 +25,7 @@ use Rattle.cell_turns.specs.Turns.{IsDecided, mind_after}
 use Rattle.cell_workers.specs.Evidence.{Backed, Backs}
 use Rattle.cell_workers.specs.Evidence.Backs.{begun, idled, based}
 use Rattle.cell_workers.specs.Traces.{Traces, Calm, Saw}
-use Rattle.cell_workers.specs.Working.{Served, Serves, Shown, Told, SentAll, Evidence}
+use Rattle.cell_workers.specs.Working.{Served, Serves, Shown, Answered, SentAll, Evidence}
 use Rattle.cell_turns.proofs.Logs.{sends_start}
 use Rattle.cell_workers.proofs.Traces.{traces_after, traces_first}
 use Rattle.cell_workers.proofs.Endings.{has_endings}
@@ -123,17 +123,17 @@ shown_turn m p r e es es' h h' w w' before now after k is t s = record {
     backs (Some x) b = based r x s.backs b
 
 -- the worker ends at this reading
-pub told_quiet : (m : Machine) (p : Plan) (r : Option Reading) (es es' : List Entry) (w : Watch) (before now after : Log) (k : ℕ)
-    → after.answers ≡ now.answers ++ r ∷ [] → es' ≡ es → Shown m p before now es w k → Told p before after es' (k + 1)
-told_quiet m p r es es' w before now after k is same s = record {
+pub answered_quiet : (m : Machine) (p : Plan) (r : Option Reading) (es es' : List Entry) (w : Watch) (before now after : Log) (k : ℕ)
+    → after.answers ≡ now.answers ++ r ∷ [] → es' ≡ es → Shown m p before now es w k → Answered p before after es' (k + 1)
+answered_quiet m p r es es' w before now after k is same s = record {
   got = s.got ++ r ∷ [];
   are = is ∙ ap (λ l. l ++ r ∷ []) s.are ∙ append_assoc before.answers s.got (r ∷ []);
   backs = subst (Backs p (s.got ++ r ∷ [])) (sym same) (idled r s.backs);
   many = length-append s.got (r ∷ []) ∙ ap (λ j. j + 1) s.many;
 }
 
-pub told_shown : (m : Machine) (p : Plan) (before now : Log) (es : List Entry) (w : Watch) (k : ℕ) → Shown m p before now es w k → Told p before now es k
-told_shown m p before now es w k s = record { got = s.got; are = s.are; backs = s.backs; many = s.many }
+pub answered_shown : (m : Machine) (p : Plan) (before now : Log) (es : List Entry) (w : Watch) (k : ℕ) → Shown m p before now es w k → Answered p before now es k
+answered_shown m p before now es w k s = record { got = s.got; are = s.are; backs = s.backs; many = s.many }
 
 -- a command was sent, which reads nothing
 pub shown_sent : (m : Machine) (p : Plan) (before now after : Log) (es : List Entry) (w w' : Watch) (k : ℕ) → after.answers ≡ now.answers → ((got : List (Option Reading)) → Saw m p got w → Saw m p got w') → Shown m p before now es w k → Shown m p before after es w' k
@@ -184,11 +184,11 @@ backs_short begun = omega arith
 backs_short (idled {rs} {es} r b) = let q = backs_short b in omega (arith, length-append rs (r ∷ []), q)
 backs_short (based {rs} {es} r e b w) = let q = backs_short b in omega (arith, length-append rs (r ∷ []), length-append es (e ∷ []), q)
 
-pub evidence : (p : Plan) (before now after : Log) (es : List Entry) (k : ℕ) → after.answers ≡ now.answers → Told p before now es k → Evidence p before after es
+pub evidence : (p : Plan) (before now after : Log) (es : List Entry) (k : ℕ) → after.answers ≡ now.answers → Answered p before now es k → Evidence p before after es
 evidence p before now after es k is t = record { got = t.got; are = is ∙ t.are; backs = t.backs; short = backs_short t.backs }
 
-pub turns_told : (p : Plan) (before now after : Log) (es : List Entry) (k : ℕ) → after.answers ≡ now.answers → Told p before now es k → length after.answers ≡ length before.answers + k
-turns_told p before now after es k is t = ap length (is ∙ t.are) ∙ length-append before.answers t.got ∙ ap (λ n. length before.answers + n) t.many
+pub turns_answered : (p : Plan) (before now after : Log) (es : List Entry) (k : ℕ) → after.answers ≡ now.answers → Answered p before now es k → length after.answers ≡ length before.answers + k
+turns_answered p before now after es k is t = ap length (is ∙ t.are) ∙ length-append before.answers t.got ∙ ap (λ n. length before.answers + n) t.many
 
 pub lost_more : (before now after : Log) (es : List Entry) (failed : Bool) (c : Command) (ok : Bool) → failed ≡ true → after ≡ after_command now c ok → Sends before false now es failed → before.failures < after.failures
 lost_more before now after es false c ok f is s = cc

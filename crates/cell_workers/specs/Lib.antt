@@ -1,4 +1,5 @@
 pub mod Ends
+pub mod Idling
 pub mod Evidence
 pub mod Traces
 pub mod Standing

@@ -17,14 +17,15 @@ pub record FailedHands (before now : ActLog) (es : List Entry) : Type 0 where
   pub acts : now.acts ≡ before.acts ++ hands es
   pub failures : now.failures ≡ before.failures + 1
 
--- these and one act more, whose booking was refused
+-- these and one act more, and none failed
 pub record WastedHand (before now : ActLog) (es : List Entry) : Type 0 where
   pub act : Act
   pub acts : now.acts ≡ (before.acts ++ hands es) ++ act ∷ []
   pub failures : now.failures ≡ before.failures
 
--- at the end of his worker the acts of its list were done. It ended as PortLost only where his port failed, and then that was
--- its one failure, or where one act more was done whose booking was refused; where he was told, exactly these were done.
+-- at the end of his worker the acts of its list were done: exactly these, and then it didn't end as PortLost; or these and then
+-- one failed, and it ended as PortLost; or these and one act more, and then he wasn't told to end. What became of the booking
+-- of that act isn't said.
 abbrev pub HandsEnded : ActLog → ActLog → List Entry → Ended → Type 0
 HandsEnded before now es ended =
     (DidHands before now es × (ended ≢ PortLost)) ⊎ (FailedHands before now es × (ended ≡ PortLost)) ⊎ (WastedHand before now es × (ended ≢ Told))

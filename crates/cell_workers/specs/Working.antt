@@ -15,6 +15,10 @@ use Rattle.cell_turns.specs.declared.watch.Watch.{Watch}
 use Rattle.cell_turns.specs.Logs.{Log}
 use Rattle.cell_turns.specs.Sent.{is_command_fault, fails_before, sent_for, command_faults, one_where}
 use Rattle.cell_turns.specs.Minds.{has_failed_command}
+use Rattle.cell_turns.specs.Turns.{IsExcused}
+use Rattle.cell_turns.specs.declared.turns.TurnError.TheVariants.{Refused}
+use Rattle.plate_book.specs.declared.limits.Limits.{Limits}
+use Rattle.plate_book.specs.declared.refusal.Refusal.{Refusal}
 use Rattle.cell_workers.specs.declared.ends.End.{End}
 use Rattle.cell_workers.specs.Evidence.{Backed, Backs}
 use Rattle.cell_workers.specs.Traces.{Saw}
@@ -30,6 +34,10 @@ pub record Served (m : Machine) (p : Plan) (r : Option Reading) (e : Option Entr
   pub saw : (got : List (Option Reading)) → Saw m p got w → Saw m p (got ++ r ∷ []) w'
   pub backed : (got : List (Option Reading)) → Saw m p got w → IfSome e (Backed p (got ++ r ∷ []))
 
+-- the journal takes no further entry, or no further plate has a number, and what the machine would do at this reading wants it
+abbrev pub IsFullFor : Limits → List Entry → Machine → Plan → Option Reading → Watch → Type 0
+IsFullFor l J m p r w = (why : Refusal) × IsExcused l J m p r w (Refused why)
+
 -- the entries are the actor's, and the shares grew from `start` by what they count
 pub record Serves (a : Actor) (start : Held) (es : List Entry) (now : Held) : Type 0 where
   pub actor : All (λ e. actor_of e ≡ a) es
@@ -44,7 +52,7 @@ pub record Shown (m : Machine) (p : Plan) (before now : Log) (es : List Entry) (
   pub many : length got ≡ k
 
 -- the same, whatever the watch saw
-pub record Told (p : Plan) (before now : Log) (es : List Entry) (k : ℕ) : Type 0 where
+pub record Answered (p : Plan) (before now : Log) (es : List Entry) (k : ℕ) : Type 0 where
   pub got : List (Option Reading)
   pub are : now.answers ≡ before.answers ++ got
   pub backs : Backs p got es

@@ -1,14 +1,17 @@
 //! What the workers of a run share under one lock.
-ghost use Rattle.std.specs.Prelude.{◌≡◌, ◌≢◌, ◌<◌, ◌++◌, ◌∷◌, [], List, true, false, None, Some, Option, IfOk, IfErr, IfSome, OnOk, OnErr, option_to_list};
+ghost use Rattle.std.specs.Prelude.{◌≡◌, ◌≢◌, ◌<◌, ◌⊎◌, ◌↔◌, ◌&&◌, ◌++◌, ◌∷◌, [], List, true, false, None, Some, Option, IsSome, IfOk, IfErr, IfSome, OnOk, OnErr, option_to_list, is_none, slice_set, vec_capacity, vec_len};
 ghost use Rattle.cell_types.specs.Entries.{actor_of};
 ghost use Rattle.cell_types.specs.declared.words.Actor.TheVariants as actors;
+ghost use Rattle.cell_types.specs.Same.{machine_number};
 ghost use Rattle.cell_views.specs.Views.{count_of};
 ghost use Rattle.plate_book.specs.Telling.{first_of};
 ghost use Rattle.cell_ledger.specs.Counts.{plus, count_one};
 ghost use Rattle.cell_ledger.specs.Held.{held};
-ghost use Rattle.cell_turns.specs.Minds.{machine_of_watch};
+ghost use Rattle.cell_turns.specs.Minds.{Mind, FitsMind, machine_of_watch};
+ghost use Rattle.cell_workers.specs.Ends.{is_idle};
+ghost use Rattle.cell_workers.specs.Idling.{are_all_idle, idle_after, EndsWhere, end_by};
 ghost use Rattle.cell_workers.specs.Standing.{all_called_for};
-ghost use Rattle.cell_workers.specs.Working.{Served, Stands};
+ghost use Rattle.cell_workers.specs.Working.{Served, Stands, IsFullFor};
 
 use crate::ends::{End, end_at_rest, is_idle};
 use cell_diagnosis::Reading;
@@ -65,6 +68,13 @@ pub struct Worker<R: Run> {
     pub watch: Watch,
 }
 
+/// Whether all are marked as idle.
+fn all_idle(idle: &[bool; 7]) -> bool
+    ensures { result ≡ are_all_idle idle.now }
+{
+    idle.iter().all(|idle| *idle)
+}
+
 /// Notes whether a machine whose turn booked nothing is idle, and the end where all are. It answers whether it is.
 fn note_rest<R: Run>(
     machine: Machine,
@@ -73,10 +83,14 @@ fn note_rest<R: Run>(
     plan: &Plan,
     idle: &mut [bool; 7],
     end: &mut Option<End>,
-) -> bool {
+) -> bool
+    ensures rests { (s : Mind) → FitsMind watch.now s → result ≡ is_idle kept.now.entries machine plan.now s }
+    ensures idle { idle.new ≡ slice_set idle.old (machine_number machine) result }
+    ensures end { EndsWhere (are_all_idle idle.new) plan.now.plates kept.now.entries end.old end.new }
+{
     let rests = is_idle(machine, kept.book(), watch, plan);
     idle[machine as usize] = rests;
-    if rests && idle.iter().all(|idle| *idle) {
+    if all_idle(idle) {
         *end = Some(end_at_rest(kept.book(), plan));
     }
     rests
@@ -84,7 +98,10 @@ fn note_rest<R: Run>(
 
 /// What a turn's error ends.
 fn ends_by(error: TurnError) -> (End, Ended)
-    ensures { (result.1 ≢ Ended.PortLost) × (result.1 ≢ Ended.Turns) }
+    ensures end { (before : Option End) → Some result.0 ≡ end_by result.1 before }
+    ensures own { (result.1 ≡ Ended.Memory) ⊎ (result.1 ≡ Ended.Full) }
+    ensures full { result.1 ≡ Ended.Full → ((why : Refusal) × (error ≡ TurnError.Refused why)) }
+    ensures memory { result.1 ≡ Ended.Memory → (error ≡ TurnError.OutOfMemory) ⊎ (error ≡ TurnError.Refused Refusal.OutOfMemory) }
 {
     match error {
         TurnError::OutOfMemory | TurnError::Refused(Refusal::OutOfMemory) => {
@@ -108,9 +125,17 @@ impl<R: Run> Hall<R> {
         ensures served { IfOk result (λ r. Served machine plan.now reading r.0 worker.old.entries.items worker.new.entries.items worker.old.shares worker.new.shares worker.old.watch worker.new.watch) }
         ensures kept { IfOk result (λ r. self.new.kept ≡ record { limits = self.old.kept.limits; entries = self.old.kept.entries ++ option_to_list r.0 }) }
         ensures machine { machine_of_watch worker.new.watch ≡ machine }
+        ensures rests { IfOk result (λ r. (s : Mind) → FitsMind worker.new.watch s → r.1 ≡ (is_none r.0 && is_idle self.new.kept.entries machine plan.now s)) }
+        ensures idle { IfOk result (λ r. self.new.idle ≡ idle_after machine r.0 r.1 self.old.idle self.old.lost) }
+        ensures end { IfOk result (λ r. EndsWhere (is_none r.0 && are_all_idle self.new.idle) plan.now.plates self.new.kept.entries self.old.end self.new.end) }
         ensures ended { (result ≢ Err Ended.PortLost) × (result ≢ Err Ended.Turns) }
+        ensures told { (result ≡ Err Ended.Told) ↔ IsSome self.old.end }
+        ensures full { result ≡ Err Ended.Full → IsFullFor self.old.kept.limits self.old.kept.entries machine plan.now reading worker.old.watch }
+        ensures memory { result ≡ Err Ended.Memory → vec_capacity worker.old.entries ≡ vec_len worker.old.entries }
+        ensures sets { IfErr result (λ ended. self.new.end ≡ end_by ended self.old.end) }
         ensures stands { Stands self.old.end self.new.end }
         ensures lost { self.new.lost ≡ self.old.lost }
+        ensures marks { OnErr result (self.new.idle ≡ self.old.idle) }
         ensures unchanged { OnErr result ((worker.new.entries.items ≡ worker.old.entries.items) × (worker.new.shares ≡ worker.old.shares) × (worker.new.watch ≡ worker.old.watch) × (self.new.kept ≡ self.old.kept)) }
     {
         if self.end.is_some() {
@@ -169,6 +194,7 @@ impl<R: Run> Hall<R> {
 
     /// Sets an end, unless one is set. It answers whether it did.
     pub fn finish(&mut self, end: End) -> bool
+        ensures answer { result ≡ is_none self.old.end }
         ensures kept { self.new.kept ≡ self.old.kept }
         ensures idle { (self.new.idle ≡ self.old.idle) × (self.new.lost ≡ self.old.lost) }
         ensures stands { Stands self.old.end self.new.end }
@@ -184,12 +210,15 @@ impl<R: Run> Hall<R> {
     /// Marks a worker as idle. Where all are, the run ends. It answers whether that set the end.
     pub fn rest(&mut self, place: usize, plan: &Plan) -> bool
         requires { place < 7 }
+        ensures idle { self.new.idle ≡ slice_set self.old.idle place true }
+        ensures answer { result ≡ (is_none self.old.end && are_all_idle self.new.idle) }
+        ensures end { EndsWhere result plan.now.plates self.old.kept.entries self.old.end self.new.end }
         ensures kept { self.new.kept ≡ self.old.kept }
         ensures stands { Stands self.old.end self.new.end }
         ensures lost { self.new.lost ≡ self.old.lost }
     {
         self.idle[place] = true;
-        if !self.idle.iter().all(|idle| *idle) {
+        if !all_idle(&self.idle) {
             return false;
         }
         let end = end_at_rest(self.kept.book(), plan);
@@ -199,6 +228,10 @@ impl<R: Run> Hall<R> {
     /// Marks a worker whose port failed. It counts as idle from then on. It answers whether that set the end.
     pub fn lose(&mut self, place: usize, plan: &Plan) -> bool
         requires { place < 7 }
+        ensures lost { self.new.lost ≡ slice_set self.old.lost place true }
+        ensures idle { self.new.idle ≡ slice_set self.old.idle place true }
+        ensures answer { result ≡ (is_none self.old.end && are_all_idle self.new.idle) }
+        ensures end { EndsWhere result plan.now.plates self.old.kept.entries self.old.end self.new.end }
         ensures kept { self.new.kept ≡ self.old.kept }
         ensures stands { Stands self.old.end self.new.end }
     {

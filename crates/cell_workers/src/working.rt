@@ -10,7 +10,7 @@ ghost use Rattle.cell_turns.specs.Logs.{Log};
 ghost use Rattle.cell_turns.specs.Sent.{Sends};
 ghost use Rattle.cell_turns.specs.Minds.{machine_of_watch, has_failed_command};
 ghost use Rattle.cell_workers.specs.Traces.{Saw};
-ghost use Rattle.cell_workers.specs.Working.{Served, Serves, Shown, Told, SentAll, Evidence};
+ghost use Rattle.cell_workers.specs.Working.{Served, Serves, Shown, Answered, SentAll, Evidence};
 
 use crate::ends::End;
 use crate::hall::{Ended, Hall, Room, Worker};
@@ -130,7 +130,7 @@ fn step<P: Port, R: Run, W: Wait>(
     ensures machine { machine_of_watch worker.new.watch ≡ machine }
     ensures serves { (start : Held) → Serves (actors.Machine machine) start worker.old.entries.items worker.old.shares → Serves (actors.Machine machine) start worker.new.entries.items worker.new.shares }
     ensures sends { P.tells port.new ≡ true → (before : Log) → Sends before false (P.log port.old) worker.old.entries.items (has_failed_command worker.old.watch) → Sends before false (P.log port.new) worker.new.entries.items (has_failed_command worker.new.watch) }
-    ensures told { P.tells port.new ≡ true → (before : Log) (k : ℕ) → Shown machine plan.now before (P.log port.old) worker.old.entries.items worker.old.watch k → Told plan.now before (P.log port.new) worker.new.entries.items (k + 1) }
+    ensures answered { P.tells port.new ≡ true → (before : Log) (k : ℕ) → Shown machine plan.now before (P.log port.old) worker.old.entries.items worker.old.watch k → Answered plan.now before (P.log port.new) worker.new.entries.items (k + 1) }
     ensures shown { IfNone result (P.tells port.new ≡ true → (before : Log) (k : ℕ) → Shown machine plan.now before (P.log port.old) worker.old.entries.items worker.old.watch k → Shown machine plan.now before (P.log port.new) worker.new.entries.items worker.new.watch (k + 1)) }
     ensures lost { result ≡ Some Ended.PortLost → has_failed_command worker.new.watch ≡ true }
     ensures turns { result ≢ Some Ended.Turns }
@@ -160,7 +160,7 @@ fn serve_all<P: Port, R: Run, W: Wait>(
     ensures still { P.tells port.new ≡ true → P.tells port.old ≡ true }
     ensures serves { (start : Held) → Serves (actors.Machine machine) start worker.old.entries.items worker.old.shares → Serves (actors.Machine machine) start worker.new.entries.items worker.new.shares }
     ensures sends { P.tells port.new ≡ true → (before : Log) → Sends before false (P.log port.old) worker.old.entries.items (has_failed_command worker.old.watch) → Sends before false (P.log port.new) worker.new.entries.items (has_failed_command worker.new.watch) }
-    ensures told { P.tells port.new ≡ true → (before : Log) → Shown machine plan.now before (P.log port.old) worker.old.entries.items worker.old.watch 0 → ((k : ℕ) × Told plan.now before (P.log port.new) worker.new.entries.items k × (result ≡ Ended.Turns → k ≡ plan.now.turns)) }
+    ensures answered { P.tells port.new ≡ true → (before : Log) → Shown machine plan.now before (P.log port.old) worker.old.entries.items worker.old.watch 0 → ((k : ℕ) × Answered plan.now before (P.log port.new) worker.new.entries.items k × (result ≡ Ended.Turns → k ≡ plan.now.turns)) }
     ensures lost { result ≡ Ended.PortLost → has_failed_command worker.new.watch ≡ true }
 {
     for turn in 0..plan.turns {

@@ -1,7 +1,7 @@
 use Rattle.std.proofs.Common.{◌+◌, length, ap, ◌∙◌}
 use Rattle.cell_types.specs.declared.words.Actor.TheVariants as actor
 use Rattle.cell_turns.specs.Logs.{Log}
-use Rattle.cell_workers.proofs.Workers.{serves_start, sends_begun, shown_start, sent_all, evidence, turns_told, lost_more}
+use Rattle.cell_workers.proofs.Workers.{serves_start, sends_begun, shown_start, sent_all, evidence, turns_answered, lost_more}
 use Rattle.cell_workers.proofs.working.run_worker.Goals as goal
 
 pub returns-clause-actor : goal.returns-clause-actor
@@ -20,16 +20,16 @@ pub returns-clause-evidence : goal.returns-clause-evidence
 returns-clause-evidence g c = λ tells.
     let t = c.command.ensures.still tells in
     let log = g.P.Port.log c.args.port.now in
-    let told = c.serve_all-ended.ensures.told t log (shown_start c.args.machine c.args.plan.now log _ _ c.first_worker-worker.ensures.entries c.first_worker-worker.ensures.saw) in
-    evidence c.args.plan.now log (g.P.Port.log c.serve_all-ended.new.port) (g.P.Port.log c.command.new.self) _ told.0 (ap (λ (l : Log). l.answers) (c.command.ensures.told tells)) told.1
+    let answered = c.serve_all-ended.ensures.answered t log (shown_start c.args.machine c.args.plan.now log _ _ c.first_worker-worker.ensures.entries c.first_worker-worker.ensures.saw) in
+    evidence c.args.plan.now log (g.P.Port.log c.serve_all-ended.new.port) (g.P.Port.log c.command.new.self) _ answered.0 (ap (λ (l : Log). l.answers) (c.command.ensures.told tells)) answered.1
 
 pub returns-clause-turns : goal.returns-clause-turns
 returns-clause-turns g c = λ ended tells.
     let t = c.command.ensures.still tells in
     let log = g.P.Port.log c.args.port.now in
-    let told = c.serve_all-ended.ensures.told t log (shown_start c.args.machine c.args.plan.now log _ _ c.first_worker-worker.ensures.entries c.first_worker-worker.ensures.saw) in
-    turns_told c.args.plan.now log (g.P.Port.log c.serve_all-ended.new.port) (g.P.Port.log c.command.new.self) _ told.0 (ap (λ (l : Log). l.answers) (c.command.ensures.told tells)) told.1
-    ∙ ap (λ n. length log.answers + n) (told.2 ended)
+    let answered = c.serve_all-ended.ensures.answered t log (shown_start c.args.machine c.args.plan.now log _ _ c.first_worker-worker.ensures.entries c.first_worker-worker.ensures.saw) in
+    turns_answered c.args.plan.now log (g.P.Port.log c.serve_all-ended.new.port) (g.P.Port.log c.command.new.self) _ answered.0 (ap (λ (l : Log). l.answers) (c.command.ensures.told tells)) answered.1
+    ∙ ap (λ n. length log.answers + n) (answered.2 ended)
 
 pub returns-clause-lost : goal.returns-clause-lost
 returns-clause-lost g c = λ ended tells.
