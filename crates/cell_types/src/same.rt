@@ -5,7 +5,7 @@ ghost use Rattle.cell_types.specs.declared.words.Entry.TheVariants.{Lamp, Admitt
 use crate::{Arm, Axis, Belt, Cause, Colour, Entry, Machine, PlateId, Pose, Station, Zone};
 
 /// Whether two machines are the same.
-pub fn is_machine(some: Machine, other: Machine) -> bool
+fn is_machine(some: Machine, other: Machine) -> bool
     ensures yes { result ≡ true → some ≡ other }
     ensures no { some ≡ other → result ≡ true }
 {
@@ -13,7 +13,7 @@ pub fn is_machine(some: Machine, other: Machine) -> bool
 }
 
 /// Whether two stations are the same.
-pub fn is_station(some: Station, other: Station) -> bool
+fn is_station(some: Station, other: Station) -> bool
     ensures yes { result ≡ true → some ≡ other }
     ensures no { some ≡ other → result ≡ true }
 {
@@ -21,7 +21,7 @@ pub fn is_station(some: Station, other: Station) -> bool
 }
 
 /// Whether two axes are the same.
-pub fn is_axis(some: Axis, other: Axis) -> bool
+fn is_axis(some: Axis, other: Axis) -> bool
     ensures yes { result ≡ true → some ≡ other }
     ensures no { some ≡ other → result ≡ true }
 {
@@ -29,7 +29,7 @@ pub fn is_axis(some: Axis, other: Axis) -> bool
 }
 
 /// Whether two poses are the same.
-pub fn is_pose(some: Pose, other: Pose) -> bool
+fn is_pose(some: Pose, other: Pose) -> bool
     ensures yes { result ≡ true → some ≡ other }
     ensures no { some ≡ other → result ≡ true }
 {
@@ -37,7 +37,7 @@ pub fn is_pose(some: Pose, other: Pose) -> bool
 }
 
 /// Whether two zones are the same.
-pub fn is_zone(some: Zone, other: Zone) -> bool
+fn is_zone(some: Zone, other: Zone) -> bool
     ensures yes { result ≡ true → some ≡ other }
     ensures no { some ≡ other → result ≡ true }
 {
@@ -45,7 +45,7 @@ pub fn is_zone(some: Zone, other: Zone) -> bool
 }
 
 /// Whether two belts are the same.
-pub fn is_belt(some: Belt, other: Belt) -> bool
+fn is_belt(some: Belt, other: Belt) -> bool
     ensures yes { result ≡ true → some ≡ other }
     ensures no { some ≡ other → result ≡ true }
 {
@@ -53,7 +53,7 @@ pub fn is_belt(some: Belt, other: Belt) -> bool
 }
 
 /// Whether two colours are the same.
-pub fn is_colour(some: Colour, other: Colour) -> bool
+fn is_colour(some: Colour, other: Colour) -> bool
     ensures yes { result ≡ true → some ≡ other }
     ensures no { some ≡ other → result ≡ true }
 {
@@ -61,7 +61,7 @@ pub fn is_colour(some: Colour, other: Colour) -> bool
 }
 
 /// Whether two arms are the same.
-pub fn is_arm(some: Arm, other: Arm) -> bool
+fn is_arm(some: Arm, other: Arm) -> bool
     ensures yes { result ≡ true → some ≡ other }
     ensures no { some ≡ other → result ≡ true }
 {
@@ -69,7 +69,7 @@ pub fn is_arm(some: Arm, other: Arm) -> bool
 }
 
 /// Whether two causes are the same.
-pub fn is_cause(some: Cause, other: Cause) -> bool
+fn is_cause(some: Cause, other: Cause) -> bool
     ensures yes { result ≡ true → some ≡ other }
     ensures no { some ≡ other → result ≡ true }
 {
@@ -77,7 +77,7 @@ pub fn is_cause(some: Cause, other: Cause) -> bool
 }
 
 /// Whether two plates have the same number.
-pub fn is_plate(some: PlateId, other: PlateId) -> bool
+fn is_plate(some: PlateId, other: PlateId) -> bool
     ensures yes { result ≡ true → some ≡ other }
     ensures no { some ≡ other → result ≡ true }
 {
