@@ -1,6 +1,8 @@
-//! The lines of the command `audit`, the line of a number that a run's lines share, and the error of a writer that failed.
+//! The lines of the command `audit`, the line of a number that a run's lines share, and the exit statuses.
 #![tactic(auto)]
 
 mod lines;
+pub mod status;
 
-pub use lines::{WriteFault, audit_lines, write_number};
+pub use cell_audit::{WatchedWriter, WriteFault};
+pub use lines::{audit_lines, audit_lines_watched, write_number};

@@ -1,68 +1,138 @@
 //! What is printed for an audit.
-ghost use Rattle.std.specs.Prelude.{IfOk, OnOk};
+ghost use Rattle.std.specs.Prelude.{◌≡◌, IfErr, IfOk, IsErr, OnOk, true};
 ghost use Rattle.std.specs.Io.KnownBytes.{Appends};
-ghost use Rattle.cell_lines.specs.Lines.{TellsAudit, WritesAnswer, number_line, refusal_line, totals_lines};
+ghost use Rattle.cell_audit.specs.Watched.{IsSameWriter, WritesPart, bytes_held, has_refused};
+ghost use Rattle.cell_lines.specs.Lines.{TellsAudit, TellsPart, WritesAnswer, lines_of, number_line, refusal_line, totals_lines};
 
-use cell_audit::{AuditError, audit};
+use crate::status;
+use cell_audit::{AuditError, WatchedWriter, WriteFault, audit};
 use cell_types::Totals;
+use itoa::Buffer;
 use plate_book::Refusal;
 use std::alloc::Global;
-use std::io;
 use std::io::{Read, Write};
 
-/// The writer failed.
-#[derive(Clone, Copy, Debug, PartialEq, Eq)]
-pub struct WriteFault;
-
-/// Writes a word, a blank, a number and a line feed. The error is the writer's; a part of the line may have been written.
-pub fn write_number<W: Write>(writer: &mut W, word: &str, number: u32) -> io::Result<()>
-    ensures { OnOk result (Appends (W.contents writer.old) (W.contents writer.new) (number_line word.now number)) }
+/// Writes a word, a blank, a number and a line feed.
+pub fn write_number<W: Write>(
+    writer: &mut WatchedWriter<'_, W>,
+    word: &str,
+    number: u32,
+) -> Result<(), WriteFault>
+    ensures writer { IsSameWriter writer.old writer.new }
+    ensures whole { OnOk result (Appends (bytes_held W.contents writer.old) (bytes_held W.contents writer.new) (number_line word.now number)) }
+    ensures part { IsErr result → WritesPart (bytes_held W.contents writer.old) (bytes_held W.contents writer.new) (number_line word.now number) }
+    ensures fault { IsErr result → has_refused writer.new ≡ true }
 {
-    writeln!(writer, "{word} {number}")
+    let mut digits = Buffer::new();
+    writer.write_pieces(&[
+        word.as_bytes(),
+        b" ",
+        digits.format(number).as_bytes(),
+        b"\n",
+    ])
 }
 
 // Writes the five lines of a legal journal.
-fn write_totals<W: Write>(writer: &mut W, totals: Totals) -> io::Result<()>
-    ensures { OnOk result (Appends (W.contents writer.old) (W.contents writer.new) (totals_lines totals)) }
+fn write_totals<W: Write>(
+    writer: &mut WatchedWriter<'_, W>,
+    totals: Totals,
+) -> Result<(), WriteFault>
+    ensures writer { IsSameWriter writer.old writer.new }
+    ensures whole { OnOk result (Appends (bytes_held W.contents writer.old) (bytes_held W.contents writer.new) (totals_lines totals)) }
+    ensures part { IsErr result → WritesPart (bytes_held W.contents writer.old) (bytes_held W.contents writer.new) (totals_lines totals) }
+    ensures fault { IsErr result → has_refused writer.new ≡ true }
 {
-    write_number(writer, "legal", totals.entries)?;
-    write_number(writer, "admitted", totals.admitted)?;
-    write_number(writer, "forged", totals.forged)?;
-    write_number(writer, "quarantined", totals.quarantined)?;
-    write_number(writer, "delivered", totals.delivered)
+    let mut entries = Buffer::new();
+    let mut admitted = Buffer::new();
+    let mut forged = Buffer::new();
+    let mut quarantined = Buffer::new();
+    let mut delivered = Buffer::new();
+    writer.write_pieces(&[
+        b"legal ",
+        entries.format(totals.entries).as_bytes(),
+        b"\nadmitted ",
+        admitted.format(totals.admitted).as_bytes(),
+        b"\nforged ",
+        forged.format(totals.forged).as_bytes(),
+        b"\nquarantined ",
+        quarantined.format(totals.quarantined).as_bytes(),
+        b"\ndelivered ",
+        delivered.format(totals.delivered).as_bytes(),
+        b"\n",
+    ])
 }
 
 // Writes the line of a refused entry.
-fn write_refusal<W: Write>(writer: &mut W, place: u32, why: Refusal) -> io::Result<()>
-    ensures { OnOk result (Appends (W.contents writer.old) (W.contents writer.new) (refusal_line place why)) }
+fn write_refusal<W: Write>(
+    writer: &mut WatchedWriter<'_, W>,
+    place: u32,
+    why: Refusal,
+) -> Result<(), WriteFault>
+    ensures writer { IsSameWriter writer.old writer.new }
+    ensures whole { OnOk result (Appends (bytes_held W.contents writer.old) (bytes_held W.contents writer.new) (refusal_line place why)) }
+    ensures part { IsErr result → WritesPart (bytes_held W.contents writer.old) (bytes_held W.contents writer.new) (refusal_line place why) }
+    ensures fault { IsErr result → has_refused writer.new ≡ true }
 {
-    let name = why.name();
+    let mut digits = Buffer::new();
+    let place = digits.format(place).as_bytes();
+    let name = why.name().as_bytes();
     match why.word() {
-        Some(word) => writeln!(writer, "refused {place} {name} {word}"),
-        None => writeln!(writer, "refused {place} {name}"),
+        Some(word) => writer.write_pieces(&[
+            b"refused ",
+            place,
+            b" ",
+            name,
+            b" ",
+            word.as_bytes(),
+            b"\n",
+        ]),
+        None => writer.write_pieces(&[b"refused ", place, b" ", name, b"\n"]),
     }
 }
 
 // Writes the lines of an answer, and gives its status.
-fn write_answer<W: Write>(writer: &mut W, answer: Result<Totals, AuditError>) -> io::Result<u8>
-    ensures { IfOk result (WritesAnswer (W.contents writer.old) (W.contents writer.new) answer) }
+fn write_answer<W: Write>(
+    writer: &mut WatchedWriter<'_, W>,
+    answer: Result<Totals, AuditError>,
+) -> Result<u8, WriteFault>
+    ensures writer { IsSameWriter writer.old writer.new }
+    ensures whole { IfOk result (WritesAnswer (bytes_held W.contents writer.old) (bytes_held W.contents writer.new) answer) }
+    ensures part { IsErr result → WritesPart (bytes_held W.contents writer.old) (bytes_held W.contents writer.new) (lines_of answer) }
+    ensures fault { IsErr result → has_refused writer.new ≡ true }
 {
     match answer {
         Ok(totals) => {
             write_totals(writer, totals)?;
-            Ok(0)
+            Ok(status::SUCCESS)
         }
         Err(AuditError::Unreadable(place)) => {
             write_number(writer, "unreadable", place)?;
-            Ok(1)
+            Ok(status::REFUSED)
         }
         Err(AuditError::Refused(place, why)) => {
             write_refusal(writer, place, why)?;
-            Ok(1)
+            Ok(status::REFUSED)
         }
-        Err(AuditError::ReadFault) => Ok(3),
-        Err(AuditError::OutOfMemory) => Ok(4),
+        Err(AuditError::ReadFault) => Ok(status::DEVICE_FAULT),
+        Err(AuditError::OutOfMemory) => Ok(status::OUT_OF_MEMORY),
     }
+}
+
+/// Audits a journal's text, as `audit_lines` does, and writes what is found to a writer that notes whether a write of it
+/// was refused.
+pub fn audit_lines_watched<R: Read + Drop, W: Write>(
+    alloc: Global,
+    reader: R,
+    writer: &mut WatchedWriter<'_, W>,
+) -> Result<u8, WriteFault>
+    ensures writer { IsSameWriter writer.old writer.new }
+    ensures whole { IfOk result (TellsAudit (R.remaining reader) (bytes_held W.contents writer.old) (bytes_held W.contents writer.new)) }
+    ensures part { IsErr result → TellsPart (R.remaining reader) (bytes_held W.contents writer.old) (bytes_held W.contents writer.new) }
+    // It answers that the writer failed only where a write was refused.
+    ensures fault { IsErr result → has_refused writer.new ≡ true }
+{
+    let answer = audit(alloc, reader);
+    write_answer(writer, answer)
 }
 
 /// Audits the journal's text that the reader gives, writes what is found, and gives the exit status.
@@ -77,11 +147,10 @@ pub fn audit_lines<R: Read + Drop, W: Write>(
     writer: &mut W,
 ) -> Result<u8, WriteFault>
     // The lines and the status are those of an answer of the audit.
-    ensures { IfOk result (TellsAudit (R.remaining reader) (W.contents writer.old) (W.contents writer.new)) }
+    ensures whole { IfOk result (TellsAudit (R.remaining reader) (W.contents writer.old) (W.contents writer.new)) }
+    // Where the writer failed, a first part of such lines was written.
+    ensures part { IsErr result → TellsPart (R.remaining reader) (W.contents writer.old) (W.contents writer.new) }
 {
-    let answer = audit(alloc, reader);
-    match write_answer(writer, answer) {
-        Ok(status) => Ok(status),
-        Err(_) => Err(WriteFault),
-    }
+    let mut writer = WatchedWriter::new(writer);
+    audit_lines_watched(alloc, reader, &mut writer)
 }

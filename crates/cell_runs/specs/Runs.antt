@@ -14,6 +14,7 @@ use Rattle.cell_workers.specs.declared.ends.End.TheVariants as end
 use Rattle.cell_workers.specs.declared.running.RunError.{RunError}
 use Rattle.cell_workers.specs.declared.running.RunError.TheVariants as run
 use Rattle.cell_audit.specs.Text.{text_of}
+use Rattle.cell_audit.specs.Watched.{WritesPart}
 use Rattle.cell_lines.specs.Lines.{number_line}
 use Rattle.cell_runs.specs.Inputs.{AreInputs, WritesError, input_line, input_status}
 use Rattle.cell_runs.specs.declared.inputs.Inputs.{Inputs}
@@ -48,14 +49,24 @@ shown true e t J = text_of J
 abbrev pub Prints : Bool → End → Totals → List Entry → Option (List ℕ) → Option (List ℕ) → ℕ → Type 0
 Prints journal e t J old new status = Appends old new (shown journal e t J) × (status ≡ status_of e)
 
+-- a first part of it was printed, and not all, since memory was refused on the way, and the status says so
+abbrev pub StopsPrinting : Bool → End → Totals → List Entry → Option (List ℕ) → Option (List ℕ) → ℕ → Type 0
+StopsPrinting journal e t J old new status = WritesPart old new (shown journal e t J) × (status ≡ 4)
+
+abbrev pub PrintsOrStops : Bool → End → Totals → List Entry → Option (List ℕ) → Option (List ℕ) → ℕ → Type 0
+PrintsOrStops journal e t J old new status = Prints journal e t J old new status ⊎ StopsPrinting journal e t J old new status
+
 abbrev pub limits_of : Plan → Limits
 limits_of plan = record { entries = plan.journal_limit; plates = plan.plates }
 
--- a run on one thread has a journal that is legal within its limits, is done where it finished, and is printed with its end;
--- or memory was refused
+-- a run on one thread has a journal that is legal within its limits, and is done where it finished
+abbrev pub IsRoundsRun : Limits → End → List Entry → Type 0
+IsRoundsRun limits e J = (legal limits J ≡ true) × (e ≡ end.Finished → IsDone limits.plates J)
+
+-- a run on one thread is printed; or memory was refused before it, and nothing was written
 abbrev pub WritesRounds : Bool → Limits → Option (List ℕ) → Option (List ℕ) → ℕ → Type 0
 WritesRounds journal limits old new status =
-    ((e : End) × (J : List Entry) × (legal limits J ≡ true) × (e ≡ end.Finished → IsDone limits.plates J) × Prints journal e (count_of J) J old new status) ⊎ (status ≡ 4)
+    ((e : End) × (J : List Entry) × IsRoundsRun limits e J × PrintsOrStops journal e (count_of J) J old new status) ⊎ WritesError old new [] 4 status
 
 -- what is printed where there is no report
 abbrev pub WritesRunError : Option (List ℕ) → Option (List ℕ) → RunError → ℕ → Type 0
@@ -63,11 +74,11 @@ WritesRunError old new run.OutOfMemory status = WritesError old new [] 4 status
 WritesRunError old new run.ThreadRefused status = WritesError old new [] 4 status
 WritesRunError old new run.JournalDisagrees status = WritesError old new (codes "journal disagrees\n") 1 status
 
--- a run on threads has a report, which is printed with the run's end, or why there is none is told; or memory was refused
+-- a run on threads has a report, which is printed with the run's end, or why there is none is told
 abbrev pub WritesReport : Bool → Limits → Option (List ℕ) → Option (List ℕ) → ℕ → Type 0
 WritesReport journal limits old new status =
-    ((e : End) × (J : List Entry) × (t : Totals) × (ws : List (List Entry × Totals)) × IsReport limits J t ws × Prints journal e t J old new status)
-    ⊎ (((why : RunError) × WritesRunError old new why status) ⊎ (status ≡ 4))
+    ((e : End) × (J : List Entry) × (t : Totals) × (ws : List (List Entry × Totals)) × IsReport limits J t ws × PrintsOrStops journal e t J old new status)
+    ⊎ ((why : RunError) × WritesRunError old new why status)
 
 abbrev pub WritesRun : Bool → Bool → Limits → Option (List ℕ) → Option (List ℕ) → ℕ → Type 0
 WritesRun false journal limits old new status = WritesRounds journal limits old new status

@@ -1,20 +1,21 @@
 //! What is printed of a run.
-ghost use Rattle.std.specs.Prelude.{◌≡◌, ◌⊎◌, map, IfOk, OnOk};
+ghost use Rattle.std.specs.Prelude.{◌≡◌, map, IfOk, IsErr, OnOk, true};
 ghost use Rattle.std.specs.Io.KnownBytes.{Appends};
+ghost use Rattle.cell_audit.specs.Watched.{IsSameWriter, WritesPart, bytes_held, has_refused};
 ghost use Rattle.plate_book.specs.declared.limits.Limits.{Limits};
 ghost use Rattle.cell_workers.specs.Ends.{IsDone};
 ghost use Rattle.cell_workers.specs.Report.{IsReport};
 ghost use Rattle.cell_workers.specs.declared.ends.End.TheVariants as end;
-ghost use Rattle.cell_runs.specs.Runs.{Prints, WritesReport, WritesRounds, WritesRunError, run_lines, status_of, word_of};
+ghost use Rattle.cell_runs.specs.Runs.{PrintsOrStops, WritesReport, WritesRounds, WritesRunError, run_lines, shown, status_of, word_of};
 
 use crate::rounds::Outcome;
-use cell_audit::{WriteError, write_journal};
+use cell_audit::{WatchedWriter, WriteError, WriteFault, write_journal_watched};
 use cell_journal::Journal;
-use cell_lines::{WriteFault, write_number};
+use cell_lines::status;
 use cell_types::Totals;
 use cell_workers::{End, Report, RunError};
+use itoa::Buffer;
 use std::alloc::Global;
-use std::io;
 use std::io::Write;
 
 // The word of an end.
@@ -35,46 +36,65 @@ fn status_of(end: End) -> u8
     ensures { result ≡ status_of end }
 {
     match end {
-        End::Finished => 0,
-        End::Memory => 4,
-        End::Stalled | End::TurnLimit | End::Full => 1,
+        End::Finished => status::SUCCESS,
+        End::Memory => status::OUT_OF_MEMORY,
+        End::Stalled | End::TurnLimit | End::Full => status::REFUSED,
     }
 }
 
 // Writes the five lines of a run that counted these totals.
-fn write_counts<W: Write>(writer: &mut W, end: End, totals: Totals) -> io::Result<()>
-    ensures { OnOk result (Appends (W.contents writer.old) (W.contents writer.new) (run_lines end totals)) }
+fn write_counts<W: Write>(
+    writer: &mut WatchedWriter<'_, W>,
+    end: End,
+    totals: Totals,
+) -> Result<(), WriteFault>
+    ensures writer { IsSameWriter writer.old writer.new }
+    ensures whole { OnOk result (Appends (bytes_held W.contents writer.old) (bytes_held W.contents writer.new) (run_lines end totals)) }
+    ensures part { IsErr result → WritesPart (bytes_held W.contents writer.old) (bytes_held W.contents writer.new) (run_lines end totals) }
+    ensures fault { IsErr result → has_refused writer.new ≡ true }
 {
-    let word = word_of(end);
-    writeln!(writer, "{word}")?;
-    write_number(writer, "admitted", totals.admitted)?;
-    write_number(writer, "forged", totals.forged)?;
-    write_number(writer, "quarantined", totals.quarantined)?;
-    write_number(writer, "delivered", totals.delivered)
+    let mut admitted = Buffer::new();
+    let mut forged = Buffer::new();
+    let mut quarantined = Buffer::new();
+    let mut delivered = Buffer::new();
+    writer.write_pieces(&[
+        word_of(end).as_bytes(),
+        b"\nadmitted ",
+        admitted.format(totals.admitted).as_bytes(),
+        b"\nforged ",
+        forged.format(totals.forged).as_bytes(),
+        b"\nquarantined ",
+        quarantined.format(totals.quarantined).as_bytes(),
+        b"\ndelivered ",
+        delivered.format(totals.delivered).as_bytes(),
+        b"\n",
+    ])
 }
 
-// Writes how a run ended and what it counted, or with `alone` its journal's text alone, and gives the exit status.
+// Writes how a run ended and what it counted, or with `alone` its journal's text alone, and gives the exit status. Where
+// memory is refused on the way, a first part of the journal's text was written.
 fn write_run<W: Write>(
     alloc: Global,
     end: End,
     totals: Totals,
     journal: &Journal,
     alone: bool,
-    writer: &mut W,
+    writer: &mut WatchedWriter<'_, W>,
 ) -> Result<u8, WriteFault>
-    ensures { IfOk result (λ status. Prints alone end totals journal.now.entries (W.contents writer.old) (W.contents writer.new) status ⊎ (status ≡ 4)) }
+    ensures writer { IsSameWriter writer.old writer.new }
+    ensures whole { IfOk result (PrintsOrStops alone end totals journal.now.entries (bytes_held W.contents writer.old) (bytes_held W.contents writer.new)) }
+    ensures part { IsErr result → WritesPart (bytes_held W.contents writer.old) (bytes_held W.contents writer.new) (shown alone end totals journal.now.entries) }
+    ensures fault { IsErr result → has_refused writer.new ≡ true }
 {
     if alone {
-        return match write_journal(alloc, journal, writer) {
+        return match write_journal_watched(alloc, journal, writer) {
             Ok(()) => Ok(status_of(end)),
             Err(WriteError::WriteFault) => Err(WriteFault),
-            Err(WriteError::OutOfMemory) => Ok(4),
+            Err(WriteError::OutOfMemory) => Ok(status::OUT_OF_MEMORY),
         };
     }
-    match write_counts(writer, end, totals) {
-        Ok(()) => Ok(status_of(end)),
-        Err(_) => Err(WriteFault),
-    }
+    write_counts(writer, end, totals)?;
+    Ok(status_of(end))
 }
 
 /// Writes what is left of a run on one thread, and gives the exit status.
@@ -82,10 +102,12 @@ pub fn write_outcome<W: Write>(
     alloc: Global,
     outcome: &Outcome,
     journal: bool,
-    writer: &mut W,
+    writer: &mut WatchedWriter<'_, W>,
 ) -> Result<u8, WriteFault>
     requires { outcome.now.end ≡ end.Finished → IsDone outcome.now.book.limits.plates outcome.now.book.entries }
-    ensures { IfOk result (WritesRounds journal outcome.now.book.limits (W.contents writer.old) (W.contents writer.new)) }
+    ensures writer { IsSameWriter writer.old writer.new }
+    ensures whole { IfOk result (WritesRounds journal outcome.now.book.limits (bytes_held W.contents writer.old) (bytes_held W.contents writer.new)) }
+    ensures fault { IsErr result → has_refused writer.new ≡ true }
 {
     outcome.book.is_lawful();
     write_run(
@@ -103,9 +125,11 @@ pub fn write_report<W: Write>(
     alloc: Global,
     report: &Report,
     journal: bool,
-    writer: &mut W,
+    writer: &mut WatchedWriter<'_, W>,
 ) -> Result<u8, WriteFault>
-    ensures { IfOk result (λ status. (limits : Limits) → IsReport limits report.now.journal.entries report.now.totals (map (λ w. (w.0.items, w.1)) report.now.workers) → WritesReport journal limits (W.contents writer.old) (W.contents writer.new) status) }
+    ensures writer { IsSameWriter writer.old writer.new }
+    ensures whole { IfOk result (λ status. (limits : Limits) → IsReport limits report.now.journal.entries report.now.totals (map (λ w. (w.0.items, w.1)) report.now.workers) → WritesReport journal limits (bytes_held W.contents writer.old) (bytes_held W.contents writer.new) status) }
+    ensures fault { IsErr result → has_refused writer.new ≡ true }
 {
     write_run(
         alloc,
@@ -119,14 +143,19 @@ pub fn write_report<W: Write>(
 
 /// Writes why there is no report of a run on threads, and gives the exit status: 4 and nothing, where memory or a thread was
 /// refused.
-pub fn write_run_error<W: Write>(writer: &mut W, error: RunError) -> Result<u8, WriteFault>
-    ensures { IfOk result (WritesRunError (W.contents writer.old) (W.contents writer.new) error) }
+pub fn write_run_error<W: Write>(
+    writer: &mut WatchedWriter<'_, W>,
+    error: RunError,
+) -> Result<u8, WriteFault>
+    ensures writer { IsSameWriter writer.old writer.new }
+    ensures whole { IfOk result (WritesRunError (bytes_held W.contents writer.old) (bytes_held W.contents writer.new) error) }
+    ensures fault { IsErr result → has_refused writer.new ≡ true }
 {
     match error {
-        RunError::OutOfMemory | RunError::ThreadRefused => Ok(4),
-        RunError::JournalDisagrees => match writeln!(writer, "journal disagrees") {
-            Ok(()) => Ok(1),
-            Err(_) => Err(WriteFault),
-        },
+        RunError::OutOfMemory | RunError::ThreadRefused => Ok(status::OUT_OF_MEMORY),
+        RunError::JournalDisagrees => {
+            writer.write_bytes(b"journal disagrees\n")?;
+            Ok(status::REFUSED)
+        }
     }
 }

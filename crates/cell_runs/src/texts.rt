@@ -1,12 +1,14 @@
 //! A run by its texts.
-ghost use Rattle.std.specs.Prelude.{IfOk};
+ghost use Rattle.std.specs.Prelude.{◌≡◌, IfOk, IsErr, true};
+ghost use Rattle.cell_audit.specs.Watched.{IsSameWriter, bytes_held, has_refused};
 ghost use Rattle.cell_runs.specs.Runs.{TellsRun, WritesReport, WritesRounds, limits_of};
 
 use crate::inputs::{Inputs, read_inputs};
 use crate::refused::refuse_input;
 use crate::report::{write_outcome, write_report, write_run_error};
 use crate::simulation::{ports_of, simulate};
-use cell_lines::WriteFault;
+use cell_audit::{WatchedWriter, WriteFault};
+use cell_lines::status;
 use cell_sim::{SimOperator, World};
 use cell_workers::run_cell;
 use std::alloc::AllocError;
@@ -19,9 +21,11 @@ fn write_rounds<R: AllocGlobal + Wait, W: Write>(
     rt: &R,
     inputs: Inputs,
     journal: bool,
-    writer: &mut W,
+    writer: &mut WatchedWriter<'_, W>,
 ) -> Result<u8, WriteFault>
-    ensures { IfOk result (WritesRounds journal (limits_of inputs.plan) (W.contents writer.old) (W.contents writer.new)) }
+    ensures writer { IsSameWriter writer.old writer.new }
+    ensures whole { IfOk result (WritesRounds journal (limits_of inputs.plan) (bytes_held W.contents writer.old) (bytes_held W.contents writer.new)) }
+    ensures fault { IsErr result → has_refused writer.new ≡ true }
 {
     let Inputs {
         plan,
@@ -32,7 +36,7 @@ fn write_rounds<R: AllocGlobal + Wait, W: Write>(
     let mut hands = SimOperator::new(rt, &world);
     match simulate(rt, &plan, &faults, script, &world, &mut hands) {
         Ok(outcome) => write_outcome(rt.alloc(), &outcome, journal, writer),
-        Err(AllocError) => Ok(4),
+        Err(AllocError) => Ok(status::OUT_OF_MEMORY),
     }
 }
 
@@ -41,9 +45,11 @@ fn write_threads<R: AllocGlobal + Threads + Wait + Sync, W: Write>(
     rt: &R,
     inputs: Inputs,
     journal: bool,
-    writer: &mut W,
+    writer: &mut WatchedWriter<'_, W>,
 ) -> Result<u8, WriteFault>
-    ensures { IfOk result (WritesReport journal (limits_of inputs.plan) (W.contents writer.old) (W.contents writer.new)) }
+    ensures writer { IsSameWriter writer.old writer.new }
+    ensures whole { IfOk result (WritesReport journal (limits_of inputs.plan) (bytes_held W.contents writer.old) (bytes_held W.contents writer.new)) }
+    ensures fault { IsErr result → has_refused writer.new ≡ true }
 {
     let Inputs {
         plan,
@@ -60,6 +66,34 @@ fn write_threads<R: AllocGlobal + Threads + Wait + Sync, W: Write>(
     }
 }
 
+/// Runs the simulated cell by its texts, as `run_texts` does, and writes what comes of it to a writer that notes whether a
+/// write of it was refused.
+pub fn run_texts_watched<R: AllocGlobal + Threads + Wait + Sync, W: Write>(
+    rt: &R,
+    settings: &[u8],
+    faults: &[u8],
+    operator: &[u8],
+    threads: bool,
+    journal: bool,
+    writer: &mut WatchedWriter<'_, W>,
+) -> Result<u8, WriteFault>
+    ensures writer { IsSameWriter writer.old writer.new }
+    ensures whole { IfOk result (TellsRun settings.now faults.now operator.now threads journal (bytes_held W.contents writer.old) (bytes_held W.contents writer.new)) }
+    // It answers that the writer failed only where a write was refused.
+    ensures fault { IsErr result → has_refused writer.new ≡ true }
+{
+    match read_inputs(rt.alloc(), settings, faults, operator) {
+        Ok(inputs) => {
+            if threads {
+                write_threads(rt, inputs, journal, writer)
+            } else {
+                write_rounds(rt, inputs, journal, writer)
+            }
+        }
+        Err(error) => refuse_input(writer, error),
+    }
+}
+
 /// Reads the texts of a run, the settings, the script of faults and the operator's script, runs the simulated cell, writes
 /// what comes of it, and gives the exit status. With `threads` each machine's worker and the operator's run on threads of
 /// their own; else all take turns in rounds on this one.
@@ -69,7 +103,8 @@ fn write_threads<R: AllocGlobal + Threads + Wait + Sync, W: Write>(
 /// `finished` (status 0), `stalled`, `turn limit`, `full` (1) or `memory` (4) and then the lines `admitted`, `forged`,
 /// `quarantined` and `delivered`, each with its number; with `journal` its journal's text alone. On threads the line
 /// `journal disagrees` (1) is told alone where an actor's entries in the journal aren't its worker's. Where memory is
-/// refused before the run, or a thread, nothing is written, status 4. `WriteFault` comes only where the writer failed.
+/// refused before the run, or a thread, nothing is written, status 4; where it is refused while the journal's text is
+/// written, a first part of that text was, status 4. `WriteFault` comes only where the writer failed.
 ///
 /// On threads no clause says that a run which is told as `finished` is.
 pub fn run_texts<R: AllocGlobal + Threads + Wait + Sync, W: Write>(
@@ -84,14 +119,14 @@ pub fn run_texts<R: AllocGlobal + Threads + Wait + Sync, W: Write>(
     // What is written is of the first text that is refused, or of a run within the settings' limits.
     ensures { IfOk result (TellsRun settings.now faults.now operator.now threads journal (W.contents writer.old) (W.contents writer.new)) }
 {
-    match read_inputs(rt.alloc(), settings, faults, operator) {
-        Ok(inputs) => {
-            if threads {
-                write_threads(rt, inputs, journal, writer)
-            } else {
-                write_rounds(rt, inputs, journal, writer)
-            }
-        }
-        Err(error) => refuse_input(writer, error),
-    }
+    let mut writer = WatchedWriter::new(writer);
+    run_texts_watched(
+        rt,
+        settings,
+        faults,
+        operator,
+        threads,
+        journal,
+        &mut writer,
+    )
 }

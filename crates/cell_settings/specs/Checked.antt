@@ -1,6 +1,7 @@
 -- What the program prints for settings, and the status with which it ends
 use Rattle.std.specs.Prelude.{◌≡◌, ℕ, List, [], ◌∷◌, ◌++◌, Option, Result, Ok, Err, codes}
 use Rattle.std.specs.Io.KnownBytes.{Appends}
+use Rattle.cell_audit.specs.Watched.{WritesPart}
 use Rattle.cell_settings.specs.Settings.{AnswersText, Numbers}
 use Rattle.cell_settings.specs.declared.error.SettingsError.{SettingsError}
 use Rattle.cell_settings.specs.declared.error.SettingsError.TheVariants as error
@@ -44,3 +45,7 @@ WritesLine old new answer status = Appends old new (line_of answer) × (status �
 -- what was written is the line of an answer to the text, and the status is that answer's
 abbrev pub TellsCheck : List ℕ → Option (List ℕ) → Option (List ℕ) → ℕ → Type 0
 TellsCheck text old new status = (answer : Result Numbers SettingsError) × AnswersText text answer × WritesLine old new answer status
+
+-- a first part of the line of an answer to the text was written, and not all of it
+abbrev pub TellsPart : List ℕ → Option (List ℕ) → Option (List ℕ) → Type 0
+TellsPart text old new = (answer : Result Numbers SettingsError) × AnswersText text answer × WritesPart old new (line_of answer)

@@ -1,46 +1,87 @@
 //! What is printed for settings.
-ghost use Rattle.std.specs.Prelude.{IfOk, OnOk};
+ghost use Rattle.std.specs.Prelude.{◌≡◌, IfOk, IsErr, OnOk, true};
 ghost use Rattle.std.specs.Io.KnownBytes.{Appends};
+ghost use Rattle.cell_audit.specs.Watched.{IsSameWriter, WritesPart, bytes_held, has_refused};
 ghost use Rattle.cell_settings.specs.Settings.{numbers_of};
-ghost use Rattle.cell_settings.specs.Checked.{TellsCheck, line_of, WritesLine};
+ghost use Rattle.cell_settings.specs.Checked.{TellsCheck, TellsPart, WritesLine, line_of, path_line};
 
 use crate::error::SettingsError;
+use crate::key_path::KeyPath;
 use crate::read::read_settings;
-use cell_lines::WriteFault;
+use cell_audit::{WatchedWriter, WriteFault};
+use cell_lines::status;
 use cell_turns::Plan;
 use std::alloc::Global;
-use std::io;
 use std::io::Write;
 
+// Writes the line of an error that names a path.
+fn write_path<W: Write>(
+    writer: &mut WatchedWriter<'_, W>,
+    name: &str,
+    path: &KeyPath,
+) -> Result<(), WriteFault>
+    ensures writer { IsSameWriter writer.old writer.new }
+    ensures whole { OnOk result (Appends (bytes_held W.contents writer.old) (bytes_held W.contents writer.new) (path_line name.now path.now)) }
+    ensures part { IsErr result → WritesPart (bytes_held W.contents writer.old) (bytes_held W.contents writer.new) (path_line name.now path.now) }
+    ensures fault { IsErr result → has_refused writer.new ≡ true }
+{
+    writer.write_pieces(&[name.as_bytes(), path.as_str().as_bytes(), b"\n"])
+}
+
 // Writes the line of an answer.
-fn write_line<W: Write>(writer: &mut W, answer: &Result<Plan, SettingsError>) -> io::Result<()>
-    ensures { OnOk result (Appends (W.contents writer.old) (W.contents writer.new) (line_of answer.now)) }
+fn write_line<W: Write>(
+    writer: &mut WatchedWriter<'_, W>,
+    answer: &Result<Plan, SettingsError>,
+) -> Result<(), WriteFault>
+    ensures writer { IsSameWriter writer.old writer.new }
+    ensures whole { OnOk result (Appends (bytes_held W.contents writer.old) (bytes_held W.contents writer.new) (line_of answer.now)) }
+    ensures part { IsErr result → WritesPart (bytes_held W.contents writer.old) (bytes_held W.contents writer.new) (line_of answer.now) }
+    ensures fault { IsErr result → has_refused writer.new ≡ true }
 {
     match answer {
-        Ok(_) => writeln!(writer, "settings ok"),
-        Err(SettingsError::NotToml) => writeln!(writer, "settings NotToml"),
-        Err(SettingsError::UnknownKey(path)) => writeln!(writer, "settings UnknownKey {path}"),
-        Err(SettingsError::Missing(path)) => writeln!(writer, "settings Missing {path}"),
-        Err(SettingsError::NotNumber(path)) => writeln!(writer, "settings NotNumber {path}"),
-        Err(SettingsError::OutOfRange(path)) => writeln!(writer, "settings OutOfRange {path}"),
+        Ok(_) => writer.write_bytes(b"settings ok\n"),
+        Err(SettingsError::NotToml) => writer.write_bytes(b"settings NotToml\n"),
+        Err(SettingsError::UnknownKey(path)) => write_path(writer, "settings UnknownKey ", path),
+        Err(SettingsError::Missing(path)) => write_path(writer, "settings Missing ", path),
+        Err(SettingsError::NotNumber(path)) => write_path(writer, "settings NotNumber ", path),
+        Err(SettingsError::OutOfRange(path)) => write_path(writer, "settings OutOfRange ", path),
         Err(SettingsError::OutOfMemory) => Ok(()),
     }
 }
 
 /// Writes the line of an answer to settings, and gives its status: 0, or 1 where they are refused. Where memory was refused
-/// (status 4) nothing is written. The error is the writer's; a part of the line may have been written.
+/// (status 4) nothing is written.
 pub fn write_checked<W: Write>(
-    writer: &mut W,
+    writer: &mut WatchedWriter<'_, W>,
     answer: &Result<Plan, SettingsError>,
-) -> io::Result<u8>
-    ensures { IfOk result (WritesLine (W.contents writer.old) (W.contents writer.new) answer.now) }
+) -> Result<u8, WriteFault>
+    ensures writer { IsSameWriter writer.old writer.new }
+    ensures whole { IfOk result (WritesLine (bytes_held W.contents writer.old) (bytes_held W.contents writer.new) answer.now) }
+    ensures part { IsErr result → WritesPart (bytes_held W.contents writer.old) (bytes_held W.contents writer.new) (line_of answer.now) }
+    ensures fault { IsErr result → has_refused writer.new ≡ true }
 {
     write_line(writer, answer)?;
     match answer {
-        Ok(_) => Ok(0),
-        Err(SettingsError::OutOfMemory) => Ok(4),
-        Err(_) => Ok(1),
+        Ok(_) => Ok(status::SUCCESS),
+        Err(SettingsError::OutOfMemory) => Ok(status::OUT_OF_MEMORY),
+        Err(_) => Ok(status::REFUSED),
     }
+}
+
+/// Reads settings, as `check_lines` does, and writes what is found to a writer that notes whether a write of it was refused.
+pub fn check_lines_watched<W: Write>(
+    alloc: Global,
+    text: &[u8],
+    writer: &mut WatchedWriter<'_, W>,
+) -> Result<u8, WriteFault>
+    ensures writer { IsSameWriter writer.old writer.new }
+    ensures whole { IfOk result (TellsCheck text.now (bytes_held W.contents writer.old) (bytes_held W.contents writer.new)) }
+    ensures part { IsErr result → TellsPart text.now (bytes_held W.contents writer.old) (bytes_held W.contents writer.new) }
+    // It answers that the writer failed only where a write was refused.
+    ensures fault { IsErr result → has_refused writer.new ≡ true }
+{
+    let answer = read_settings(alloc, text);
+    write_checked(writer, &answer)
 }
 
 /// Reads settings, writes what is found, and gives the exit status.
@@ -50,11 +91,10 @@ pub fn write_checked<W: Write>(
 /// the writer failed.
 pub fn check_lines<W: Write>(alloc: Global, text: &[u8], writer: &mut W) -> Result<u8, WriteFault>
     // The line and the status are those of the settings' answer.
-    ensures { IfOk result (TellsCheck text.now (W.contents writer.old) (W.contents writer.new)) }
+    ensures whole { IfOk result (TellsCheck text.now (W.contents writer.old) (W.contents writer.new)) }
+    // Where the writer failed, a first part of such a line was written.
+    ensures part { IsErr result → TellsPart text.now (W.contents writer.old) (W.contents writer.new) }
 {
-    let answer = read_settings(alloc, text);
-    match write_checked(writer, &answer) {
-        Ok(status) => Ok(status),
-        Err(_) => Err(WriteFault),
-    }
+    let mut writer = WatchedWriter::new(writer);
+    check_lines_watched(alloc, text, &mut writer)
 }

@@ -8,7 +8,7 @@ mod keys;
 mod numbers;
 mod read;
 
-pub use check::{check_lines, write_checked};
+pub use check::{check_lines, check_lines_watched, write_checked};
 pub use error::SettingsError;
 pub use key_path::KeyPath;
 pub use read::read_settings;

@@ -4,7 +4,7 @@
 mod command;
 mod order;
 
-use cell_lines::{WriteFault, audit_lines};
+use cell_lines::{WriteFault, audit_lines, status};
 use cell_runs::run_texts;
 use cell_settings::check_lines;
 use clap::Error;
@@ -21,29 +21,23 @@ use std::{env, fs, io};
 #[cfg(test)]
 mod tests;
 
-const WRONG_ARGUMENTS: u8 = 2;
-
-const READ_FAULT: u8 = 3;
-
-const OUT_OF_MEMORY: u8 = 4;
-
 // The status of an error of the system.
 fn status_of(error: &io::Error) -> u8 {
     match error.kind() {
-        io::ErrorKind::OutOfMemory => OUT_OF_MEMORY,
-        _ => READ_FAULT,
+        io::ErrorKind::OutOfMemory => status::OUT_OF_MEMORY,
+        _ => status::DEVICE_FAULT,
     }
 }
 
 // Prints clap's words, or the help that was asked for, and gives the status.
 fn refuse<R: Print + Eprint>(rt: &R, error: &Error) -> u8 {
     if error.kind() == ErrorKind::OutOfMemory {
-        return OUT_OF_MEMORY;
+        return status::OUT_OF_MEMORY;
     }
     match error.print(rt) {
-        Ok(()) if error.use_stderr() => WRONG_ARGUMENTS,
-        Ok(()) => 0,
-        Err(_) => READ_FAULT,
+        Ok(()) if error.use_stderr() => status::WRONG_ARGUMENTS,
+        Ok(()) => status::SUCCESS,
+        Err(_) => status::DEVICE_FAULT,
     }
 }
 
@@ -56,7 +50,7 @@ fn audit_input<R: AllocGlobal + Input + Print>(rt: &R) -> io::Result<u8> {
             output.flush()?;
             Ok(status)
         }
-        Err(WriteFault) => Ok(READ_FAULT),
+        Err(WriteFault) => Ok(status::DEVICE_FAULT),
     }
 }
 
@@ -70,7 +64,7 @@ fn check_file<R: AllocGlobal + Files + Print>(rt: &R, path: &str) -> io::Result<
             output.flush()?;
             Ok(status)
         }
-        Err(WriteFault) => Ok(READ_FAULT),
+        Err(WriteFault) => Ok(status::DEVICE_FAULT),
     }
 }
 
@@ -99,7 +93,7 @@ fn run_files<R: AllocGlobal + Files + Print + Threads + Wait + Sync>(
             output.flush()?;
             Ok(status)
         }
-        Err(WriteFault) => Ok(READ_FAULT),
+        Err(WriteFault) => Ok(status::DEVICE_FAULT),
     }
 }
 
@@ -112,7 +106,7 @@ fn run<R: AllocGlobal + Env + Files + Input + Print + Eprint + Threads + Wait + 
         Ok(arguments) => arguments,
         Err(e) if e.kind() == io::ErrorKind::InvalidData => {
             eprintln!(rt; "error: an argument isn't UTF-8")?;
-            return Ok(WRONG_ARGUMENTS);
+            return Ok(status::WRONG_ARGUMENTS);
         }
         Err(e) => return Err(e),
     };
@@ -136,8 +130,8 @@ fn main(rt: HostRuntime) -> ExitCode {
         Err(error) => status_of(&error),
     };
     let message = match status {
-        READ_FAULT => "read fault",
-        OUT_OF_MEMORY => "out of memory",
+        status::DEVICE_FAULT => "read fault",
+        status::OUT_OF_MEMORY => "out of memory",
         _ => return ExitCode::from(status),
     };
     // Where standard error fails too, the status alone tells.
