@@ -3,6 +3,7 @@ ghost use Rattle.std.specs.Prelude.{◌≡◌, ◌≤◌, ◌++◌, ◌∷◌, [
 ghost use Rattle.cell_types.specs.Entries.{actor_of};
 ghost use Rattle.cell_types.specs.Same.{same_machine};
 ghost use Rattle.cell_ledger.specs.Held.{held};
+ghost use Rattle.cell_ledger.specs.New.{AreBlank};
 ghost use Rattle.cell_turns.specs.Schedules.{same_actor, entries_of};
 ghost use Rattle.cell_workers.specs.Standing.{all_called_for};
 ghost use Rattle.cell_workers.specs.Report.{IsReport, AreAllOf};
@@ -244,11 +245,7 @@ fn run_over<R: Run + Send + Sync, P: Port + Send, O: OperatorPort + Send, W: Thr
     requires parts { R.parts ≡ 7 }
     requires limits { book.limits ≡ R.limits }
     requires empty { book.entries ≡ [] }
-    requires entries { (blanks.entries.name ≡ R.entries_name) × (blanks.entries.parts ≡ R.parts) }
-    requires admitted { (blanks.admitted.name ≡ R.admitted_name) × (blanks.admitted.parts ≡ R.parts) }
-    requires forged { (blanks.forged.name ≡ R.forged_name) × (blanks.forged.parts ≡ R.parts) }
-    requires quarantined { (blanks.quarantined.name ≡ R.quarantined_name) × (blanks.quarantined.parts ≡ R.parts) }
-    requires delivered { (blanks.delivered.name ≡ R.delivered_name) × (blanks.delivered.parts ≡ R.parts) }
+    requires ledgers { AreBlank R.Run blanks }
     ensures { IfOk result (λ r. IsReport R.limits r.journal.entries r.totals (map (λ w. (w.0.items, w.1)) r.workers)) }
 {
     let (kept, all) = Kept::<R>::new(book, blanks);
