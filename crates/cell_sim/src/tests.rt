@@ -1,7 +1,1 @@
-mod belts;
-mod faults;
-mod machines;
-mod plates;
-mod ports;
 mod script;
-mod steps;

@@ -6,22 +6,16 @@ mod expected;
 mod following;
 pub mod hands;
 pub mod memory;
-#[cfg(test)]
-mod memory_ports;
 pub mod moving;
 mod noticing;
 pub mod plan;
 pub mod port;
 pub mod ruling;
 pub mod schedule;
-#[cfg(test)]
-mod schedule_tests;
 pub mod scheduling;
 pub mod sending;
 mod signs;
 pub mod six;
-#[cfg(test)]
-mod tests;
 pub mod turns;
 mod visits;
 pub mod watch;

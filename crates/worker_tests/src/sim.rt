@@ -1,0 +1,7 @@
+//! The simulated cell, step by step.
+mod belts;
+mod faults;
+mod machines;
+mod plates;
+mod ports;
+mod steps;
