@@ -1,11 +1,15 @@
-//! Samples for the test crates: the journal of one plate, entries and books by their records, and readers and writers
-//! that fail. No test stands here, and no crate but the test crates uses it.
+//! Samples for the test crates: the journal of one plate, entries and books by their records, scripts, and
+//! readers and writers that fail. No test stands here, and no crate but the test crates uses it.
 #![tactic(auto)]
 
 mod books;
 mod records;
+mod scripts;
 mod streams;
+mod words;
 
 pub use books::{begun, book_all};
 pub use records::{ONE_PLATE, entry_of, one_plate_text, plate};
+pub use scripts::{CLEARED_PRESS, STUCK_PRESS};
 pub use streams::{Bytewise, Full};
+pub use words::{AXES, MACHINES};

@@ -15,6 +15,3 @@ pub use fault::{Fault, PlannedFault};
 pub use port::{SimOperator, SimPort};
 pub use script::{FaultError, FaultScript};
 pub use world::World;
-
-#[cfg(test)]
-mod tests;

@@ -4,17 +4,11 @@
 
 pub mod hands;
 pub mod joining;
-#[cfg(test)]
-mod memory_ports;
 pub mod plan;
 pub mod port;
 pub mod schedule;
-#[cfg(test)]
-mod schedule_tests;
 pub mod scheduling;
 pub mod six;
-#[cfg(test)]
-mod tests;
 pub mod turns;
 pub mod watch;
 pub mod watches;

@@ -1,26 +1,9 @@
-//! The tests of running workers: seven workers on threads over a simulated cell, and one worker alone on the thread of its
-//! test. There is nothing here but tests.
+//! The tests of `cell_runs`: runs of the simulated cell by their texts, in rounds on one thread and by workers on threads.
 #![tactic(auto)]
 
 #[cfg(test)]
-mod cell;
-#[cfg(test)]
-mod failures;
-#[cfg(test)]
-mod meeting;
-#[cfg(test)]
-mod operators;
-#[cfg(test)]
 mod refusals;
 #[cfg(test)]
-mod reports;
+mod rounds;
 #[cfg(test)]
-mod rooms;
-#[cfg(test)]
-mod rows;
-#[cfg(test)]
-mod telling;
-#[cfg(test)]
-mod texts;
-#[cfg(test)]
-mod workers;
+mod threads;

@@ -1,103 +1,82 @@
-//! Workers that may be refused memory. Each of these tests passes with ample memory, and in a run that refuses any one
-//! allocation: then the worker, or the whole run, ends for want of memory, or as it does with ample memory.
-use crate::cell::{ample_plan, faults_of, ports_of, script_of};
-use crate::reports::{check_end, check_lists};
-use crate::rooms::{NONE, OPERATOR, Play, all_but, check_hall, check_list, play_in_room, set_hall};
-use crate::workers::ONE_PLATE;
-use cell_ledger::{Run, Shares};
-use cell_sim::{SimOperator, SimPort, World};
-use cell_types::Machine;
-use cell_workers::{End, Ended, Plan, Room, RunError, Worked, run_cell, run_operator, run_worker};
+//! Texts that are refused, and writers that fail.
+use crate::rounds::told;
+use cell_lines::WriteFault;
+use cell_runs::run_texts;
+use cell_samples::Full;
 use std::process::Abort;
-use std::sync::{Mutex, Wait};
+use std::sync::Wait;
+use std::test::Fail;
+use std::thread::Threads;
 
-// A worker alone that isn't lost, as the others are, ends for want of memory after some of these entries, or as told after
-// all of them.
-fn check_refused<R: Run, W: Abort + Wait>(
-    rt: &W,
-    room: &Room<R>,
-    place: usize,
-    worked: &Worked<R>,
-    records: &[&str],
+// Three texts of which one is refused with this line, whether the journal is wanted or not.
+fn check_refused<R: AllocGlobal + Abort + Threads + Wait + Sync>(
+    rt: &R,
+    settings: &[u8],
+    faults: &[u8],
+    operator: &[u8],
+    wanted: &[u8],
 ) {
-    let length = worked.entries.len();
-    assert!(rt; length <= records.len());
-    if worked.ended == Ended::Memory {
-        assert!(rt; length < records.len());
-        check_list(rt, worked, Ended::Memory, &records[..length]);
-        assert_eq!(rt; room.hall.lock(rt).end, Some(End::Memory));
-    } else {
-        check_list(rt, worked, Ended::Told, records);
-        check_hall(rt, room, Some(End::Stalled), [true; 7], all_but(place));
+    for journal in [false, true] {
+        let (written, status) = told(rt, settings, faults, operator, journal);
+        assert_eq!(rt; status, Ok(1));
+        assert_eq!(rt; written.as_slice(), wanted);
     }
 }
 
-struct Feeds;
+const GOOD: &[u8] = b"plates = 1";
 
-impl Play for Feeds {
-    fn play<R: Run, W: AllocGlobal + Abort + Wait>(
-        &self,
-        rt: &W,
-        room: &Room<R>,
-        first: Shares<R>,
-        _second: Shares<R>,
-        plan: &Plan,
-    ) {
-        let world = Mutex::new(World::new(1));
-        let faults = faults_of(rt, "");
-        let mut port = SimPort::new(rt, &world, Machine::Feed, &faults);
-        set_hall(rt, room, NONE, all_but(0));
-        let worked = run_worker(rt, rt.alloc(), Machine::Feed, &mut port, room, first, plan);
-        check_refused(rt, room, 0, &worked, &ONE_PLATE);
+#[test]
+fn tells_settings_before_the_scripts(rt: HostRuntime) {
+    let refused = b"settings OutOfRange plates\n";
+    check_refused(&rt, b"plates = 0", b"brew", b"brew", refused);
+}
+
+#[test]
+fn tells_the_faults_before_the_operators_script(rt: HostRuntime) {
+    check_refused(&rt, GOOD, b"brew", b"brew", b"faults unreadable 1\n");
+    check_refused(&rt, GOOD, b"\xff", b"\xff", b"faults unreadable 1\n");
+}
+
+#[test]
+fn tells_a_fault_that_stands_twice(rt: HostRuntime) {
+    let twice = b"press_two,1,both,\npress_two,1,both,\n";
+    check_refused(&rt, GOOD, twice, b"brew", b"faults unreadable 2\n");
+}
+
+#[test]
+fn tells_the_operators_line(rt: HostRuntime) {
+    let refused = b"operator unreadable 1\n";
+    check_refused(&rt, GOOD, b"", b"\xff", refused);
+    check_refused(&rt, GOOD, b"", b"always,1,stop,press1", refused);
+}
+
+#[test]
+fn tells_scripts_that_are_too_long(rt: HostRuntime) -> Result<(), Fail> {
+    let alloc = rt.alloc();
+    let mut stops = Vec::new(alloc);
+    let mut faults = Vec::new(alloc);
+    for motion in 1..1002u64 {
+        stops.extend_from_slice(b"always,,stop,press1\n")?;
+        let line = format!(in alloc; "press_two,{motion},both,\n")?;
+        faults.extend_from_slice(line.as_str().as_bytes())?;
     }
+    check_refused(&rt, GOOD, faults.as_slice(), b"brew", b"faults too long\n");
+    check_refused(&rt, GOOD, b"", stops.as_slice(), b"operator too long\n");
+    Ok(())
 }
 
 #[test]
-fn a_worker_is_refused_memory(rt: HostRuntime) {
-    play_in_room(&rt, &Feeds, &ample_plan(&rt, 1));
-}
-
-struct Stops;
-
-impl Play for Stops {
-    fn play<R: Run, W: AllocGlobal + Abort + Wait>(
-        &self,
-        rt: &W,
-        room: &Room<R>,
-        first: Shares<R>,
-        _second: Shares<R>,
-        plan: &Plan,
-    ) {
-        let world = Mutex::new(World::new(1));
-        let mut hands = SimOperator::new(rt, &world);
-        let script = script_of(rt, "always,,stop,press1\nalways,,stop,robot\n");
-        set_hall(rt, room, NONE, all_but(OPERATOR));
-        let worked = run_operator(rt, rt.alloc(), &mut hands, script, room, first, plan);
-        let records = ["stop_asked,press1,,", "stop_asked,robot,,"];
-        check_refused(rt, room, OPERATOR, &worked, &records);
+fn a_failed_write_is_told(rt: HostRuntime) {
+    let lines = b"finished\nadmitted 1\nforged 1\nquarantined 0\ndelivered 1\n".len();
+    for left in 0..lines + 1 {
+        let mut writer = Full::new(rt.alloc(), left);
+        let answer = run_texts(&rt, GOOD, b"", b"", false, false, &mut writer);
+        let wanted = if left < lines { Err(WriteFault) } else { Ok(0) };
+        assert_eq!(rt; answer, wanted, "after {left} bytes");
     }
-}
-
-#[test]
-fn the_operator_is_refused_memory(rt: HostRuntime) {
-    play_in_room(&rt, &Stops, &ample_plan(&rt, 1));
-}
-
-#[test]
-fn a_run_is_refused_memory(rt: HostRuntime) {
-    let plan = ample_plan(&rt, 5);
-    let faults = faults_of(&rt, "");
-    let script = script_of(&rt, "");
-    let world = Mutex::new(World::new(plan.plates));
-    let mut ports = ports_of(&rt, &world, &faults);
-    let mut hands = SimOperator::new(&rt, &world);
-    match run_cell(&rt, rt.alloc(), &mut ports, &mut hands, script, &plan) {
-        Ok(report) => {
-            check_lists(&rt, &report);
-            if report.end != End::Memory {
-                check_end(&rt, &report, End::Finished, [5, 5, 0, 5]);
-            }
-        }
-        Err(why) => assert!(rt; why != RunError::JournalDisagrees),
+    for left in 0..40usize {
+        let mut writer = Full::new(rt.alloc(), left);
+        let answer = run_texts(&rt, GOOD, b"", b"", false, true, &mut writer);
+        assert_eq!(rt; answer, Err(WriteFault), "after {left} bytes");
     }
 }

@@ -1,6 +1,0 @@
-mod belts;
-mod faults;
-mod machines;
-mod plates;
-mod ports;
-mod steps;

@@ -1,0 +1,65 @@
+//! Each motion of a run with each fault.
+use crate::rounds::run_in_world;
+use cell_samples::AXES;
+use cell_types::texts::axis_word;
+use cell_workers::End;
+use std::process::Abort;
+use std::sync::Wait;
+use std::test::Fail;
+
+const TEN: &[u8] = b"plates = 10";
+
+// Runs of ten plates, each with this fault in another motion. Each finishes or stalls, its journal is legal, and no
+// machines meet.
+fn check_fault<R: AllocGlobal + Wait + Abort>(rt: &R, fault: &str) -> Result<(), Fail> {
+    let alloc = rt.alloc();
+    let whole = run_in_world(rt, TEN, b"", b"");
+    assert_eq!(rt; whole.end, End::Finished);
+    for axis in AXES {
+        let word = axis_word(axis);
+        let most = whole.motions[axis as usize];
+        assert!(rt; most > 0, "{word} moves");
+        for motion in 0..most {
+            let line = format!(in alloc; "{word},{},{fault}\n", u64::from(motion) + 1)?;
+            let left = run_in_world(rt, TEN, line.as_str().as_bytes(), b"");
+            assert!(rt; matches!(left.end, End::Finished | End::Stalled), "{line}");
+            assert_eq!(rt; left.collisions, 0, "{line}");
+        }
+    }
+    Ok(())
+}
+
+#[test]
+fn an_axis_that_does_not_move_harms_nothing(rt: HostRuntime) -> Result<(), Fail> {
+    check_fault(&rt, "no_motion,")
+}
+
+#[test]
+fn a_switch_that_stays_harms_nothing(rt: HostRuntime) -> Result<(), Fail> {
+    check_fault(&rt, "keeps_old,")
+}
+
+#[test]
+fn switches_that_are_all_shown_harm_nothing(rt: HostRuntime) -> Result<(), Fail> {
+    check_fault(&rt, "both,")
+}
+
+#[test]
+fn a_slow_axis_harms_nothing(rt: HostRuntime) -> Result<(), Fail> {
+    check_fault(&rt, "slow,30")
+}
+
+#[test]
+fn a_lost_plate_harms_nothing(rt: HostRuntime) -> Result<(), Fail> {
+    check_fault(&rt, "lose_plate,")
+}
+
+#[test]
+fn missing_readings_harm_nothing(rt: HostRuntime) -> Result<(), Fail> {
+    check_fault(&rt, "silent,3")
+}
+
+#[test]
+fn a_refused_command_harms_nothing(rt: HostRuntime) -> Result<(), Fail> {
+    check_fault(&rt, "refuse_command,")
+}

@@ -1,0 +1,9 @@
+//! The tests of `cell_rows`, `cell_audit` and `cell_lines`, each in the module of its crate.
+#![tactic(auto)]
+
+#[cfg(test)]
+mod audit;
+#[cfg(test)]
+mod lines;
+#[cfg(test)]
+mod rows;

@@ -1,0 +1,200 @@
+//! What is printed for an audit of texts, and what readers and writers that fail leave of it.
+use cell_lines::{WriteFault, audit_lines};
+use cell_samples::{Bytewise, Full, one_plate_text};
+use std::alloc::{AllocError, Global};
+use std::test::Fail;
+
+// A journal's text of these records.
+fn journal(alloc: Global, records: &[u8]) -> Result<Vec<u8>, AllocError> {
+    let mut text = Vec::new(alloc);
+    text.extend_from_slice(b"profile,1,,\n")?;
+    text.extend_from_slice(records)?;
+    Ok(text)
+}
+
+#[test]
+fn prints_what_an_audit_finds(rt: HostRuntime) -> Result<(), Fail> {
+    let alloc = rt.alloc();
+    for (records, status, wanted) in [
+        (
+            b"".as_slice(),
+            0,
+            b"legal 0\nadmitted 0\nforged 0\nquarantined 0\ndelivered 0\n".as_slice(),
+        ),
+        (
+            b"lamp,feed,green,\nadmitted,1,,\nstarted,feed_belt,to_end,\nconveyed,feed_belt,1,feed_end\n",
+            0,
+            b"legal 4\nadmitted 1\nforged 0\nquarantined 0\ndelivered 0\n",
+        ),
+        (b"admitted,1,,\n", 1, b"refused 1 LampRed feed\n"),
+        (
+            b"lamp,feed,green,\nadmitted,1,,\nadmitted,2,,\n",
+            1,
+            b"refused 3 LampRed feed\n",
+        ),
+        (
+            b"lamp,feed,green,\nlamp,feed,green,\n",
+            1,
+            b"refused 2 LampAlready feed\n",
+        ),
+        (
+            b"lamp,deposit,green,\n",
+            1,
+            b"refused 1 StationEmpty dep_end\n",
+        ),
+        (
+            b"lamp,feed,green,\nadmitted,1,,\nlamp,feed,green,\n",
+            1,
+            b"refused 3 StationFull feed_in\n",
+        ),
+        (
+            b"lamp,feed,green,\nadmitted,2,,\n",
+            1,
+            b"refused 2 WrongPlate\n",
+        ),
+        (b"started,press_one,top,\n", 1, b"refused 1 NotHolder z3\n"),
+        (
+            b"declared,feed,silent,\nlamp,feed,red,\n",
+            1,
+            b"refused 2 MachineFailed feed\n",
+        ),
+        (b"lamp,fe", 1, b"unreadable 1\n"),
+        (b"lamp,\xff,green,\n", 1, b"unreadable 1\n"),
+        (b"admitted,01,,\n", 1, b"unreadable 1\n"),
+        (b"admitted,100001,,\n", 1, b"unreadable 1\n"),
+    ] {
+        let text = journal(alloc, records)?;
+        let mut written = Vec::new(alloc);
+        let answer = audit_lines(alloc, text.as_slice(), &mut written);
+        let shown = String::from_utf8_lossy(alloc, records)?;
+        assert_eq!(rt; answer, Ok(status), "{shown}");
+        assert_eq!(rt; written.as_slice(), wanted, "{shown}");
+    }
+    let mut written = Vec::new(alloc);
+    assert_eq!(rt; audit_lines(alloc, b"".as_slice(), &mut written), Ok(1));
+    assert_eq!(rt; written.as_slice(), b"unreadable 0\n".as_slice());
+    Ok(())
+}
+
+#[test]
+fn prints_what_an_audit_finds_in_texts_of_other_makers(rt: HostRuntime) -> Result<(), Fail> {
+    let alloc = rt.alloc();
+    let one = b"legal 1\nadmitted 0\nforged 0\nquarantined 0\ndelivered 0\n".as_slice();
+    let none = b"legal 0\nadmitted 0\nforged 0\nquarantined 0\ndelivered 0\n".as_slice();
+    for (name, text, status, wanted) in [
+        (
+            "line ends of Windows",
+            b"profile,1,,\r\nlamp,feed,green,\r\n".as_slice(),
+            0,
+            one,
+        ),
+        (
+            "line ends of old Macintoshes",
+            b"profile,1,,\rlamp,feed,green,\r",
+            0,
+            one,
+        ),
+        (
+            "a byte order mark",
+            b"\xef\xbb\xbfprofile,1,,\nlamp,feed,green,\n",
+            0,
+            one,
+        ),
+        (
+            "two byte order marks",
+            b"\xef\xbb\xbf\xef\xbb\xbfprofile,1,,\n",
+            1,
+            b"unreadable 0\n",
+        ),
+        (
+            "a byte order mark further on",
+            b"profile,1,,\n\xef\xbb\xbflamp,feed,green,\n",
+            1,
+            b"unreadable 1\n",
+        ),
+        (
+            "text of two bytes a letter",
+            b"\xff\xfep\x00r\x00o\x00f\x00i\x00l\x00e\x00",
+            1,
+            b"unreadable 0\n",
+        ),
+        (
+            "all fields quoted",
+            b"\"profile\",\"1\",\"\",\"\"\n\"lamp\",\"feed\",\"green\",\"\"\n",
+            0,
+            one,
+        ),
+        (
+            "a quote that isn't closed",
+            b"profile,1,,\nlamp,feed,\"green,\nadmitted,1,,\n",
+            1,
+            b"unreadable 1\n",
+        ),
+        ("a blank line first", b"\nprofile,1,,\n", 0, none),
+        ("blank lines last", b"profile,1,,\n\n\r\n", 0, none),
+        ("lines without a record", b"\n\n", 1, b"unreadable 0\n"),
+        ("a blank first", b" profile,1,,\n", 1, b"unreadable 0\n"),
+        (
+            "a blank last",
+            b"profile,1,,\nlamp,feed,green, \n",
+            1,
+            b"unreadable 1\n",
+        ),
+        (
+            "a line of blanks",
+            b"profile,1,,\n   \n",
+            1,
+            b"unreadable 1\n",
+        ),
+        (
+            "a zero byte last",
+            b"profile,1,,\n\x00",
+            1,
+            b"unreadable 1\n",
+        ),
+        ("capital letters", b"PROFILE,1,,\n", 1, b"unreadable 0\n"),
+        ("semicolons", b"profile;1;;\n", 1, b"unreadable 0\n"),
+        (
+            "a row of headings",
+            b"kind,a,b,c\nprofile,1,,\n",
+            1,
+            b"unreadable 0\n",
+        ),
+        ("no profile", b"lamp,feed,green,\n", 1, b"unreadable 0\n"),
+    ] {
+        let mut written = Vec::new(alloc);
+        let answer = audit_lines(alloc, text, &mut written);
+        assert_eq!(rt; answer, Ok(status), "{name}");
+        assert_eq!(rt; written.as_slice(), wanted, "{name}");
+    }
+    Ok(())
+}
+
+#[test]
+fn prints_nothing_where_the_reader_fails(rt: HostRuntime) -> Result<(), Fail> {
+    let alloc = rt.alloc();
+    let carried = one_plate_text(alloc)?;
+    for fails_at in 0..carried.len() + 1 {
+        let reader = Bytewise {
+            text: carried.as_slice(),
+            at: 0,
+            fails_at,
+        };
+        let mut written = Vec::new(alloc);
+        let answer = audit_lines(alloc, reader, &mut written);
+        assert_eq!(rt; answer, Ok(3), "after {fails_at} bytes");
+        assert!(rt; written.is_empty(), "after {fails_at} bytes");
+    }
+    Ok(())
+}
+
+#[test]
+fn tells_that_the_writer_failed(rt: HostRuntime) {
+    let text = b"profile,1,,\n".as_slice();
+    for left in 0..54usize {
+        let answer = audit_lines(rt.alloc(), text, &mut Full::new(rt.alloc(), left));
+        assert_eq!(rt; answer, Err(WriteFault), "after {left} bytes");
+    }
+    let answer = audit_lines(rt.alloc(), text, &mut Full::new(rt.alloc(), 54));
+    assert_eq!(rt; answer, Ok(0));
+}

@@ -1,0 +1,290 @@
+//! Worked examples: schedules over ports in memory.
+ghost use Rattle.std.specs.Prelude.{◌≡◌, ◌<◌};
+
+use crate::turns::memory_ports::{MemoryHands, MemoryPort};
+use crate::turns::{plan_of, showing};
+use cell_diagnosis::Reading;
+use cell_ledger::{Blanks, Kept, Run};
+use cell_samples::{MACHINES, begun, entry_of};
+use cell_turns::{Act, Plan, Ran, Six, Step, Watches, run_schedule};
+use cell_types::{Belt, Cause, Colour, Command, Entry, Machine, Station};
+use plate_book::Book;
+use std::alloc::Global;
+use std::marker::Brand;
+use std::process::Abort;
+
+// What is left after a schedule.
+#[derive(Drop)]
+struct Played {
+    ran: Ran,
+    ports: Six<MemoryPort>,
+    hands: MemoryHands,
+    book: Book,
+}
+
+const NEVER: usize = 1_000_000;
+
+fn port(rt: &impl Abort, alloc: Global, room: usize, fails_at: usize) -> MemoryPort {
+    let Ok(port) = MemoryPort::new(alloc, None, room, fails_at) else {
+        panic!(rt; "there is memory");
+    };
+    port
+}
+
+fn ports(rt: &impl Abort, alloc: Global, room: usize, fails_at: usize) -> Six<MemoryPort> {
+    Six {
+        feed: port(rt, alloc, room, fails_at),
+        table: port(rt, alloc, room, fails_at),
+        robot: port(rt, alloc, room, fails_at),
+        press1: port(rt, alloc, room, fails_at),
+        press2: port(rt, alloc, room, fails_at),
+        deposit: port(rt, alloc, room, fails_at),
+    }
+}
+
+fn play_over<R: Run>(
+    rt: &impl Abort,
+    alloc: Global,
+    book: Book,
+    blanks: Blanks,
+    plan: &Plan,
+    steps: &[Step],
+    mut ports: Six<MemoryPort>,
+    mut hands: MemoryHands,
+) -> Played
+    requires parts { 0 < R.parts }
+    requires limits { book.limits ≡ R.limits }
+    requires entries { (blanks.entries.name ≡ R.entries_name) × (blanks.entries.parts ≡ R.parts) }
+    requires admitted { (blanks.admitted.name ≡ R.admitted_name) × (blanks.admitted.parts ≡ R.parts) }
+    requires forged { (blanks.forged.name ≡ R.forged_name) × (blanks.forged.parts ≡ R.parts) }
+    requires quarantined { (blanks.quarantined.name ≡ R.quarantined_name) × (blanks.quarantined.parts ≡ R.parts) }
+    requires delivered { (blanks.delivered.name ≡ R.delivered_name) × (blanks.delivered.parts ≡ R.parts) }
+{
+    let (mut kept, mut shares) = Kept::<R>::new(book, blanks);
+    let mut watches = Watches::start(kept.book());
+    let ran = run_schedule(
+        alloc,
+        steps,
+        &mut ports,
+        &mut hands,
+        &mut kept,
+        &mut shares,
+        &mut watches,
+        plan,
+    );
+    let Ok(ran) = ran else {
+        panic!(rt; "there is memory");
+    };
+    assert!(rt; shares.counts() == kept.book().totals());
+    Played {
+        ran,
+        ports,
+        hands,
+        book: kept.into_book(),
+    }
+}
+
+// A schedule on a book, over these ports. The operator's hands fail at one of their acts.
+fn play_with(
+    rt: &impl Abort,
+    alloc: Global,
+    book: Book,
+    steps: &[Step],
+    ports: Six<MemoryPort>,
+    hands_fail_at: usize,
+) -> Played {
+    let Ok(hands) = MemoryHands::new(alloc, 100, hands_fail_at) else {
+        panic!(rt; "there is memory");
+    };
+    let plan = plan_of(rt, 5);
+    play_over::<Brand>(rt, alloc, book, Blanks::new(1), &plan, steps, ports, hands)
+}
+
+// A schedule on a book, over ports with room for 100 commands, each of which fails at one of its own; the operator's hands
+// fail at one of their acts.
+fn play(
+    rt: &impl Abort,
+    alloc: Global,
+    book: Book,
+    steps: &[Step],
+    fails_at: usize,
+    hands_fail_at: usize,
+) -> Played {
+    let ports = ports(rt, alloc, 100, fails_at);
+    play_with(rt, alloc, book, steps, ports, hands_fail_at)
+}
+
+const FEED_GREEN: Command = Command::Lamp(Belt::Feed, Colour::Green);
+
+const FEED_RED: Command = Command::Lamp(Belt::Feed, Colour::Red);
+
+#[test]
+fn a_plate_is_laid_in(rt: HostRuntime) {
+    let book = begun(rt.alloc(), 100, 10, 0).expect(&rt, "a book");
+    let steps = [
+        Step::Turn(Machine::Feed, showing(0)),
+        Step::Turn(Machine::Feed, showing(1)),
+        Step::Turn(Machine::Feed, showing(1)),
+    ];
+    let played = play(&rt, rt.alloc(), book, &steps, NEVER, NEVER);
+    let journal = [
+        entry_of("lamp,feed,green,").expect(&rt, "a record"),
+        entry_of("admitted,1,,").expect(&rt, "a record"),
+    ];
+    assert!(rt; played.ran.machines.feed.as_slice() == journal.as_slice());
+    assert!(rt; played.book.journal().len() == 2);
+    assert!(rt; played.book.journal().get(0) == Some(journal[0]));
+    assert!(rt; played.book.journal().get(1) == Some(journal[1]));
+    let wanted = [FEED_GREEN, FEED_RED];
+    assert!(rt; played.ports.feed.sent.as_slice() == wanted.as_slice());
+    assert!(rt; played.ran.refused == 0 && played.ran.operator.is_empty());
+}
+
+#[test]
+fn a_command_that_fails_is_declared(rt: HostRuntime) {
+    let book = begun(rt.alloc(), 100, 10, 0).expect(&rt, "a book");
+    let steps = [
+        Step::Turn(Machine::Feed, showing(0)),
+        Step::Turn(Machine::Feed, showing(1)),
+        Step::Turn(Machine::Feed, showing(1)),
+        Step::Turn(Machine::Feed, showing(1)),
+    ];
+    let played = play(&rt, rt.alloc(), book, &steps, 1, NEVER);
+    let fault = Entry::Declared {
+        machine: Machine::Feed,
+        cause: Cause::CommandFault,
+    };
+    assert!(rt; played.ran.machines.feed.len() == 3);
+    assert!(rt; played.book.journal().get(2) == Some(fault));
+    let wanted = [FEED_GREEN, Command::AllOff(Machine::Feed)];
+    assert!(rt; played.ports.feed.sent.as_slice() == wanted.as_slice());
+    assert!(rt; played.ports.feed.failures == 1);
+}
+
+#[test]
+fn a_full_journal_refuses_a_turn(rt: HostRuntime) {
+    let book = begun(rt.alloc(), 1, 1, 1).expect(&rt, "a book");
+    let steps = [
+        Step::Turn(Machine::Feed, showing(0)),
+        Step::Turn(Machine::Table, showing(0)),
+        Step::Hand(entry_of("stop_asked,feed,,").expect(&rt, "a record")),
+        Step::Turn(Machine::Feed, showing(0)),
+    ];
+    let played = play(&rt, rt.alloc(), book, &steps, NEVER, NEVER);
+    assert!(rt; played.ran.refused == 3);
+    assert!(rt; played.book.journal().len() == 1);
+    assert!(rt; played.ran.operator.is_empty() && played.ran.machines.feed.is_empty());
+    assert!(rt; played.ports.feed.asked == 0);
+}
+
+#[test]
+fn a_port_that_always_fails_only_stops_its_machine(rt: HostRuntime) {
+    let book = begun(rt.alloc(), 100, 10, 0).expect(&rt, "a book");
+    let steps = [Step::Turn(Machine::Feed, showing(1)); 6];
+    let ports = ports(&rt, rt.alloc(), 0, NEVER);
+    let played = play_with(&rt, rt.alloc(), book, &steps, ports, NEVER);
+    let listed = [
+        entry_of("lamp,feed,green,").expect(&rt, "a record"),
+        entry_of("declared,feed,command_fault,").expect(&rt, "a record"),
+    ];
+    assert!(rt; played.ran.machines.feed.as_slice() == listed.as_slice());
+    assert!(rt; played.ports.feed.sent.is_empty() && played.ports.feed.failures == 2);
+    assert!(rt; played.book.totals().admitted == 0);
+}
+
+#[test]
+fn missing_readings_show_no_plate(rt: HostRuntime) {
+    let book = begun(rt.alloc(), 100, 10, 0).expect(&rt, "a book");
+    let steps = [Step::Turn(Machine::Feed, None); 6];
+    let played = play(&rt, rt.alloc(), book, &steps, NEVER, NEVER);
+    let listed = [
+        entry_of("lamp,feed,green,").expect(&rt, "a record"),
+        entry_of("declared,feed,silent,").expect(&rt, "a record"),
+    ];
+    assert!(rt; played.ran.machines.feed.as_slice() == listed.as_slice());
+    let wanted = [FEED_GREEN, Command::AllOff(Machine::Feed)];
+    assert!(rt; played.ports.feed.sent.as_slice() == wanted.as_slice());
+}
+
+// A reading of any bits but that of a plate at FeedIn.
+fn garbage(bits: u32) -> Option<Reading> {
+    if bits % 7 == 0 {
+        return None;
+    }
+    Some(Reading {
+        switches: [
+            (bits / 256 % 256) as u8,
+            (bits / 65_536 % 256) as u8,
+            (bits / 16_777_216) as u8,
+        ],
+        presence: (bits % 128 * 2) as u8,
+    })
+}
+
+#[test]
+fn garbage_shows_no_plate(rt: HostRuntime) {
+    let book = begun(rt.alloc(), 100, 10, 0).expect(&rt, "a book");
+    let mut steps = [Step::Turn(Machine::Feed, None); 120];
+    let mut bits: u32 = 12345;
+    for i in 0..120 {
+        bits = bits.wrapping_mul(1_664_525).wrapping_add(1_013_904_223);
+        steps[i] = Step::Turn(MACHINES[i % 6], garbage(bits));
+    }
+    let played = play(&rt, rt.alloc(), book, &steps, NEVER, NEVER);
+    assert!(rt; played.ran.refused == 0);
+    assert!(rt; played.book.totals().admitted == 0 && played.book.totals().forged == 0);
+    for i in 0..played.book.journal().len() {
+        let Some(entry) = played.book.journal().get(i) else {
+            panic!(rt; "the journal has an entry at each place");
+        };
+        assert!(rt;
+            !matches!(
+                entry,
+                Entry::Arrived { .. } | Entry::Conveyed { .. } | Entry::Delivered { .. }
+            )
+        );
+    }
+}
+
+#[test]
+fn what_the_operator_may_not_book_is_spared(rt: HostRuntime) {
+    let book = begun(rt.alloc(), 100, 10, 0).expect(&rt, "a book");
+    let steps = [
+        Step::Hand(entry_of("lamp,feed,green,").expect(&rt, "a record")),
+        Step::Hand(entry_of("repaired,feed,,").expect(&rt, "a record")),
+        Step::Hand(entry_of("stop_asked,feed,,").expect(&rt, "a record")),
+        Step::Turn(Machine::Feed, showing(0)),
+        Step::Hand(entry_of("repaired,feed,,").expect(&rt, "a record")),
+        Step::Hand(entry_of("repaired,feed,,").expect(&rt, "a record")),
+    ];
+    let played = play(&rt, rt.alloc(), book, &steps, NEVER, 0);
+    let his = [
+        entry_of("stop_asked,feed,,").expect(&rt, "a record"),
+        entry_of("repaired,feed,,").expect(&rt, "a record"),
+    ];
+    assert!(rt; played.ran.operator.as_slice() == his.as_slice());
+    let wanted = [entry_of("declared,feed,operator_stop,").expect(&rt, "a record")];
+    assert!(rt; played.ran.machines.feed.as_slice() == wanted.as_slice());
+    let wanted = [Act::Home(Machine::Feed)];
+    assert!(rt; played.hands.acts.as_slice() == wanted.as_slice());
+    assert!(rt; played.hands.failures == 1 && played.hands.asked == 2);
+    assert!(rt; played.book.journal().len() == 3);
+}
+
+#[test]
+fn a_plate_is_taken_out_by_hand(rt: HostRuntime) {
+    let book = begun(rt.alloc(), 100, 10, 8).expect(&rt, "a book");
+    let steps = [
+        Step::Hand(entry_of("stop_asked,table,,").expect(&rt, "a record")),
+        Step::Turn(Machine::Table, showing(1)),
+        Step::Hand(entry_of("quarantined,1,table,").expect(&rt, "a record")),
+        Step::Turn(Machine::Table, showing(0)),
+    ];
+    let played = play(&rt, rt.alloc(), book, &steps, NEVER, NEVER);
+    assert!(rt; played.ran.operator.len() == 2 && played.ran.refused == 0);
+    let wanted = [Act::Remove(Station::Table)];
+    assert!(rt; played.hands.acts.as_slice() == wanted.as_slice());
+    let wanted = [Command::AllOff(Machine::Table)];
+    assert!(rt; played.ports.table.sent.as_slice() == wanted.as_slice());
+    assert!(rt; played.book.totals().quarantined == 1);
+}

@@ -1,0 +1,8 @@
+//! The simulated cell, step by step.
+mod belts;
+mod faults;
+mod machines;
+mod plates;
+mod ports;
+mod script;
+mod steps;

@@ -1,0 +1,142 @@
+//! A room of a test's own, in which one worker at a time works on the thread of the test.
+ghost use Rattle.std.specs.Prelude.{◌≡◌, ◌<◌, []};
+
+use cell_ledger::{Blanks, Kept, Run, Shares};
+use cell_samples::entry_of;
+use cell_views::count_of;
+use cell_workers::{End, Ended, Hall, Plan, Room, Worked};
+use plate_book::Book;
+use std::marker::Brand;
+use std::process::Abort;
+use std::sync::{Condvar, Mutex, Wait};
+
+/// The operator's place among the workers.
+pub(crate) const OPERATOR: usize = 6;
+
+/// All seven workers.
+pub(crate) const ALL: [bool; 7] = [true; 7];
+
+/// No worker.
+pub(crate) const NONE: [bool; 7] = [false; 7];
+
+/// What is played in a room, over whatever ledgers the room has.
+pub(crate) trait Play {
+    /// Plays it. The room's book is empty, no worker is idle or lost and no end is set. Two shares are handed out, of which
+    /// neither counts anything yet.
+    fn play<R: Run, W: AllocGlobal + Abort + Wait>(
+        &self,
+        rt: &W,
+        room: &Room<R>,
+        first: Shares<R>,
+        second: Shares<R>,
+        plan: &Plan,
+    );
+}
+
+fn play_over<S: Play, R: Run, W: AllocGlobal + Abort + Wait>(
+    rt: &W,
+    what: &S,
+    book: Book,
+    blanks: Blanks,
+    plan: &Plan,
+)
+    requires parts { R.parts ≡ 2 }
+    requires limits { book.limits ≡ R.limits }
+    requires empty { book.entries ≡ [] }
+    requires entries { (blanks.entries.name ≡ R.entries_name) × (blanks.entries.parts ≡ R.parts) }
+    requires admitted { (blanks.admitted.name ≡ R.admitted_name) × (blanks.admitted.parts ≡ R.parts) }
+    requires forged { (blanks.forged.name ≡ R.forged_name) × (blanks.forged.parts ≡ R.parts) }
+    requires quarantined { (blanks.quarantined.name ≡ R.quarantined_name) × (blanks.quarantined.parts ≡ R.parts) }
+    requires delivered { (blanks.delivered.name ≡ R.delivered_name) × (blanks.delivered.parts ≡ R.parts) }
+{
+    let (kept, all) = Kept::<R>::new(book, blanks);
+    let (first, second) = all.split();
+    let room = Room {
+        hall: Mutex::new(Hall {
+            kept,
+            idle: NONE,
+            lost: NONE,
+            end: None,
+        }),
+        moved: Condvar::new(),
+    };
+    what.play(rt, &room, first, second, plan);
+}
+
+/// Plays something in a new room with an empty book. In a run that refuses one allocation it may be one of the book's.
+pub(crate) fn play_in_room<S: Play, W: AllocGlobal + Abort + Wait>(rt: &W, what: &S, plan: &Plan) {
+    let alloc = rt.alloc();
+    let (entries, plates) = (plan.journal_limit, plan.plates);
+    let book = Book::new(alloc, entries, plates);
+    let Ok(book) = book.or_else(|_| Book::new(alloc, entries, plates)) else {
+        panic!(rt; "there is memory");
+    };
+    play_over::<S, Brand, W>(rt, what, book, Blanks::new(2), plan);
+}
+
+/// All workers but the one at a place.
+pub(crate) fn all_but(place: usize) -> [bool; 7] {
+    let mut others = ALL;
+    if place < 7 {
+        others[place] = false;
+    }
+    others
+}
+
+/// Sets who is idle and who is lost, and takes back the end.
+pub(crate) fn set_hall<R: Run, W: Wait>(rt: &W, room: &Room<R>, idle: [bool; 7], lost: [bool; 7]) {
+    let mut hall = room.hall.lock(rt);
+    hall.idle = idle;
+    hall.lost = lost;
+    hall.end = None;
+}
+
+/// Sets an end, in place of any that is set.
+pub(crate) fn set_end<R: Run, W: Wait>(rt: &W, room: &Room<R>, end: End) {
+    room.hall.lock(rt).end = Some(end);
+}
+
+/// Checks how the run ends, who is idle and who is lost.
+pub(crate) fn check_hall<R: Run, W: Abort + Wait>(
+    rt: &W,
+    room: &Room<R>,
+    end: Option<End>,
+    idle: [bool; 7],
+    lost: [bool; 7],
+) {
+    let hall = room.hall.lock(rt);
+    assert_eq!(rt; hall.end, end);
+    assert_eq!(rt; hall.idle, idle, "the idle workers");
+    assert_eq!(rt; hall.lost, lost, "the lost workers");
+}
+
+/// Checks how many entries the room's journal has.
+pub(crate) fn check_length<R: Run, W: Abort + Wait>(rt: &W, room: &Room<R>, length: u32) {
+    let hall = room.hall.lock(rt);
+    assert_eq!(rt; hall.kept.book().journal().len(), length);
+}
+
+/// Checks why a worker ended, and that it booked the entries of these records.
+pub(crate) fn check_list<R: Run>(
+    rt: &impl Abort,
+    worked: &Worked<R>,
+    ended: Ended,
+    records: &[&str],
+) {
+    assert_eq!(rt; worked.ended, ended);
+    assert_eq!(rt; worked.entries.len(), records.len());
+    for (entry, record) in worked.entries.iter().zip(records.iter()) {
+        assert_eq!(rt; *entry, entry_of(record).expect(rt, record));
+    }
+}
+
+/// Checks the same of a worker whose shares counted nothing before: now they count its list.
+pub(crate) fn check_worked<R: Run>(
+    rt: &impl Abort,
+    worked: &Worked<R>,
+    ended: Ended,
+    records: &[&str],
+) {
+    check_list(rt, worked, ended, records);
+    assert_eq!(rt; worked.shares.counts(), count_of(worked.entries.as_slice()));
+}
