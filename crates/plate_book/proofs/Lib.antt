@@ -1,4 +1,5 @@
 pub mod Appended
+pub mod Outward
 pub mod Arrays
 pub mod Recording
 pub mod Safe

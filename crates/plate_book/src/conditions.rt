@@ -1,35 +1,14 @@
 //! The tests, each with its refusal, in the words of the table.
 ghost use Rattle.std.specs.Prelude.{◌≡◌};
 ghost use Rattle.plate_book.specs.Recorded.{told};
-ghost use Rattle.plate_book.specs.First.{not_at_rest, not_resting_at, cannot_go, not_going, zone_taken, not_holder, station_empty, station_full, plate_not_at, other_plate_at, lamp_red, lamp_already, visited, still_there, journal_full, plate_limit, machine_failed, machine_healthy, owner_failed, no_such_motion, is_pose_of, visits_failed, no_neighbour, wrong_number, ends_by_arrival, no_arrival};
+ghost use Rattle.plate_book.specs.First.{not_at_rest, not_resting_at, cannot_go, not_going, zone_taken, not_holder, station_empty, station_full, plate_not_at, other_plate_at, lamp_red, lamp_already, visited, still_there, journal_full, plate_limit, machine_failed, machine_healthy, owner_failed, visits_failed, no_neighbour, wrong_number, ends_by_arrival, no_arrival};
 
 use crate::registers::Registers;
 use crate::{Limits, Refusal};
 use cell_types::{
-    Axis, Belt, Colour, Machine, PlateId, Pose, Station, Zone, machine_of_station, owner, visitor,
+    Axis, Belt, Colour, Machine, PlateId, Pose, Station, Zone, is_pose_of, machine_of_station,
+    owner, visitor,
 };
-
-/// Whether an axis has a pose.
-fn is_pose_of(axis: Axis, pose: Pose) -> bool
-    ensures { result ≡ is_pose_of axis pose }
-{
-    match axis {
-        Axis::FeedBelt | Axis::DepositBelt => matches!(pose, Pose::Rest),
-        Axis::TableLift => matches!(pose, Pose::Low | Pose::High),
-        Axis::TableTurn => matches!(pose, Pose::Belt | Pose::Robot),
-        Axis::RobotTurn => matches!(
-            pose,
-            Pose::Table1
-                | Pose::P1Load
-                | Pose::P1Unload
-                | Pose::P2Load
-                | Pose::P2Unload
-                | Pose::Deposit2
-        ),
-        Axis::ArmOne | Axis::ArmTwo => matches!(pose, Pose::In | Pose::Out),
-        Axis::PressOne | Axis::PressTwo => matches!(pose, Pose::Middle | Pose::Top | Pose::Bottom),
-    }
-}
 
 fn ends_by_arrival(axis: Axis, pose: Pose) -> bool
     ensures { result ≡ ends_by_arrival axis pose }

@@ -1,15 +1,16 @@
 //! The tests of entries that start a motion.
-ghost use Rattle.std.specs.Prelude.{◌≡◌, [], ◌∷◌};
-ghost use Rattle.cell_types.specs.Cell.{axis_of_arm};
-ghost use Rattle.cell_types.specs.declared.words.Machine.TheVariants as machines;
-ghost use Rattle.cell_types.specs.declared.words.Pose.TheVariants as poses;
+ghost use Rattle.std.specs.Prelude.{◌≡◌, Some};
+ghost use Rattle.cell_types.specs.Cell.{axis_of_arm, faced_of};
 ghost use Rattle.plate_book.specs.Recorded.{told};
-ghost use Rattle.plate_book.specs.First.{first_true, feed_belt_tests, deposit_belt_tests, press_tests, lamp_tests, arm_tests, outward_tests, faces, started_tests, owner_failed, not_resting_at, not_holder};
+ghost use Rattle.plate_book.specs.First.{first_true, feed_belt_tests, deposit_belt_tests, press_tests, lamp_tests, arm_tests, outward_tests, faces, started_tests, all_resting};
 
 use crate::Refusal;
 use crate::checks::first_true;
 use crate::registers::Registers;
-use cell_types::{Arm, Axis, Belt, Colour, Machine, Pose, Station, Zone, axis_of_arm};
+use cell_types::{
+    Arm, Axis, Belt, Colour, Facing, Machine, PRESS1, PRESS2, Pose, Press, Station, Zone,
+    axis_of_arm,
+};
 
 #[tactic(auto, unfolding(crate::specs::First::first_true))]
 impl Registers {
@@ -54,30 +55,24 @@ impl Registers {
         }
     }
 
-    pub fn press_tests(
-        &self,
-        machine: Machine,
-        axis: Axis,
-        zone: Zone,
-        station: Station,
-        to: Pose,
-    ) -> Option<Refusal>
-        ensures { result ≡ first_true (press_tests (told self.now) machine axis zone station to) }
+    pub fn press_tests(&self, press: Press, to: Pose) -> Option<Refusal>
+        ensures { result ≡ first_true (press_tests (told self.now) press.machine press.axis press.zone press.station to) }
     {
+        let axis = press.axis;
         match to {
             Pose::Top => first_true(&[
                 self.not_resting_at(axis, Pose::Middle),
-                self.not_holder(machine, zone),
-                self.station_empty(station),
+                self.not_holder(press.machine, press.zone),
+                self.station_empty(press.station),
             ]),
             Pose::Bottom => first_true(&[
                 self.not_resting_at(axis, Pose::Top),
-                self.not_holder(machine, zone),
+                self.not_holder(press.machine, press.zone),
             ]),
             Pose::Middle => first_true(&[
                 self.not_resting_at(axis, Pose::Bottom),
-                self.not_holder(machine, zone),
-                self.station_full(station),
+                self.not_holder(press.machine, press.zone),
+                self.station_full(press.station),
             ]),
             _ => Some(Refusal::WrongPose(axis)),
         }
@@ -97,87 +92,37 @@ impl Registers {
         }
     }
 
-    /// The tests of an arm's way out to a press or the deposit belt.
-    fn out_to(
-        &self,
-        arm: Axis,
-        owner: Machine,
-        zone: Zone,
-        axis: Axis,
-        pose: Pose,
-    ) -> Option<Refusal>
-        ensures { result ≡ first_true (owner_failed (told self.now) owner ∷ not_resting_at (told self.now) arm poses.In
-            ∷ not_resting_at (told self.now) axis pose ∷ not_holder (told self.now) machines.Robot zone ∷ []) }
+    /// The first of these axes that doesn't rest at its pose.
+    fn not_all_resting(&self, rests: &[(Axis, Pose)]) -> Option<Refusal>
+        ensures { result ≡ first_true (all_resting (told self.now) rests.now) }
     {
-        first_true(&[
-            self.owner_failed(owner),
-            self.not_resting_at(arm, Pose::In),
-            self.not_resting_at(axis, pose),
-            self.not_holder(Machine::Robot, zone),
-        ])
+        for rest in rests {
+            let test = self.not_resting_at(rest.0, rest.1);
+            if test.0 {
+                return Some(test.1);
+            }
+        }
+        None
+    }
+
+    /// The tests of an arm's way out to what it faces.
+    fn out_to(&self, arm: Axis, facing: Facing) -> Option<Refusal>
+        ensures { result ≡ first_true (outward_tests (told self.now) arm (Some (faced_of facing))) }
+    {
+        let owner_failed = first_true(&[self.owner_failed(facing.owner)]);
+        let before = self.not_all_resting(facing.before);
+        let not_in = first_true(&[self.not_resting_at(arm, Pose::In)]);
+        let after = self.not_all_resting(facing.after);
+        let no_zone = first_true(&[self.not_holder(Machine::Robot, facing.zone)]);
+        owner_failed.or(before.or(not_in.or(after.or(no_zone))))
     }
 
     pub fn outward_tests(&self, arm: Arm) -> Option<Refusal>
         ensures { result ≡ first_true (outward_tests (told self.now) (axis_of_arm arm) (faces (told self.now) arm)) }
     {
-        let axis = axis_of_arm(arm);
-        if self.is_moving(Axis::RobotTurn) {
-            return Some(Refusal::WrongPose(Axis::RobotTurn));
-        }
-        match (arm, self.at(Axis::RobotTurn)) {
-            (Arm::Arm1, Pose::Table1) => first_true(&[
-                self.owner_failed(Machine::Table),
-                self.not_resting_at(Axis::TableLift, Pose::High),
-                self.not_resting_at(Axis::TableTurn, Pose::Robot),
-                self.not_resting_at(axis, Pose::In),
-                self.not_holder(Machine::Robot, Zone::Z2),
-            ]),
-            (Arm::Arm1, Pose::P1Load) => {
-                self.out_to(
-                    axis,
-                    Machine::Press1,
-                    Zone::Z3,
-                    Axis::PressOne,
-                    Pose::Middle,
-                )
-            }
-            (Arm::Arm1, Pose::P2Load) => {
-                self.out_to(
-                    axis,
-                    Machine::Press2,
-                    Zone::Z4,
-                    Axis::PressTwo,
-                    Pose::Middle,
-                )
-            }
-            (Arm::Arm2, Pose::P1Unload) => {
-                self.out_to(
-                    axis,
-                    Machine::Press1,
-                    Zone::Z3,
-                    Axis::PressOne,
-                    Pose::Bottom,
-                )
-            }
-            (Arm::Arm2, Pose::P2Unload) => {
-                self.out_to(
-                    axis,
-                    Machine::Press2,
-                    Zone::Z4,
-                    Axis::PressTwo,
-                    Pose::Bottom,
-                )
-            }
-            (Arm::Arm2, Pose::Deposit2) => {
-                self.out_to(
-                    axis,
-                    Machine::Deposit,
-                    Zone::Z5,
-                    Axis::DepositBelt,
-                    Pose::Rest,
-                )
-            }
-            _ => Some(Refusal::WrongPose(Axis::RobotTurn)),
+        match self.facing(arm) {
+            Some(facing) => self.out_to(axis_of_arm(arm), facing),
+            None => Some(Refusal::WrongPose(Axis::RobotTurn)),
         }
     }
 
@@ -215,24 +160,8 @@ impl Registers {
             ]),
             Axis::ArmOne => self.arm_tests(Arm::Arm1, to),
             Axis::ArmTwo => self.arm_tests(Arm::Arm2, to),
-            Axis::PressOne => {
-                self.press_tests(
-                    Machine::Press1,
-                    Axis::PressOne,
-                    Zone::Z3,
-                    Station::Press1,
-                    to,
-                )
-            }
-            Axis::PressTwo => {
-                self.press_tests(
-                    Machine::Press2,
-                    Axis::PressTwo,
-                    Zone::Z4,
-                    Station::Press2,
-                    to,
-                )
-            }
+            Axis::PressOne => self.press_tests(PRESS1, to),
+            Axis::PressTwo => self.press_tests(PRESS2, to),
             Axis::DepositBelt => self.deposit_belt_tests(to),
         }
     }

@@ -1,17 +1,18 @@
 //! The tests of the other entries, and of every entry.
-ghost use Rattle.std.specs.Prelude.{◌≡◌, ◌+◌, ◌^◌, ◌<◌, ◌≤◌, ◌∷◌, [], ◌++◌};
+ghost use Rattle.std.specs.Prelude.{◌≡◌, ◌+◌, ◌^◌, ◌<◌, ◌≤◌, ◌∷◌, [], ◌++◌, map, option_map};
 ghost use Rattle.plate_book.specs.Recorded.{told};
-ghost use Rattle.cell_types.specs.Cell.{motion_to, machine_of_station, station_of_arm, grips_at, drops_at};
+ghost use Rattle.cell_types.specs.Cell.{motion_to, machine_of_station, station_of_arm, faced_of, grips_at, drops_at};
 ghost use Rattle.cell_types.specs.declared.words.Entry.TheVariants.{Admitted, Quarantined, Repaired};
-ghost use Rattle.plate_book.specs.First.{first_true, claimed_tests, parked_tests, conveyed_tests, forged_tests, handing_tests, any_visited, any_still_there, first, is_faced, faces, journal_full, machine_failed, not_holder, neighbour_tests};
+ghost use Rattle.plate_book.specs.First.{first_true, claimed_tests, parked_tests, conveyed_tests, forged_tests, handing_tests, any_visited, any_still_there, first, is_faced, faces, journal_full, machine_failed, not_holder, neighbour_tests, not_at_rest};
 
 use crate::checks::first_true;
 use crate::conditions::no_neighbour;
 use crate::registers::Registers;
 use crate::{Limits, Refusal};
 use cell_types::{
-    Arm, Axis, Belt, Entry, Machine, PlateId, Pose, Station, Zone, axis_of_arm, machine_of_axis,
-    machine_of_belt, machine_of_station, station_of_arm,
+    Arm, Axis, Belt, Entry, Facing, Machine, PlateId, Pose, Station, ZONES, Zone, axes_of,
+    axis_of_arm, drops_at, faced, grips_at, machine_of_axis, machine_of_belt, machine_of_station,
+    motion_to, press_of, station_of_arm,
 };
 
 #[tactic(auto, unfolding(crate::specs::First::first_true))]
@@ -26,58 +27,63 @@ impl Registers {
         ])
     }
 
+    /// The first of these axes that isn't at rest.
+    fn not_all_at_rest(&self, axes: &[Axis]) -> Option<Refusal>
+        ensures { result ≡ first_true (map (not_at_rest (told self.now)) axes.now) }
+    {
+        for axis in axes {
+            let test = self.not_at_rest(*axis);
+            if test.0 {
+                return Some(test.1);
+            }
+        }
+        None
+    }
+
     pub fn parked_tests(&self, machine: Machine) -> Option<Refusal>
         ensures { result ≡ first_true (parked_tests (told self.now) machine) }
     {
         match machine {
-            Machine::Feed => first_true(&[self.not_at_rest(Axis::FeedBelt)]),
-            Machine::Table => first_true(&[
-                self.not_at_rest(Axis::TableLift),
-                self.not_at_rest(Axis::TableTurn),
-            ]),
             Machine::Robot => first_true(&[
                 self.not_resting_at(Axis::ArmOne, Pose::In),
                 self.not_resting_at(Axis::ArmTwo, Pose::In),
             ]),
-            Machine::Press1 => first_true(&[self.not_at_rest(Axis::PressOne)]),
-            Machine::Press2 => first_true(&[self.not_at_rest(Axis::PressTwo)]),
-            Machine::Deposit => first_true(&[self.not_at_rest(Axis::DepositBelt)]),
+            _ => self.not_all_at_rest(axes_of(machine)),
         }
     }
 
     pub fn conveyed_tests(&self, axis: Axis, plate: PlateId, dest: Station) -> Option<Refusal>
         ensures { result ≡ first_true (conveyed_tests (told self.now) axis plate (motion_to axis dest)) }
     {
-        match (axis, dest) {
-            (Axis::FeedBelt, Station::FeedEnd) => first_true(&[
-                self.not_going(axis, Pose::ToEnd),
-                self.plate_not_at(Station::FeedIn, plate),
+        match motion_to(axis, dest) {
+            Some(motion) => first_true(&[
+                self.not_going(axis, motion.to),
+                self.plate_not_at(motion.from, plate),
             ]),
-            (Axis::FeedBelt, Station::Table) => first_true(&[
-                self.not_going(axis, Pose::ToTable),
-                self.plate_not_at(Station::FeedEnd, plate),
-            ]),
-            (Axis::DepositBelt, Station::DepEnd) => first_true(&[
-                self.not_going(axis, Pose::ToEnd),
-                self.plate_not_at(Station::DepIn, plate),
-            ]),
-            _ => Some(Refusal::WrongPose(axis)),
+            None => Some(Refusal::WrongPose(axis)),
         }
     }
 
     pub fn forged_tests(&self, machine: Machine, plate: PlateId) -> Option<Refusal>
         ensures { result ≡ first_true (forged_tests (told self.now) machine plate) }
     {
-        match machine {
-            Machine::Press1 => first_true(&[
-                self.not_going(Axis::PressOne, Pose::Top),
-                self.plate_not_at(Station::Press1, plate),
+        match press_of(machine) {
+            Some(press) => first_true(&[
+                self.not_going(press.axis, Pose::Top),
+                self.plate_not_at(press.station, plate),
             ]),
-            Machine::Press2 => first_true(&[
-                self.not_going(Axis::PressTwo, Pose::Top),
-                self.plate_not_at(Station::Press2, plate),
-            ]),
-            _ => Some(Refusal::NoPress),
+            None => Some(Refusal::NoPress),
+        }
+    }
+
+    /// What an arm faces while the turn is at rest.
+    pub fn facing(&self, arm: Arm) -> Option<Facing>
+        ensures { option_map faced_of result ≡ faces (told self.now) arm }
+    {
+        if self.is_moving(Axis::RobotTurn) {
+            None
+        } else {
+            faced(arm, self.at(Axis::RobotTurn))
         }
     }
 
@@ -85,19 +91,10 @@ impl Registers {
     fn is_facing(&self, arm: Arm, station: Station) -> bool
         ensures { result ≡ is_faced station (faces (told self.now) arm) }
     {
-        if self.is_moving(Axis::RobotTurn) {
-            return false;
+        match self.facing(arm) {
+            Some(facing) => facing.station == station,
+            None => false,
         }
-        let faced = match (arm, self.at(Axis::RobotTurn)) {
-            (Arm::Arm1, Pose::Table1) => Station::Table,
-            (Arm::Arm1, Pose::P1Load) => Station::Press1,
-            (Arm::Arm1, Pose::P2Load) => Station::Press2,
-            (Arm::Arm2, Pose::P1Unload) => Station::Press1,
-            (Arm::Arm2, Pose::P2Unload) => Station::Press2,
-            (Arm::Arm2, Pose::Deposit2) => Station::DepIn,
-            _ => return false,
-        };
-        faced == station
     }
 
     /// The tests of a grip or a drop at a station, from one station to another.
@@ -124,17 +121,17 @@ impl Registers {
         ])
     }
 
-    #[tactic(auto, unfolding(crate::specs::First::any_visited))]
+    #[tactic(auto, unfolding(crate::specs::First::first_true, crate::specs::First::any_visited))]
     fn any_visited(&self, machine: Machine) -> Option<Refusal>
         ensures { result ≡ first_true (any_visited (told self.now) machine) }
     {
-        first_true(&[
-            self.visited(machine, Zone::Z1),
-            self.visited(machine, Zone::Z2),
-            self.visited(machine, Zone::Z3),
-            self.visited(machine, Zone::Z4),
-            self.visited(machine, Zone::Z5),
-        ])
+        for zone in ZONES {
+            let test = self.visited(machine, zone);
+            if test.0 {
+                return Some(test.1);
+            }
+        }
+        None
     }
 
     #[tactic(auto, unfolding(crate::specs::First::any_still_there))]
@@ -176,22 +173,20 @@ impl Registers {
     fn gripped_tests(&self, arm: Arm, plate: PlateId, src: Station) -> Option<Refusal>
         ensures { result ≡ first_true (neighbour_tests (grips_at arm src) (handing_tests (told self.now) arm src src (station_of_arm arm) plate)) }
     {
-        match (arm, src) {
-            (Arm::Arm1, Station::Table) | (Arm::Arm2, Station::Press1 | Station::Press2) => {
-                self.handing_tests(arm, src, src, station_of_arm(arm), plate)
-            }
-            _ => Some(Refusal::NotNeighbour),
+        if grips_at(arm, src) {
+            self.handing_tests(arm, src, src, station_of_arm(arm), plate)
+        } else {
+            Some(Refusal::NotNeighbour)
         }
     }
 
     fn dropped_tests(&self, arm: Arm, plate: PlateId, dest: Station) -> Option<Refusal>
         ensures { result ≡ first_true (neighbour_tests (drops_at arm dest) (handing_tests (told self.now) arm dest (station_of_arm arm) dest plate)) }
     {
-        match (arm, dest) {
-            (Arm::Arm1, Station::Press1 | Station::Press2) | (Arm::Arm2, Station::DepIn) => {
-                self.handing_tests(arm, dest, station_of_arm(arm), dest, plate)
-            }
-            _ => Some(Refusal::NotNeighbour),
+        if drops_at(arm, dest) {
+            self.handing_tests(arm, dest, station_of_arm(arm), dest, plate)
+        } else {
+            Some(Refusal::NotNeighbour)
         }
     }
 }

@@ -1,0 +1,7 @@
+use Rattle.std.proofs.Common.{◌≡◌, drop}
+use Rattle.plate_book.specs.Recorded.{told}
+use Rattle.plate_book.specs.First.{first_true, all_resting}
+use Rattle.plate_book.proofs.registers.Registers.not_all_resting.Given as goal
+
+abbrev pub invariant-loop-rest : goal.invariant-loop-rest
+invariant-loop-rest l = first_true (all_resting (told l.self) (drop l.rest-index l.rests)) ≡ first_true (all_resting (told l.self) l.rests)
