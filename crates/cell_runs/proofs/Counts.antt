@@ -1,5 +1,5 @@
 -- The lines of a run, in the pieces in which they are written.
-use Rattle.std.proofs.Common.{◌≡◌, List, ℕ, [], ◌∷◌, ◌++◌, append_assoc, refl}
+use Rattle.std.proofs.Common.{◌≡◌, List, ℕ, [], ◌∷◌, ◌++◌, append_assoc}
 use Rattle.std.specs.Prelude.{codes, decimal}
 use Rattle.cell_types.specs.declared.words.Totals.{Totals}
 use Rattle.cell_workers.specs.declared.ends.End.{End}
