@@ -11,7 +11,7 @@ use Rattle.cell_types.specs.Entries.{machine_of_entry, actor_or_operator, actor_
 use Rattle.plate_book.specs.declared.limits.Limits.{Limits}
 use Rattle.plate_book.specs.declared.refusal.Refusal.{Refusal}
 use Rattle.plate_book.specs.declared.refusal.Refusal.TheVariants.{JournalFull}
-use Rattle.plate_book.specs.Telling.{first_of}
+use Rattle.plate_book.specs.Rules.Legal.{first_of}
 use Rattle.cell_views.specs.Told.{Cell, cell_of}
 use Rattle.cell_machines.specs.Room.{is_bookable, is_none_or_full}
 use Rattle.cell_machines.specs.Useful.{wants, is_useful_now, is_useful, is_lamp}

@@ -11,7 +11,7 @@ use Rattle.cell_types.specs.declared.words.Entry.TheVariants.{Lamp, Claimed, Yie
 use Rattle.cell_types.specs.Same.{same_colour}
 use Rattle.cell_views.specs.Told.{Cell}
 use Rattle.plate_book.specs.declared.limits.Limits.{Limits}
-use Rattle.plate_book.specs.First.{rests_at}
+use Rattle.plate_book.specs.Rules.First.{rests_at}
 use Rattle.cell_policy.specs.Reads.{is_at_rest}
 use Rattle.cell_policy.specs.Lights.{feed_light}
 use Rattle.cell_machines.specs.Room.{is_refused_otherwise}

@@ -14,7 +14,7 @@ use Rattle.cell_types.specs.declared.words.Arm.{Arm}
 use Rattle.cell_types.specs.declared.words.Arm.TheVariants as arm
 use Rattle.cell_types.specs.After.{is_machine}
 use Rattle.cell_views.specs.Told.{Cell}
-use Rattle.plate_book.specs.First.{rests_at}
+use Rattle.plate_book.specs.Rules.First.{rests_at}
 use Rattle.cell_policy.specs.Reads.{is_at_rest}
 use Rattle.cell_policy.specs.Router.{press_chosen}
 use Rattle.cell_machines.specs.Presses.{is_waiting, is_done}

@@ -10,7 +10,7 @@ use Rattle.cell_types.specs.declared.words.Zone.TheVariants as zone
 use Rattle.cell_types.specs.declared.words.Entry.{Entry}
 use Rattle.cell_types.specs.declared.words.Entry.TheVariants.{Claimed, Yielded, Started}
 use Rattle.cell_views.specs.Told.{Cell}
-use Rattle.plate_book.specs.First.{rests_at}
+use Rattle.plate_book.specs.Rules.First.{rests_at}
 
 -- in the middle with a plate to forge
 abbrev pub is_loaded : Cell → Axis → Station → Bool

@@ -16,7 +16,7 @@ use Rattle.cell_types.specs.Cell.{station_of_arm, grips_at, drops_at}
 use Rattle.cell_types.specs.After.{is_plate}
 use Rattle.cell_views.specs.Told.{Cell}
 use Rattle.plate_book.specs.declared.limits.Limits.{Limits}
-use Rattle.plate_book.specs.First.{rests_at, faces, is_faced}
+use Rattle.plate_book.specs.Rules.First.{rests_at, faces, is_faced}
 use Rattle.cell_policy.specs.Reads.{is_at_rest}
 use Rattle.cell_machines.specs.Room.{is_bookable}
 use Rattle.cell_machines.specs.Jobs.{has_job, has_job_in, is_to_enter, is_robots, holds_zone_at, works_at}

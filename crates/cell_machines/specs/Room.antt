@@ -6,7 +6,7 @@ use Rattle.cell_views.specs.Told.{Cell}
 use Rattle.plate_book.specs.declared.limits.Limits.{Limits}
 use Rattle.plate_book.specs.declared.refusal.Refusal.{Refusal}
 use Rattle.plate_book.specs.declared.refusal.Refusal.TheVariants.{JournalFull}
-use Rattle.plate_book.specs.First.{first, tests}
+use Rattle.plate_book.specs.Rules.First.{first, tests}
 
 abbrev pub is_none_or_full : Option Refusal → Bool
 is_none_or_full None = true

@@ -13,7 +13,7 @@ ghost use Rattle.cell_types.specs.Cell.{axis_of_arm};
 ghost use Rattle.cell_types.specs.Entries.{actor_of};
 ghost use Rattle.plate_book.specs.declared.limits.Limits.{Limits};
 ghost use Rattle.plate_book.specs.declared.refusal.Refusal.TheVariants.{JournalFull};
-ghost use Rattle.plate_book.specs.Telling.{first_of};
+ghost use Rattle.plate_book.specs.Rules.Legal.{first_of};
 ghost use Rattle.cell_machines.specs.Useful.{is_useful, is_lamp};
 
 /// A useful entry is the machine's own.

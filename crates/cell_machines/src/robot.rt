@@ -8,7 +8,7 @@ ghost use Rattle.cell_types.specs.declared.words.Axis.TheVariants as axes;
 ghost use Rattle.cell_types.specs.declared.words.Arm.TheVariants as arms;
 ghost use Rattle.cell_views.specs.Views.{plate_of};
 ghost use Rattle.cell_views.specs.Told.{cell_of};
-ghost use Rattle.plate_book.specs.First.{is_faced, faces};
+ghost use Rattle.plate_book.specs.Rules.First.{is_faced, faces};
 ghost use Rattle.cell_machines.specs.Jobs.{has_job, has_job_in, is_to_enter, is_robots, holds_zone_at};
 ghost use Rattle.cell_machines.specs.Robot.{is_out, is_out_at, of_plate, handings, has_handing, is_to_draw_in, is_drawn_in, holds_a_zone, is_at_job};
 ghost use Rattle.cell_machines.specs.Candidates.{first_bookable, handing_row, robot_row, arms_in, yields, arms_out, turns, claims, unloads, candidates};

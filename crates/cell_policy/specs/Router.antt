@@ -12,7 +12,7 @@ use Rattle.cell_types.specs.declared.words.Zone.TheVariants as zone
 use Rattle.cell_types.specs.Same.{machine_number}
 use Rattle.cell_types.specs.After.{is_machine}
 use Rattle.cell_views.specs.Told.{Cell}
-use Rattle.plate_book.specs.First.{rests_at}
+use Rattle.plate_book.specs.Rules.First.{rests_at}
 
 -- a press that takes a plate: healthy, empty, at rest in Middle, and not holding its own zone
 abbrev pub is_ready : Cell → Machine → Axis → Zone → Station → Bool

@@ -3,7 +3,7 @@ ghost use Rattle.std.specs.Prelude.{◌≡◌};
 ghost use Rattle.cell_types.specs.After.{is_machine};
 ghost use Rattle.cell_views.specs.Views.{is_occupied};
 ghost use Rattle.cell_views.specs.Told.{cell_of};
-ghost use Rattle.plate_book.specs.First.{rests_at};
+ghost use Rattle.plate_book.specs.Rules.First.{rests_at};
 ghost use Rattle.cell_policy.specs.Reads.{is_at_rest};
 
 use cell_types::{Axis, Machine, Pose, Station, Zone};

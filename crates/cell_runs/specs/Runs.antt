@@ -5,7 +5,7 @@ use Rattle.cell_types.specs.declared.words.Entry.{Entry}
 use Rattle.cell_types.specs.declared.words.Totals.{Totals}
 use Rattle.cell_views.specs.Views.{count_of}
 use Rattle.plate_book.specs.declared.limits.Limits.{Limits}
-use Rattle.plate_book.specs.Legal.{legal}
+use Rattle.plate_book.specs.Rules.Legal.{legal}
 use Rattle.cell_turns.specs.declared.plan.Plan.{Plan}
 use Rattle.cell_workers.specs.Ends.{IsDone}
 use Rattle.cell_workers.specs.Report.{IsReport}

@@ -1,7 +1,7 @@
 -- Schedules, one after another
 use Rattle.std.proofs.Common.{◌≡◌, ℕ, ◌+◌, List, [], ◌∷◌, ◌++◌, Bool, true, refl, sym, ap, subst, ◌∙◌, append_assoc, append-nil, add-zero, add_assoc}
 use Rattle.plate_book.specs.declared.limits.Limits.{Limits}
-use Rattle.plate_book.specs.History.{History}
+use Rattle.plate_book.specs.Rules.History.{History}
 use Rattle.cell_turns.specs.declared.plan.Plan.{Plan}
 use Rattle.cell_turns.specs.declared.schedule.Step.{Step}
 use Rattle.cell_turns.specs.declared.schedule.Step.TheVariants.{Turn, Hand}

@@ -29,9 +29,9 @@ use Rattle.cell_views.specs.Told.{Cell, cell_of}
 use Rattle.plate_book.specs.declared.limits.Limits.{Limits}
 use Rattle.plate_book.specs.declared.refusal.Refusal.{Refusal}
 use Rattle.plate_book.specs.declared.refusal.Refusal.TheVariants.{JournalFull, PlateLimit, OutOfMemory}
-use Rattle.plate_book.specs.First.{first_true, is_pose, ends_by_arrival, conveyed_tests}
-use Rattle.plate_book.specs.Bridged.{IsTold}
-use Rattle.plate_book.specs.Telling.{first_of}
+use Rattle.plate_book.specs.Rules.First.{first_true, is_pose, ends_by_arrival, conveyed_tests}
+use Rattle.plate_book.specs.Rules.Bridged.{IsTold}
+use Rattle.plate_book.specs.Rules.Legal.{first_of}
 use Rattle.cell_diagnosis.specs.declared.motion.Motion.{Motion}
 use Rattle.cell_diagnosis.specs.declared.verdict.Verdict.{Verdict}
 use Rattle.cell_diagnosis.specs.declared.verdict.Verdict.TheVariants.{Pending, Arrived, Fault}

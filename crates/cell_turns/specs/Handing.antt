@@ -4,7 +4,7 @@ use Rattle.cell_types.specs.declared.words.Actor.TheVariants as actor
 use Rattle.cell_types.specs.declared.words.Entry.{Entry}
 use Rattle.cell_types.specs.Entries.{actor_of}
 use Rattle.plate_book.specs.declared.limits.Limits.{Limits}
-use Rattle.plate_book.specs.Telling.{first_of}
+use Rattle.plate_book.specs.Rules.Legal.{first_of}
 use Rattle.cell_turns.specs.declared.schedule.Handed.{Handed}
 use Rattle.cell_turns.specs.declared.schedule.Handed.TheVariants.{Spared, Failed, Booked}
 use Rattle.cell_turns.specs.Logs.{ActLog, after_hand}

@@ -11,8 +11,8 @@ use Rattle.cell_views.specs.Views.{is_failed, is_asked, is_admitted, is_quaranti
 use Rattle.plate_book.specs.declared.limits.Limits.{Limits}
 use Rattle.plate_book.specs.declared.refusal.Refusal.{Refusal}
 use Rattle.plate_book.specs.declared.refusal.Refusal.TheVariants.{JournalFull, PlateLimit, OutOfMemory}
-use Rattle.plate_book.specs.History.{History}
-use Rattle.plate_book.specs.Telling.{first_of}
+use Rattle.plate_book.specs.Rules.History.{History}
+use Rattle.plate_book.specs.Rules.Legal.{first_of}
 use Rattle.cell_ledger.specs.Counts.{plus}
 use Rattle.cell_ledger.specs.Held.{Held, held}
 use Rattle.cell_diagnosis.specs.declared.reading.Reading.{Reading}

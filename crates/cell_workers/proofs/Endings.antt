@@ -18,8 +18,8 @@ use Rattle.cell_types.specs.Cell.{machine_of_axis}
 use Rattle.cell_types.specs.Same.{same_axis, same_machine}
 use Rattle.cell_views.specs.Last.{last_some, when}
 use Rattle.cell_views.specs.Views.{sends, rests, going_of, is_failed, fails, is_at, placed, is_occupied, plate_of}
-use Rattle.plate_book.specs.Safety.{IsSafe, SafeEntry, IsSafeMove}
-use Rattle.plate_book.specs.Carrying.{IsCarrying}
+use Rattle.plate_book.specs.Rules.Safety.{IsSafe, SafeEntry, IsSafeMove}
+use Rattle.plate_book.specs.Rules.Carrying.{IsCarrying}
 use Rattle.plate_book.proofs.Safe.Facts.{axis_same}
 use Rattle.plate_book.proofs.Safe.Views.{view_snoc}
 use Rattle.cell_turns.specs.Rulings.{ending}

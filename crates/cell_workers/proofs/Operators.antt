@@ -7,9 +7,8 @@ use Rattle.operator_desk.specs.declared.action.Action.{Action}
 use Rattle.operator_desk.specs.declared.action.Action.TheVariants as action
 use Rattle.operator_desk.specs.declared.line.Line.{Line}
 use Rattle.operator_desk.specs.Next.{entry_of, holds, action_of, action_now, if_allowed, next_of}
-use Rattle.plate_book.specs.History.{History}
-use Rattle.plate_book.specs.Legal.{allowed}
-use Rattle.plate_book.specs.Telling.{first_of}
+use Rattle.plate_book.specs.Rules.History.{History}
+use Rattle.plate_book.specs.Rules.Legal.{allowed, first_of}
 use Rattle.plate_book.specs.declared.refusal.Refusal.{Refusal}
 use Rattle.std.specs.Option.{option_and_then}
 use Rattle.cell_turns.specs.declared.port.Act.{Act}

@@ -17,7 +17,7 @@ use Rattle.cell_types.specs.declared.words.Entry.TheVariants.{Lamp, Admitted, Co
 use Rattle.cell_types.specs.Entries.{actor_of}
 use Rattle.cell_views.specs.Views.{plate_of, is_failed, is_asked, is_admitted}
 use Rattle.plate_book.specs.declared.limits.Limits.{Limits}
-use Rattle.plate_book.specs.History.{History}
+use Rattle.plate_book.specs.Rules.History.{History}
 use Rattle.cell_machines.specs.Useful.{is_useful, is_lamp}
 use Rattle.cell_machines.proofs.Own.{useful_own, plan_law}
 use Rattle.cell_diagnosis.specs.declared.motion.Motion.{Motion}

@@ -11,8 +11,8 @@ use Rattle.cell_types.specs.declared.words.Entry.{Entry}
 use Rattle.cell_types.specs.Entries.{actor_of}
 use Rattle.cell_views.specs.Views.{count_of}
 use Rattle.plate_book.specs.declared.limits.Limits.{Limits}
-use Rattle.plate_book.specs.Safety.{IsSafe}
-use Rattle.plate_book.specs.Carrying.{IsCarrying}
+use Rattle.plate_book.specs.Rules.Safety.{IsSafe}
+use Rattle.plate_book.specs.Rules.Carrying.{IsCarrying}
 use Rattle.cell_ledger.specs.Counts.{plus}
 use Rattle.cell_ledger.specs.Held.{Held, held}
 use Rattle.cell_diagnosis.specs.declared.reading.Reading.{Reading}

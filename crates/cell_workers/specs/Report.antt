@@ -7,8 +7,8 @@ use Rattle.cell_types.specs.declared.words.Entry.{Entry}
 use Rattle.cell_types.specs.declared.words.Totals.{Totals}
 use Rattle.cell_views.specs.Views.{count_of}
 use Rattle.plate_book.specs.declared.limits.Limits.{Limits}
-use Rattle.plate_book.specs.Legal.{legal}
-use Rattle.plate_book.specs.Safety.{IsSafe}
+use Rattle.plate_book.specs.Rules.Legal.{legal}
+use Rattle.plate_book.specs.Rules.Safety.{IsSafe}
 use Rattle.cell_ledger.specs.Counts.{nothing, plus}
 use Rattle.cell_turns.specs.Schedules.{entries_of}
 use Rattle.cell_workers.specs.Standing.{all_called_for}

@@ -3,7 +3,7 @@ ghost use Rattle.std.specs.Prelude.{◌≡◌, ◌≢◌, ◌++◌, ◌∷◌, [
 ghost use Rattle.cell_types.specs.Entries.{actor_of};
 ghost use Rattle.cell_types.specs.declared.words.Actor.TheVariants as actors;
 ghost use Rattle.cell_views.specs.Views.{count_of};
-ghost use Rattle.plate_book.specs.Telling.{first_of};
+ghost use Rattle.plate_book.specs.Rules.Legal.{first_of};
 ghost use Rattle.cell_ledger.specs.Counts.{plus, count_one};
 ghost use Rattle.cell_ledger.specs.Held.{Held, held};
 ghost use Rattle.cell_turns.specs.Logs.{ActLog, after_hand};

@@ -4,8 +4,8 @@ use Rattle.std.specs.Option.{option_and_then}
 use Rattle.cell_types.specs.declared.words.Entry.{Entry}
 use Rattle.cell_types.specs.declared.words.Entry.TheVariants.{StopAsked, Quarantined, Repaired}
 use Rattle.cell_views.specs.Views.{count_of, is_failed, plate_of}
-use Rattle.plate_book.specs.History.{History}
-use Rattle.plate_book.specs.Legal.{allowed}
+use Rattle.plate_book.specs.Rules.History.{History}
+use Rattle.plate_book.specs.Rules.Legal.{allowed}
 use Rattle.operator_desk.specs.declared.action.Action.{Action}
 use Rattle.operator_desk.specs.declared.action.Action.TheVariants as action
 use Rattle.operator_desk.specs.declared.line.Line.{Line}

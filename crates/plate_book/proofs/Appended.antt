@@ -3,7 +3,7 @@ use Rattle.std.proofs.Common.{◌≡◌, Bool, true, false, Option, Some, List, 
 use Rattle.std.specs.Prelude.{if◌then◌else◌}
 use Rattle.std.specs.Option.{option_or}
 use Rattle.plate_book.specs.declared.refusal.Refusal.{Refusal}
-use Rattle.plate_book.specs.First.{first_true}
+use Rattle.plate_book.specs.Rules.First.{first_true}
 
 or_first : (b : Bool) (r : Refusal) (x y : Option Refusal) → option_or (if b then Some r else x) y ≡ (if b then Some r else option_or x y)
 or_first true r x y = refl

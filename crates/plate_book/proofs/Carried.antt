@@ -16,10 +16,10 @@ use Rattle.cell_types.specs.After.{State, opening, after, without, with_plate, i
 use Rattle.cell_views.specs.Told.{Cell}
 use Rattle.cell_views.specs.Views.{place_of, is_occupied}
 use Rattle.plate_book.specs.declared.limits.Limits.{Limits}
-use Rattle.plate_book.specs.First.{tests, started_tests, any_visited, station_empty, other_plate_at}
-use Rattle.plate_book.specs.ToldBy.{told_by}
-use Rattle.plate_book.specs.Legal.{legal}
-use Rattle.plate_book.specs.Carrying.{carries_from, IsCarrying}
+use Rattle.plate_book.specs.Rules.First.{tests, started_tests, any_visited, station_empty, other_plate_at}
+use Rattle.plate_book.specs.Rules.ToldBy.{told_by}
+use Rattle.plate_book.specs.Rules.Legal.{legal}
+use Rattle.plate_book.specs.Rules.Carrying.{carries_from, IsCarrying}
 use Rattle.plate_book.proofs.Safe.Facts.{axis_same, machine_same, pose_same, not_false, Passed, passed_last, axes_of, rest, occupied, no_other, plate_at}
 use Rattle.plate_book.proofs.Safe.Motion.{Unload1, Unload2}
 use Rattle.plate_book.proofs.Safe.Plates.{without_is}

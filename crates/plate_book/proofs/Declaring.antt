@@ -12,9 +12,8 @@ use Rattle.cell_types.specs.Same.{same_machine}
 use Rattle.cell_views.specs.Views.{fails, is_failed, is_quarantined}
 use Rattle.cell_views.specs.Told.{cell_of}
 use Rattle.plate_book.specs.declared.limits.Limits.{Limits}
-use Rattle.plate_book.specs.First.{first, first_true, tests}
-use Rattle.plate_book.specs.Legal.{legal, DeclaresHealthy}
-use Rattle.plate_book.specs.Telling.{first_of}
+use Rattle.plate_book.specs.Rules.First.{first, first_true, tests}
+use Rattle.plate_book.specs.Rules.Legal.{legal, DeclaresHealthy, first_of}
 use Rattle.plate_book.proofs.Safe.Facts.{none_refused, is_none_tells}
 use Rattle.plate_book.proofs.Safe.Views.{view_snoc}
 use Rattle.plate_book.proofs.Safe.Bridge.{along}

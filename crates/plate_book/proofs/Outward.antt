@@ -2,7 +2,7 @@
 use Rattle.std.proofs.Common.{◌≡◌, Bool, Option, List, [], ◌∷◌, ◌++◌, refl, append_assoc}
 use Rattle.std.specs.Option.{option_or}
 use Rattle.plate_book.specs.declared.refusal.Refusal.{Refusal}
-use Rattle.plate_book.specs.First.{first_true}
+use Rattle.plate_book.specs.Rules.First.{first_true}
 use Rattle.plate_book.proofs.Appended.{first_true_append}
 
 pub outward_law : (o n h : Bool × Refusal) (before after : List (Bool × Refusal)) → option_or (first_true (o ∷ [])) (option_or (first_true before) (option_or (first_true (n ∷ [])) (option_or (first_true after) (first_true (h ∷ [])))))

@@ -14,8 +14,8 @@ use Rattle.cell_views.specs.Last.{when}
 use Rattle.cell_views.specs.Told.{cell_of}
 use Rattle.cell_views.specs.Views.{Placing, placing, puts, place_of, source, start_of, is_admitted}
 use Rattle.plate_book.specs.declared.limits.Limits.{Limits}
-use Rattle.plate_book.specs.First.{first, tests}
-use Rattle.plate_book.specs.Legal.{allowed, legal}
+use Rattle.plate_book.specs.Rules.First.{first, tests}
+use Rattle.plate_book.specs.Rules.Legal.{allowed, legal}
 use Rattle.plate_book.proofs.Safe.Facts.{none_refused, is_none_tells}
 use Rattle.plate_book.proofs.Safe.Views.{view_snoc, count_snoc}
 use Rattle.plate_book.proofs.Safe.Bridge.{Good, good_when_legal, along}

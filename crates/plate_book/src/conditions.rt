@@ -1,7 +1,7 @@
 //! The tests, each with its refusal, in the words of the table.
 ghost use Rattle.std.specs.Prelude.{◌≡◌};
-ghost use Rattle.plate_book.specs.Recorded.{told};
-ghost use Rattle.plate_book.specs.First.{not_at_rest, not_resting_at, cannot_go, not_going, zone_taken, not_holder, station_empty, station_full, plate_not_at, other_plate_at, lamp_red, lamp_already, visited, still_there, journal_full, plate_limit, machine_failed, machine_healthy, owner_failed, visits_failed, no_neighbour, wrong_number, ends_by_arrival, no_arrival};
+ghost use Rattle.plate_book.specs.Records.Recorded.{told};
+ghost use Rattle.plate_book.specs.Rules.First.{not_at_rest, not_resting_at, cannot_go, not_going, zone_taken, not_holder, station_empty, station_full, plate_not_at, other_plate_at, lamp_red, lamp_already, visited, still_there, journal_full, plate_limit, machine_failed, machine_healthy, owner_failed, visits_failed, no_neighbour, wrong_number, ends_by_arrival, no_arrival};
 
 use crate::registers::Registers;
 use crate::{Limits, Refusal};

@@ -10,14 +10,13 @@ ghost use Rattle.cell_views.specs.Views.{is_failed};
 ghost use Rattle.cell_views.specs.Told.{Cell};
 ghost use Rattle.plate_book.specs.declared.limits.Limits.{Limits};
 ghost use Rattle.plate_book.specs.declared.refusal.Refusal.{Refusal};
-ghost use Rattle.plate_book.specs.First.{first, tests};
-ghost use Rattle.plate_book.specs.Numbers.{refusal_number, ascends_from};
-ghost use Rattle.plate_book.specs.Telling.{first_of};
-ghost use Rattle.plate_book.specs.Legal.{legal};
-ghost use Rattle.plate_book.specs.Safety.{IsSafe};
-ghost use Rattle.plate_book.specs.Invariants.{IsKept};
-ghost use Rattle.plate_book.specs.Bridged.{IsTold};
-ghost use Rattle.plate_book.specs.Carrying.{IsCarrying};
+ghost use Rattle.plate_book.specs.Rules.First.{first, tests};
+ghost use Rattle.plate_book.specs.Rules.Numbers.{refusal_number, ascends_from};
+ghost use Rattle.plate_book.specs.Rules.Legal.{first_of, legal};
+ghost use Rattle.plate_book.specs.Rules.Safety.{IsSafe};
+ghost use Rattle.plate_book.specs.Rules.Invariants.{IsKept};
+ghost use Rattle.plate_book.specs.Rules.Bridged.{IsTold};
+ghost use Rattle.plate_book.specs.Rules.Carrying.{IsCarrying};
 
 /// What a legal journal tells is what its entries' effects leave.
 #[tactic(auto, using(crate::proofs::Safe::Told::told_when_legal))]

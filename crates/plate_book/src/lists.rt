@@ -2,8 +2,8 @@
 ghost use Rattle.std.specs.Prelude.{ℕ, ◌≡◌, ◌≤◌, ◌<◌, ◌==◌, ◌&&◌, nat_le, true, length, OnOk, OnErr, IfErr, vec_capacity};
 ghost use Rattle.cell_types.specs.After.{with_at};
 ghost use Rattle.cell_views.specs.Views.{placing, is_quarantined};
-ghost use Rattle.plate_book.specs.Booked.{placed_by, delivered_by, cleared_by};
-ghost use Rattle.plate_book.specs.Placed.{place_in};
+ghost use Rattle.plate_book.specs.Records.Booked.{placed_by, delivered_by, cleared_by};
+ghost use Rattle.plate_book.specs.Records.Placed.{place_in};
 
 use crate::Refusal;
 use cell_types::{Entry, Place, PlateId, Station, station_of_arm};

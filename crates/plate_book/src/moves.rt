@@ -1,8 +1,8 @@
 //! The tests of entries that start a motion.
 ghost use Rattle.std.specs.Prelude.{◌≡◌, Some};
 ghost use Rattle.cell_types.specs.Cell.{axis_of_arm, faced_of};
-ghost use Rattle.plate_book.specs.Recorded.{told};
-ghost use Rattle.plate_book.specs.First.{first_true, feed_belt_tests, deposit_belt_tests, press_tests, lamp_tests, arm_tests, outward_tests, faces, started_tests, all_resting};
+ghost use Rattle.plate_book.specs.Records.Recorded.{told};
+ghost use Rattle.plate_book.specs.Rules.First.{first_true, feed_belt_tests, deposit_belt_tests, press_tests, lamp_tests, arm_tests, outward_tests, faces, started_tests, all_resting};
 
 use crate::Refusal;
 use crate::checks::first_true;
@@ -12,7 +12,7 @@ use cell_types::{
     axis_of_arm,
 };
 
-#[tactic(auto, unfolding(crate::specs::First::first_true))]
+#[tactic(auto, unfolding(crate::specs::Rules::First::first_true))]
 impl Registers {
     pub fn lamp_tests(&self, belt: Belt, colour: Colour) -> Option<Refusal>
         ensures { result ≡ first_true (lamp_tests (told self.now) belt colour) }

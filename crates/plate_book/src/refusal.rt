@@ -47,7 +47,7 @@ pub enum Refusal {
 impl Refusal {
     ghost use Rattle.std.specs.Prelude.{◌≡◌};
     ghost use Rattle.std.specs.Option.{option_copied};
-    ghost use Rattle.plate_book.specs.Words.{refusal_name, refusal_word};
+    ghost use Rattle.plate_book.specs.Rules.Words.{refusal_name, refusal_word};
 
     /// The refusal's name, as it is printed.
     pub fn name(&self) -> &'static str
@@ -97,7 +97,7 @@ impl Refusal {
 
 impl fmt::Display for Refusal {
     ghost use Rattle.std.specs.Prelude.{Some};
-    ghost use Rattle.plate_book.specs.Words.{refusal_text};
+    ghost use Rattle.plate_book.specs.Rules.Words.{refusal_text};
 
     ghost output = { λ why. Some (refusal_text why) };
 

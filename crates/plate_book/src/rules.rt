@@ -1,9 +1,9 @@
 //! The tests of the other entries, and of every entry.
 ghost use Rattle.std.specs.Prelude.{◌≡◌, ◌+◌, ◌^◌, ◌<◌, ◌≤◌, ◌∷◌, [], ◌++◌, map, option_map};
-ghost use Rattle.plate_book.specs.Recorded.{told};
+ghost use Rattle.plate_book.specs.Records.Recorded.{told};
 ghost use Rattle.cell_types.specs.Cell.{motion_to, machine_of_station, station_of_arm, faced_of, grips_at, drops_at};
 ghost use Rattle.cell_types.specs.declared.words.Entry.TheVariants.{Admitted, Quarantined, Repaired};
-ghost use Rattle.plate_book.specs.First.{first_true, claimed_tests, parked_tests, conveyed_tests, forged_tests, handing_tests, any_visited, any_still_there, first, is_faced, faces, journal_full, machine_failed, not_holder, neighbour_tests, not_at_rest};
+ghost use Rattle.plate_book.specs.Rules.First.{first_true, claimed_tests, parked_tests, conveyed_tests, forged_tests, handing_tests, any_visited, any_still_there, first, is_faced, faces, journal_full, machine_failed, not_holder, neighbour_tests, not_at_rest};
 
 use crate::checks::first_true;
 use crate::conditions::no_neighbour;
@@ -15,7 +15,7 @@ use cell_types::{
     motion_to, press_of, station_of_arm,
 };
 
-#[tactic(auto, unfolding(crate::specs::First::first_true))]
+#[tactic(auto, unfolding(crate::specs::Rules::First::first_true))]
 impl Registers {
     pub fn claimed_tests(&self, machine: Machine, zone: Zone) -> Option<Refusal>
         ensures { result ≡ first_true (claimed_tests (told self.now) machine zone) }
@@ -121,7 +121,7 @@ impl Registers {
         ])
     }
 
-    #[tactic(auto, unfolding(crate::specs::First::first_true, crate::specs::First::any_visited))]
+    #[tactic(auto, unfolding(crate::specs::Rules::First::first_true, crate::specs::Rules::First::any_visited))]
     fn any_visited(&self, machine: Machine) -> Option<Refusal>
         ensures { result ≡ first_true (any_visited (told self.now) machine) }
     {
@@ -134,7 +134,7 @@ impl Registers {
         None
     }
 
-    #[tactic(auto, unfolding(crate::specs::First::any_still_there))]
+    #[tactic(auto, unfolding(crate::specs::Rules::First::any_still_there))]
     fn any_still_there(&self, machine: Machine) -> Option<Refusal>
         ensures { result ≡ first_true (any_still_there (told self.now) machine) }
     {

@@ -2,7 +2,7 @@
 ghost use Rattle.std.specs.Prelude.{ℕ, ◌≡◌, ◌+◌, ◌<◌, ◌^◌, if◌then◌else◌, slice_index_or};
 ghost use Rattle.cell_types.specs.declared.words.Zone.{Zone};
 ghost use Rattle.cell_types.specs.Same.{zone_number};
-ghost use Rattle.plate_book.specs.Claims.{is_visit};
+ghost use Rattle.plate_book.specs.Rules.Claims.{is_visit};
 
 use cell_types::{Entry, visitor};
 

@@ -1,7 +1,7 @@
 //! The fourth step of a turn: the entry of what was decided is booked and listed.
 ghost use Rattle.std.specs.Prelude.{◌≡◌, ◌<◌, ◌++◌, None, IfOk, IfErr, IfSome, OnOk, OnErr, option_to_list, vec_len, vec_capacity};
 ghost use Rattle.cell_views.specs.Views.{count_of};
-ghost use Rattle.plate_book.specs.Telling.{first_of};
+ghost use Rattle.plate_book.specs.Rules.Legal.{first_of};
 ghost use Rattle.cell_ledger.specs.Counts.{plus};
 ghost use Rattle.cell_ledger.specs.Held.{held};
 ghost use Rattle.cell_turns.specs.Turns.{IsRuled, IsUnbooked};

@@ -10,9 +10,9 @@ use Rattle.cell_types.specs.declared.words.Colour.{Colour}
 use Rattle.cell_types.specs.declared.words.AxisState.{AxisState}
 use Rattle.cell_types.specs.Same.{same_machine, same_station, same_axis, same_pose, same_zone, same_belt, same_colour, machine_number, station_number, axis_number, pose_number, zone_number, belt_number, colour_number}
 use Rattle.plate_book.specs.declared.refusal.Refusal.{Refusal}
-use Rattle.plate_book.specs.First.{first_true, is_pose, rests_at}
+use Rattle.plate_book.specs.Rules.First.{first_true, is_pose, rests_at}
 use Rattle.cell_types.specs.After.{is_machine, State, is_plate}
-use Rattle.plate_book.specs.ToldBy.{told_by}
+use Rattle.plate_book.specs.Rules.ToldBy.{told_by}
 
 -- words with one number are one word
 all_machine : List Machine

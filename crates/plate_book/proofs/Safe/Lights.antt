@@ -11,9 +11,9 @@ use Rattle.cell_types.specs.declared.words.Entry.{Entry}
 use Rattle.cell_types.specs.Same.{same_machine, same_station, same_axis, same_belt}
 use Rattle.cell_types.specs.Cell.{machine_of_belt}
 use Rattle.plate_book.specs.declared.limits.Limits.{Limits}
-use Rattle.plate_book.specs.First.{started_tests, tests}
+use Rattle.plate_book.specs.Rules.First.{started_tests, tests}
 use Rattle.cell_types.specs.After.{State, with_at, without, with_plate}
-use Rattle.plate_book.specs.ToldBy.{told_by}
+use Rattle.plate_book.specs.Rules.ToldBy.{told_by}
 use Rattle.plate_book.proofs.Safe.Facts.{pose_same, Axes, axes_of, rest, Passed}
 use Rattle.plate_book.proofs.Safe.Motion.{MotionSafe, begun, homed, fits}
 use Rattle.plate_book.proofs.Safe.Plates.{without_is}

@@ -10,9 +10,9 @@ use Rattle.cell_types.specs.declared.words.Arm.{Arm}
 use Rattle.cell_types.specs.declared.words.AxisState.{AxisState}
 use Rattle.cell_types.specs.Same.{same_machine, same_axis, same_pose, same_zone}
 use Rattle.cell_types.specs.Cell.{machine_of_axis, home, poses, owner, visitor, axis_of_arm, faced}
-use Rattle.plate_book.specs.First.{any_visited, parked_tests, outward_tests, arm_tests, press_tests, started_tests}
+use Rattle.plate_book.specs.Rules.First.{any_visited, parked_tests, outward_tests, arm_tests, press_tests, started_tests}
 use Rattle.cell_types.specs.After.{is_machine, State, with_at}
-use Rattle.plate_book.specs.ToldBy.{told_by}
+use Rattle.plate_book.specs.Rules.ToldBy.{told_by}
 use Rattle.plate_book.proofs.Safe.Facts.{pose_same, and_both, and_true, Axes, axes_of, rest, going_to, Passed, resting, still, held}
 
 -- where an arm may stand out: the six rows of arm and turn pose

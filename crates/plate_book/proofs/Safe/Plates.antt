@@ -7,9 +7,9 @@ use Rattle.cell_types.specs.declared.words.Pose.{Pose}
 use Rattle.cell_types.specs.declared.words.Place.{Place}
 use Rattle.cell_types.specs.Same.{same_machine, same_station, same_axis, same_pose, station_number}
 use Rattle.cell_types.specs.Cell.{machine_of_axis, machine_of_station, home}
-use Rattle.plate_book.specs.First.{any_still_there, started_tests, ends_by_arrival}
+use Rattle.plate_book.specs.Rules.First.{any_still_there, started_tests, ends_by_arrival}
 use Rattle.cell_types.specs.After.{State, with_at, is_plate, without, with_plate}
-use Rattle.plate_book.specs.ToldBy.{told_by}
+use Rattle.plate_book.specs.Rules.ToldBy.{told_by}
 use Rattle.std.specs.Prelude.{unwrap_or}
 use Rattle.std.proofs.lemmas.Bool.{cases_eq}
 use Rattle.cell_views.specs.Last.{when}

@@ -13,14 +13,14 @@ use Rattle.cell_types.specs.declared.words.Entry.{Entry}
 use Rattle.cell_types.specs.Same.{same_pose, pose_number}
 use Rattle.cell_types.specs.Cell.{machine_of_station, poses, axis_of_arm, Faced, faced}
 use Rattle.plate_book.specs.declared.limits.Limits.{Limits}
-use Rattle.plate_book.specs.First.{any_visited, station_empty, other_plate_at, arm_tests, started_tests, tests}
+use Rattle.plate_book.specs.Rules.First.{any_visited, station_empty, other_plate_at, arm_tests, started_tests, tests}
 use Rattle.cell_types.specs.After.{is_machine, State, after}
-use Rattle.plate_book.specs.ToldBy.{told_by}
+use Rattle.plate_book.specs.Rules.ToldBy.{told_by}
 use Rattle.std.specs.List.{Contains}
 use Rattle.std.proofs.Common.{subst}
 use Rattle.cell_views.specs.Views.{Placing, placing, place_of, source, at_of}
-use Rattle.plate_book.specs.Safety.{Rests, RestsAt, IsInside, IsEmpty, IsOccupied, SafeState, IsSafeDrop, IsSafeMove, SafeKind, IsPressDrop, SafeEntry, IsSafe}
-use Rattle.plate_book.specs.Legal.{allowed, legal_from, legal}
+use Rattle.plate_book.specs.Rules.Safety.{Rests, RestsAt, IsInside, IsEmpty, IsOccupied, SafeState, IsSafeDrop, IsSafeMove, SafeKind, IsPressDrop, SafeEntry, IsSafe}
+use Rattle.plate_book.specs.Rules.Legal.{allowed, legal_from, legal}
 use Rattle.plate_book.proofs.Safe.Facts.{pose_same, Passed, passed_last, free, plate_at, occupied, no_other, resting, still, and_both, or_neither, not_false, Axes, axes_of, rest}
 use Rattle.plate_book.proofs.Safe.Motion.{Spot, spot_arm, spot_pose, Facing, ArmSafe, MotionSafe, has_pose, fits_going, may_start}
 use Rattle.plate_book.proofs.Safe.Plates.{Counted}

@@ -14,13 +14,13 @@ use Rattle.cell_types.specs.declared.words.Entry.{Entry}
 use Rattle.cell_types.specs.Same.{same_machine, same_station, same_axis, same_colour}
 use Rattle.cell_types.specs.Cell.{machine_of_axis, machine_of_station, home, axis_of_arm, station_of_arm, faced}
 use Rattle.plate_book.specs.declared.limits.Limits.{Limits}
-use Rattle.plate_book.specs.First.{is_pose, is_faced, not_holder, any_visited, any_still_there, parked_tests, ends_by_arrival, handing_tests, station_empty, other_plate_at, tests}
+use Rattle.plate_book.specs.Rules.First.{is_pose, is_faced, not_holder, any_visited, any_still_there, parked_tests, ends_by_arrival, handing_tests, station_empty, other_plate_at, tests}
 use Rattle.cell_types.specs.After.{State, with_at, with_plate, step}
-use Rattle.plate_book.specs.ToldBy.{told_by}
+use Rattle.plate_book.specs.Rules.ToldBy.{told_by}
 use Rattle.std.specs.Prelude.{unwrap_or}
 use Rattle.std.proofs.Common.{subst}
 use Rattle.cell_views.specs.Views.{puts}
-use Rattle.plate_book.specs.Safety.{is_forged_as}
+use Rattle.plate_book.specs.Rules.Safety.{is_forged_as}
 use Rattle.plate_book.proofs.Safe.Facts.{pose_same, Axes, axes_of, rest, going_to, Passed, passed_first, passed_last, free, plate_at, occupied, no_other, resting, held, and_both, not_false, not_some_tells, is_pose_tells}
 use Rattle.plate_book.proofs.Safe.Motion.{Holders, Spot, Load1, Load2, Unload1, Unload2, spot_arm, spot_pose, spot_station, Facing, ArmSafe, MotionSafe, begun, homed, press_goes, may_go, has_pose, fits, motion_rests, motion_claimed, motion_yielded, motion_started, motion_repaired, Stands, stands, not_in, at_is}
 use Rattle.plate_book.proofs.Safe.Plates.{press_stage, stage, Counted, ends, PlatesSafe, placed_at, Numbered, plates_placed, plates_left, numbered, plates_begun, start_clear, plates_rests, arrived_stage, plates_homed, emptied, forged_at, forged_counted, no_end, Ending, rests_clear, stage_same}
