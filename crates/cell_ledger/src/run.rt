@@ -6,13 +6,13 @@ use std::sync::ledger::Ledger;
 /// name the same run belong together. A caller picks what it stands for where it passes `Brand`.
 pub trait Run {
     ghost use Rattle.std.specs.Prelude.{ℕ};
-    ghost use Rattle.plate_book.specs.declared.limits.Limits.{Limits};
+    ghost use Rattle.plate_book.specs.declared.limits.BookLimits.{BookLimits};
 
     /// How many parts each ledger has.
     ghost parts: { ℕ };
 
     /// The limits of the book.
-    ghost limits: { Limits };
+    ghost limits: { BookLimits };
 
     ghost entries_name: { ℕ };
 

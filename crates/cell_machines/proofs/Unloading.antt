@@ -7,8 +7,8 @@ use Rattle.cell_types.specs.declared.words.Zone.{Zone}
 use Rattle.cell_types.specs.declared.words.Zone.TheVariants as zone
 use Rattle.cell_types.specs.declared.words.Entry.{Entry}
 use Rattle.cell_types.specs.declared.words.Entry.TheVariants.{Claimed}
-use Rattle.plate_book.specs.declared.limits.Limits.{Limits}
-use Rattle.cell_views.specs.Told.{Cell}
+use Rattle.plate_book.specs.declared.limits.BookLimits.{BookLimits}
+use Rattle.cell_views.specs.Situations.{Situation}
 use Rattle.cell_machines.specs.Room.{is_bookable}
 use Rattle.cell_machines.specs.Jobs.{has_job, is_to_enter}
 use Rattle.cell_machines.specs.Robot.{is_drawn_in, holds_a_zone}
@@ -21,7 +21,7 @@ widened true true f b h = h
 widened true false f b h = h
 widened false a f b h = cc
 
-claim_useful : (l : Limits) (c : Cell) (plan : ℕ) (z : Zone) (u a : Bool) → is_to_enter c z ≡ (a || u) → ((u && (is_drawn_in c && not (holds_a_zone c))) && is_bookable l c (Claimed machine.Robot z)) ≡ true → is_useful_now l c plan machine.Robot (Claimed machine.Robot z) ≡ true
+claim_useful : (l : BookLimits) (c : Situation) (plan : ℕ) (z : Zone) (u a : Bool) → is_to_enter c z ≡ (a || u) → ((u && (is_drawn_in c && not (holds_a_zone c))) && is_bookable l c (Claimed machine.Robot z)) ≡ true → is_useful_now l c plan machine.Robot (Claimed machine.Robot z) ≡ true
 unfolding is_useful_now
 claim_useful l c plan z u a e h = rw e (widened u a (is_drawn_in c && not (holds_a_zone c)) (is_bookable l c (Claimed machine.Robot z)) h)
 
@@ -29,12 +29,12 @@ if_found : (b : Bool) (x : Entry) (o : Option Entry) (P : Entry → Type 0) → 
 if_found true x o P f g = f refl
 if_found false x o P f g = g
 
-unloads_useful : (l : Limits) (c : Cell) (plan : ℕ) → IfSome (first_bookable l c (unloads c)) (λ e. is_useful_now l c plan machine.Robot e ≡ true)
+unloads_useful : (l : BookLimits) (c : Situation) (plan : ℕ) → IfSome (first_bookable l c (unloads c)) (λ e. is_useful_now l c plan machine.Robot e ≡ true)
 unfolding first_bookable unloads is_to_enter
 unloads_useful l c plan =
     let P : Entry → Type 0 = λ e. is_useful_now l c plan machine.Robot e ≡ true in
     if_found _ (Claimed machine.Robot zone.Z3) _ P (claim_useful l c plan zone.Z3 (has_job c pose.P1Unload) _ refl)
     (if_found _ (Claimed machine.Robot zone.Z4) _ P (claim_useful l c plan zone.Z4 (has_job c pose.P2Unload) _ refl) tt)
 
-pub unloading_law : (l : Limits) (c : Cell) (plan : ℕ) (o : Option Entry) → o ≡ first_bookable l c (unloads c) → IfSome o (λ e. is_useful_now l c plan machine.Robot e ≡ true)
+pub unloading_law : (l : BookLimits) (c : Situation) (plan : ℕ) (o : Option Entry) → o ≡ first_bookable l c (unloads c) → IfSome o (λ e. is_useful_now l c plan machine.Robot e ≡ true)
 unloading_law l c plan o h = rw h (unloads_useful l c plan)

@@ -10,25 +10,25 @@ use Rattle.cell_types.specs.declared.words.Belt.TheVariants as belt
 use Rattle.cell_types.specs.declared.words.Colour.TheVariants as colour
 use Rattle.cell_types.specs.declared.words.Entry.{Entry}
 use Rattle.cell_types.specs.declared.words.Entry.TheVariants.{Lamp, Claimed, Yielded, Started}
-use Rattle.cell_views.specs.Told.{Cell}
-use Rattle.plate_book.specs.declared.limits.Limits.{Limits}
+use Rattle.cell_views.specs.Situations.{Situation}
+use Rattle.plate_book.specs.declared.limits.BookLimits.{BookLimits}
 use Rattle.cell_machines.specs.Room.{is_bookable}
 use Rattle.cell_machines.specs.Jobs.{has_job}
 use Rattle.cell_machines.specs.Robot.{handings, wants_handing, robot_wants, is_drawn_in, holds_a_zone}
 use Rattle.cell_machines.specs.Useful.{wants}
 
 -- the first entry of the list that is wanted and bookable
-unfoldable pub first_bookable : Limits → Cell → List (Bool × Entry) → Option Entry
+unfoldable pub first_bookable : BookLimits → Situation → List (Bool × Entry) → Option Entry
 first_bookable l c [] = None
 first_bookable l c (x ∷ xs) = if x.0 && is_bookable l c x.1 then Some x.1 else first_bookable l c xs
 
-abbrev pub row : Limits → Cell → ℕ → Machine → Entry → Bool × Entry
+abbrev pub row : BookLimits → Situation → ℕ → Machine → Entry → Bool × Entry
 row l c plan m e = (wants l c plan m e, e)
 
-abbrev pub handing_row : Cell → Entry → Bool × Entry
+abbrev pub handing_row : Situation → Entry → Bool × Entry
 handing_row c e = (wants_handing c e, e)
 
-abbrev pub robot_row : Limits → Cell → Entry → Bool × Entry
+abbrev pub robot_row : BookLimits → Situation → Entry → Bool × Entry
 robot_row l c e = (robot_wants l c e, e)
 
 abbrev pub arms_in : List Entry
@@ -54,7 +54,7 @@ claims =
     ∷ Claimed machine.Robot zone.Z2 ∷ []
 
 -- what a machine may ever want
-unfoldable pub candidates : Cell → Machine → List Entry
+unfoldable pub candidates : Situation → Machine → List Entry
 candidates c machine.Feed =
     Yielded machine.Feed zone.Z1
     ∷ Started axis.FeedBelt pose.ToTable
@@ -97,11 +97,11 @@ candidates c machine.Deposit =
     ∷ Lamp belt.Deposit colour.Green
     ∷ []
 
-unfoldable pub rows : Limits → Cell → ℕ → Machine → List (Bool × Entry)
+unfoldable pub rows : BookLimits → Situation → ℕ → Machine → List (Bool × Entry)
 rows l c plan m = map (row l c plan m) (candidates c m)
 
 -- the robot's claims of presses that are to be unloaded, which it looks at before all else
-unfoldable pub unloads : Cell → List (Bool × Entry)
+unfoldable pub unloads : Situation → List (Bool × Entry)
 unloads c =
     (has_job c pose.P1Unload && (is_drawn_in c && not (holds_a_zone c)), Claimed machine.Robot zone.Z3)
     ∷ (has_job c pose.P2Unload && (is_drawn_in c && not (holds_a_zone c)), Claimed machine.Robot zone.Z4) ∷ []

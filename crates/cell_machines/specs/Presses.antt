@@ -9,26 +9,26 @@ use Rattle.cell_types.specs.declared.words.Pose.TheVariants as pose
 use Rattle.cell_types.specs.declared.words.Zone.TheVariants as zone
 use Rattle.cell_types.specs.declared.words.Entry.{Entry}
 use Rattle.cell_types.specs.declared.words.Entry.TheVariants.{Claimed, Yielded, Started}
-use Rattle.cell_views.specs.Told.{Cell}
+use Rattle.cell_views.specs.Situations.{Situation}
 use Rattle.plate_book.specs.Rules.First.{rests_at}
 
 -- in the middle with a plate to forge
-abbrev pub is_loaded : Cell → Axis → Station → Bool
+abbrev pub is_loaded : Situation → Axis → Station → Bool
 is_loaded c a s = rests_at c a pose.Middle && c.occupied s
 
 -- in the middle, and empty
-abbrev pub is_waiting : Cell → Axis → Station → Bool
+abbrev pub is_waiting : Situation → Axis → Station → Bool
 is_waiting c a s = rests_at c a pose.Middle && not (c.occupied s)
 
 -- at the bottom with a forged plate
-abbrev pub is_done : Cell → Axis → Station → Bool
+abbrev pub is_done : Situation → Axis → Station → Bool
 is_done c a s = rests_at c a pose.Bottom && c.occupied s
 
 -- at the bottom, and empty
-abbrev pub is_unloaded : Cell → Axis → Station → Bool
+abbrev pub is_unloaded : Situation → Axis → Station → Bool
 is_unloaded c a s = rests_at c a pose.Bottom && not (c.occupied s)
 
-abbrev pub press1_wants : Cell → Entry → Bool
+abbrev pub press1_wants : Situation → Entry → Bool
 press1_wants c (Claimed machine.Press1 zone.Z3) = is_loaded c axis.PressOne station.Press1 || is_unloaded c axis.PressOne station.Press1
 press1_wants c (Started axis.PressOne pose.Top) = is_loaded c axis.PressOne station.Press1
 press1_wants c (Started axis.PressOne pose.Middle) = is_unloaded c axis.PressOne station.Press1
@@ -36,7 +36,7 @@ press1_wants c (Started axis.PressOne pose.Bottom) = rests_at c axis.PressOne po
 press1_wants c (Yielded machine.Press1 zone.Z3) = is_done c axis.PressOne station.Press1 || is_waiting c axis.PressOne station.Press1
 press1_wants c _ = false
 
-abbrev pub press2_wants : Cell → Entry → Bool
+abbrev pub press2_wants : Situation → Entry → Bool
 press2_wants c (Claimed machine.Press2 zone.Z4) = is_loaded c axis.PressTwo station.Press2 || is_unloaded c axis.PressTwo station.Press2
 press2_wants c (Started axis.PressTwo pose.Top) = is_loaded c axis.PressTwo station.Press2
 press2_wants c (Started axis.PressTwo pose.Middle) = is_unloaded c axis.PressTwo station.Press2

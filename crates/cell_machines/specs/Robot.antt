@@ -14,23 +14,23 @@ use Rattle.cell_types.specs.declared.words.Entry.TheVariants.{Claimed, Yielded, 
 use Rattle.cell_types.specs.Same.{same_pose}
 use Rattle.cell_types.specs.Cell.{station_of_arm, grips_at, drops_at}
 use Rattle.cell_types.specs.After.{is_plate}
-use Rattle.cell_views.specs.Told.{Cell}
-use Rattle.plate_book.specs.declared.limits.Limits.{Limits}
+use Rattle.cell_views.specs.Situations.{Situation}
+use Rattle.plate_book.specs.declared.limits.BookLimits.{BookLimits}
 use Rattle.plate_book.specs.Rules.First.{rests_at, faces, is_faced}
 use Rattle.cell_policy.specs.Reads.{is_at_rest}
 use Rattle.cell_machines.specs.Room.{is_bookable}
 use Rattle.cell_machines.specs.Jobs.{has_job, has_job_in, is_to_enter, is_robots, holds_zone_at, works_at}
 
-unfoldable pub is_out : Cell → Arm → Bool
+unfoldable pub is_out : Situation → Arm → Bool
 is_out c arm.Arm1 = rests_at c axis.ArmOne pose.Out
 is_out c arm.Arm2 = rests_at c axis.ArmTwo pose.Out
 
 -- the arm is out at a station
-unfoldable pub is_out_at : Cell → Arm → Station → Bool
+unfoldable pub is_out_at : Situation → Arm → Station → Bool
 is_out_at c x s = is_out c x && is_faced s (faces c x)
 
 -- a grip or a drop by an arm that is out there, of the plate that is there
-abbrev pub wants_handing : Cell → Entry → Bool
+abbrev pub wants_handing : Situation → Entry → Bool
 wants_handing c (Gripped x k s) = grips_at x s && (is_out_at c x s && is_plate k (c.plate s))
 wants_handing c (Dropped x k s) = drops_at x s && (is_out_at c x s && is_plate k (c.plate (station_of_arm x)))
 wants_handing c _ = false
@@ -40,7 +40,7 @@ of_plate f (Some k) = f k ∷ []
 of_plate f None = []
 
 -- the grips and drops of an arm, each of the plate that stands where it takes it from
-unfoldable pub handings : Cell → Arm → List Entry
+unfoldable pub handings : Situation → Arm → List Entry
 handings c arm.Arm1 =
     of_plate (λ k. Gripped arm.Arm1 k station.Table) (c.plate station.Table)
     ++ (of_plate (λ k. Dropped arm.Arm1 k station.Press1) (c.plate station.Arm1)
@@ -51,27 +51,27 @@ handings c arm.Arm2 =
     ++ of_plate (λ k. Dropped arm.Arm2 k station.DepIn) (c.plate station.Arm2))
 
 -- the arm has a plate to grip or to drop where it is
-unfoldable pub has_handing : Limits → Cell → Arm → Bool
+unfoldable pub has_handing : BookLimits → Situation → Arm → Bool
 has_handing l c x = list_any (λ e. wants_handing c e && is_bookable l c e) (handings c x)
 
 -- the arm is out with nothing more to do there
-abbrev pub is_to_draw_in : Limits → Cell → Arm → Bool
+abbrev pub is_to_draw_in : BookLimits → Situation → Arm → Bool
 is_to_draw_in l c x = is_out c x && not (has_handing l c x)
 
 -- both arms in, and the turn at rest
-unfoldable pub is_drawn_in : Cell → Bool
+unfoldable pub is_drawn_in : Situation → Bool
 is_drawn_in c = rests_at c axis.ArmOne pose.In && (rests_at c axis.ArmTwo pose.In && is_at_rest c axis.RobotTurn)
 
-unfoldable pub holds_a_zone : Cell → Bool
+unfoldable pub holds_a_zone : Situation → Bool
 holds_a_zone c =
     is_robots c zone.Z1 || (is_robots c zone.Z2 || (is_robots c zone.Z3 || (is_robots c zone.Z4 || is_robots c zone.Z5)))
 
 -- the turn is where this arm has a job, and the robot holds its zone
-unfoldable pub is_at_job : Cell → Arm → Bool
+unfoldable pub is_at_job : Situation → Arm → Bool
 is_at_job c x =
     works_at x (c.at axis.RobotTurn) && (has_job c (c.at axis.RobotTurn) && holds_zone_at c (c.at axis.RobotTurn))
 
-abbrev pub robot_wants : Limits → Cell → Entry → Bool
+abbrev pub robot_wants : BookLimits → Situation → Entry → Bool
 robot_wants l c (Started axis.ArmOne pose.In) = is_to_draw_in l c arm.Arm1
 robot_wants l c (Started axis.ArmTwo pose.In) = is_to_draw_in l c arm.Arm2
 robot_wants l c (Started axis.RobotTurn to) =

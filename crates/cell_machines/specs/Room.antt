@@ -2,8 +2,8 @@
 use Rattle.std.specs.Prelude.{Bool, true, false, not, ◌&&◌, Option, Some, None}
 use Rattle.std.specs.List.{list_any}
 use Rattle.cell_types.specs.declared.words.Entry.{Entry}
-use Rattle.cell_views.specs.Told.{Cell}
-use Rattle.plate_book.specs.declared.limits.Limits.{Limits}
+use Rattle.cell_views.specs.Situations.{Situation}
+use Rattle.plate_book.specs.declared.limits.BookLimits.{BookLimits}
 use Rattle.plate_book.specs.declared.refusal.Refusal.{Refusal}
 use Rattle.plate_book.specs.declared.refusal.Refusal.TheVariants.{JournalFull}
 use Rattle.plate_book.specs.Rules.First.{first, tests}
@@ -14,7 +14,7 @@ is_none_or_full (Some JournalFull) = true
 is_none_or_full (Some _) = false
 
 -- the entry is allowed, or it is refused because the journal is full
-unfoldable pub is_bookable : Limits → Cell → Entry → Bool
+unfoldable pub is_bookable : BookLimits → Situation → Entry → Bool
 is_bookable l c e = is_none_or_full (first l c e)
 
 abbrev pub is_of_room : Refusal → Bool
@@ -22,5 +22,5 @@ is_of_room JournalFull = true
 is_of_room _ = false
 
 -- a test other than that of the journal's room refuses the entry
-unfoldable pub is_refused_otherwise : Limits → Cell → Entry → Bool
+unfoldable pub is_refused_otherwise : BookLimits → Situation → Entry → Bool
 is_refused_otherwise l c e = list_any (λ (t : Bool × Refusal). not (is_of_room t.1) && t.0) (tests l c e)

@@ -4,7 +4,7 @@ ghost use Rattle.cell_types.specs.declared.words.Entry.TheVariants.{Started};
 ghost use Rattle.cell_types.specs.declared.words.Axis.TheVariants as axes;
 ghost use Rattle.cell_types.specs.declared.words.Pose.TheVariants as poses;
 ghost use Rattle.cell_types.specs.declared.words.Machine.TheVariants as machines;
-ghost use Rattle.cell_views.specs.Told.{cell_of};
+ghost use Rattle.cell_views.specs.Situations.{situation_of};
 ghost use Rattle.cell_machines.specs.Room.{is_refused_otherwise};
 ghost use Rattle.cell_machines.specs.Feed.{is_table_waiting};
 ghost use Rattle.cell_machines.specs.Deposit.{is_to_convey};
@@ -19,7 +19,7 @@ use cell_types::{Axis, Belt, Colour, Entry, Machine, Pose, Station, Zone};
 use plate_book::Book;
 
 fn is_table_waiting(book: &Book) -> bool
-    ensures { result ≡ is_table_waiting (cell_of book.now.entries) }
+    ensures { result ≡ is_table_waiting (situation_of book.now.entries) }
 {
     is_at_rest(book, Axis::FeedBelt)
         && is_occupied(book, Station::FeedEnd)
@@ -31,7 +31,7 @@ fn is_table_waiting(book: &Book) -> bool
 /// Whether something other than the journal's room keeps the feed belt from going to the table.
 #[tactic(auto, unfolding(crate::specs::Room::is_refused_otherwise))]
 fn is_way_to_table_shut(book: &Book) -> bool
-    ensures { result ≡ is_refused_otherwise book.now.limits (cell_of book.now.entries) (Started axes.FeedBelt poses.ToTable) }
+    ensures { result ≡ is_refused_otherwise book.now.limits (situation_of book.now.entries) (Started axes.FeedBelt poses.ToTable) }
 {
     any_of(&[
         book.failed(Machine::Feed),
@@ -48,7 +48,7 @@ fn is_way_to_table_shut(book: &Book) -> bool
 /// What Feed does next. It gives the table's zone up before it asks for another plate.
 #[tactic(auto, unfolding(crate::specs::Candidates::rows, crate::specs::Candidates::candidates))]
 pub fn propose_feed(book: &Book, plan: u32) -> Option<Entry>
-    ensures { result ≡ first_bookable book.now.limits (cell_of book.now.entries) (rows book.now.limits (cell_of book.now.entries) plan machines.Feed) }
+    ensures { result ≡ first_bookable book.now.limits (situation_of book.now.entries) (rows book.now.limits (situation_of book.now.entries) plan machines.Feed) }
 {
     let light = feed_light_wanted(book, plan);
     first_bookable(
@@ -65,7 +65,7 @@ pub fn propose_feed(book: &Book, plan: u32) -> Option<Entry>
 }
 
 fn is_to_convey(book: &Book) -> bool
-    ensures { result ≡ is_to_convey (cell_of book.now.entries) }
+    ensures { result ≡ is_to_convey (situation_of book.now.entries) }
 {
     is_at_rest(book, Axis::DepositBelt)
         && is_occupied(book, Station::DepIn)
@@ -75,7 +75,7 @@ fn is_to_convey(book: &Book) -> bool
 /// What Deposit does next. It gives its zone up to the robot before it asks for its plate to be taken.
 #[tactic(auto, unfolding(crate::specs::Candidates::rows, crate::specs::Candidates::candidates))]
 pub fn propose_deposit(book: &Book, plan: u32) -> Option<Entry>
-    ensures { result ≡ first_bookable book.now.limits (cell_of book.now.entries) (rows book.now.limits (cell_of book.now.entries) plan machines.Deposit) }
+    ensures { result ≡ first_bookable book.now.limits (situation_of book.now.entries) (rows book.now.limits (situation_of book.now.entries) plan machines.Deposit) }
 {
     let light = deposit_light_wanted(book);
     let convey = is_to_convey(book);

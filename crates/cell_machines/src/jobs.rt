@@ -1,7 +1,7 @@
 //! The robot's jobs, each named by the pose of the turn where it is done.
 ghost use Rattle.std.specs.Prelude.{◌≡◌, not, ◌&&◌, ◌||◌};
 ghost use Rattle.cell_types.specs.After.{is_machine};
-ghost use Rattle.cell_views.specs.Told.{cell_of};
+ghost use Rattle.cell_views.specs.Situations.{situation_of};
 ghost use Rattle.cell_policy.specs.Router.{press_chosen};
 ghost use Rattle.cell_machines.specs.Jobs.{is_to_fetch, is_to_load, is_to_unload, is_to_deposit, has_job, is_robots, holds_zone_at, has_job_in, is_to_enter, works_at};
 
@@ -11,7 +11,7 @@ use cell_types::{Arm, Axis, Machine, Pose, Station, Zone};
 use plate_book::Book;
 
 fn is_to_fetch(book: &Book) -> bool
-    ensures { result ≡ is_to_fetch (cell_of book.now.entries) }
+    ensures { result ≡ is_to_fetch (situation_of book.now.entries) }
 {
     !is_occupied(book, Station::Arm1)
         && !book.failed(Machine::Table)
@@ -21,19 +21,19 @@ fn is_to_fetch(book: &Book) -> bool
 }
 
 fn is_to_load(book: &Book, press: Machine, axis: Axis, station: Station) -> bool
-    ensures { result ≡ is_to_load (cell_of book.now.entries) press axis station }
+    ensures { result ≡ is_to_load (situation_of book.now.entries) press axis station }
 {
     is_occupied(book, Station::Arm1) && !book.failed(press) && is_waiting(book, axis, station)
 }
 
 fn is_to_unload(book: &Book, press: Machine, axis: Axis, station: Station) -> bool
-    ensures { result ≡ is_to_unload (cell_of book.now.entries) press axis station }
+    ensures { result ≡ is_to_unload (situation_of book.now.entries) press axis station }
 {
     !is_occupied(book, Station::Arm2) && !book.failed(press) && is_done(book, axis, station)
 }
 
 fn is_to_deposit(book: &Book) -> bool
-    ensures { result ≡ is_to_deposit (cell_of book.now.entries) }
+    ensures { result ≡ is_to_deposit (situation_of book.now.entries) }
 {
     is_occupied(book, Station::Arm2)
         && !book.failed(Machine::Deposit)
@@ -44,7 +44,7 @@ fn is_to_deposit(book: &Book) -> bool
 /// Whether there is a job at this pose of the turn.
 #[tactic(auto, unfolding(crate::specs::Jobs::has_job))]
 pub fn has_job(book: &Book, pose: Pose) -> bool
-    ensures { result ≡ has_job (cell_of book.now.entries) pose }
+    ensures { result ≡ has_job (situation_of book.now.entries) pose }
 {
     match pose {
         Pose::Table1 => is_to_fetch(book),
@@ -59,7 +59,7 @@ pub fn has_job(book: &Book, pose: Pose) -> bool
 
 /// Whether the robot holds a zone.
 pub fn is_robots(book: &Book, zone: Zone) -> bool
-    ensures { result ≡ is_robots (cell_of book.now.entries) zone }
+    ensures { result ≡ is_robots (situation_of book.now.entries) zone }
 {
     is_held_by(book, Machine::Robot, zone)
 }
@@ -67,7 +67,7 @@ pub fn is_robots(book: &Book, zone: Zone) -> bool
 /// Whether the robot holds the zone of the job at this pose of the turn.
 #[tactic(auto, unfolding(crate::specs::Jobs::holds_zone_at))]
 pub fn holds_zone_at(book: &Book, pose: Pose) -> bool
-    ensures { result ≡ holds_zone_at (cell_of book.now.entries) pose }
+    ensures { result ≡ holds_zone_at (situation_of book.now.entries) pose }
 {
     match pose {
         Pose::Table1 => is_robots(book, Zone::Z2),
@@ -81,7 +81,7 @@ pub fn holds_zone_at(book: &Book, pose: Pose) -> bool
 /// Whether there is a job in a zone.
 #[tactic(auto, unfolding(crate::specs::Jobs::has_job_in))]
 pub fn has_job_in(book: &Book, zone: Zone) -> bool
-    ensures { result ≡ has_job_in (cell_of book.now.entries) zone }
+    ensures { result ≡ has_job_in (situation_of book.now.entries) zone }
 {
     match zone {
         Zone::Z1 => false,
@@ -95,7 +95,7 @@ pub fn has_job_in(book: &Book, zone: Zone) -> bool
 /// Whether the router chooses this press.
 #[tactic(auto, unfolding(cell_types::specs::After::is_machine))]
 fn is_chosen(book: &Book, press: Machine) -> bool
-    ensures { result ≡ is_machine press (press_chosen (cell_of book.now.entries)) }
+    ensures { result ≡ is_machine press (press_chosen (situation_of book.now.entries)) }
 {
     match choose_press(book) {
         Some(chosen) => chosen == press,
@@ -106,7 +106,7 @@ fn is_chosen(book: &Book, press: Machine) -> bool
 /// Whether there is a job in a zone for which the robot may claim it: to load, only the press that the router chooses.
 #[tactic(auto, unfolding(crate::specs::Jobs::is_to_enter))]
 pub fn is_to_enter(book: &Book, zone: Zone) -> bool
-    ensures { result ≡ is_to_enter (cell_of book.now.entries) zone }
+    ensures { result ≡ is_to_enter (situation_of book.now.entries) zone }
 {
     match zone {
         Zone::Z1 => false,

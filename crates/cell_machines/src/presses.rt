@@ -1,7 +1,7 @@
 //! What the presses do next.
 ghost use Rattle.std.specs.Prelude.{◌≡◌, ◌||◌};
 ghost use Rattle.cell_types.specs.declared.words.Machine.TheVariants as machines;
-ghost use Rattle.cell_views.specs.Told.{cell_of};
+ghost use Rattle.cell_views.specs.Situations.{situation_of};
 ghost use Rattle.cell_machines.specs.Presses.{is_loaded, is_waiting, is_done, is_unloaded};
 ghost use Rattle.cell_machines.specs.Candidates.{rows, first_bookable};
 
@@ -13,28 +13,28 @@ use plate_book::Book;
 
 /// Whether a press is in the middle with a plate to forge.
 fn is_loaded(book: &Book, axis: Axis, station: Station) -> bool
-    ensures { result ≡ is_loaded (cell_of book.now.entries) axis station }
+    ensures { result ≡ is_loaded (situation_of book.now.entries) axis station }
 {
     rests_at(book, axis, Pose::Middle) && is_occupied(book, station)
 }
 
 /// Whether a press is in the middle and empty.
 pub fn is_waiting(book: &Book, axis: Axis, station: Station) -> bool
-    ensures { result ≡ is_waiting (cell_of book.now.entries) axis station }
+    ensures { result ≡ is_waiting (situation_of book.now.entries) axis station }
 {
     rests_at(book, axis, Pose::Middle) && !is_occupied(book, station)
 }
 
 /// Whether a press is at the bottom with a forged plate.
 pub fn is_done(book: &Book, axis: Axis, station: Station) -> bool
-    ensures { result ≡ is_done (cell_of book.now.entries) axis station }
+    ensures { result ≡ is_done (situation_of book.now.entries) axis station }
 {
     rests_at(book, axis, Pose::Bottom) && is_occupied(book, station)
 }
 
 /// Whether a press is at the bottom and empty.
 fn is_unloaded(book: &Book, axis: Axis, station: Station) -> bool
-    ensures { result ≡ is_unloaded (cell_of book.now.entries) axis station }
+    ensures { result ≡ is_unloaded (situation_of book.now.entries) axis station }
 {
     rests_at(book, axis, Pose::Bottom) && !is_occupied(book, station)
 }
@@ -42,7 +42,7 @@ fn is_unloaded(book: &Book, axis: Axis, station: Station) -> bool
 /// What Press1 does next.
 #[tactic(auto, unfolding(crate::specs::Candidates::rows, crate::specs::Candidates::candidates))]
 pub fn propose_press1(book: &Book, plan: u32) -> Option<Entry>
-    ensures { result ≡ first_bookable book.now.limits (cell_of book.now.entries) (rows book.now.limits (cell_of book.now.entries) plan machines.Press1) }
+    ensures { result ≡ first_bookable book.now.limits (situation_of book.now.entries) (rows book.now.limits (situation_of book.now.entries) plan machines.Press1) }
 {
     let loaded = is_loaded(book, Axis::PressOne, Station::Press1);
     let unloaded = is_unloaded(book, Axis::PressOne, Station::Press1);
@@ -64,7 +64,7 @@ pub fn propose_press1(book: &Book, plan: u32) -> Option<Entry>
 /// What Press2 does next.
 #[tactic(auto, unfolding(crate::specs::Candidates::rows, crate::specs::Candidates::candidates))]
 pub fn propose_press2(book: &Book, plan: u32) -> Option<Entry>
-    ensures { result ≡ first_bookable book.now.limits (cell_of book.now.entries) (rows book.now.limits (cell_of book.now.entries) plan machines.Press2) }
+    ensures { result ≡ first_bookable book.now.limits (situation_of book.now.entries) (rows book.now.limits (situation_of book.now.entries) plan machines.Press2) }
 {
     let loaded = is_loaded(book, Axis::PressTwo, Station::Press2);
     let unloaded = is_unloaded(book, Axis::PressTwo, Station::Press2);

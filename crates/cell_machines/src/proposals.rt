@@ -2,7 +2,7 @@
 ghost use Rattle.std.specs.Prelude.{◌≡◌, ℕ, true, false, IfSome, IfNone};
 ghost use Rattle.cell_types.specs.declared.words.Machine.TheVariants as machines;
 ghost use Rattle.cell_types.specs.declared.words.Entry.{Entry};
-ghost use Rattle.cell_views.specs.Told.{cell_of};
+ghost use Rattle.cell_views.specs.Situations.{situation_of};
 ghost use Rattle.cell_machines.specs.Useful.{is_useful};
 ghost use Rattle.cell_machines.specs.Candidates.{rows, first_bookable};
 
@@ -15,7 +15,7 @@ use plate_book::Book;
 
 #[tactic(auto, unfolding(crate::specs::Candidates::rows))]
 fn first_of_all(machine: Machine, book: &Book, plan: u32) -> Option<Entry>
-    ensures { result ≡ first_bookable book.now.limits (cell_of book.now.entries) (rows book.now.limits (cell_of book.now.entries) plan machine) }
+    ensures { result ≡ first_bookable book.now.limits (situation_of book.now.entries) (rows book.now.limits (situation_of book.now.entries) plan machine) }
 {
     match machine {
         Machine::Feed => propose_feed(book, plan),

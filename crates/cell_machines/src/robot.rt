@@ -7,7 +7,7 @@ ghost use Rattle.cell_types.specs.declared.words.Machine.TheVariants as machines
 ghost use Rattle.cell_types.specs.declared.words.Axis.TheVariants as axes;
 ghost use Rattle.cell_types.specs.declared.words.Arm.TheVariants as arms;
 ghost use Rattle.cell_views.specs.Views.{plate_of};
-ghost use Rattle.cell_views.specs.Told.{cell_of};
+ghost use Rattle.cell_views.specs.Situations.{situation_of};
 ghost use Rattle.plate_book.specs.Rules.First.{is_faced, faces};
 ghost use Rattle.cell_machines.specs.Jobs.{has_job, has_job_in, is_to_enter, is_robots, holds_zone_at};
 ghost use Rattle.cell_machines.specs.Robot.{is_out, is_out_at, of_plate, handings, has_handing, is_to_draw_in, is_drawn_in, holds_a_zone, is_at_job};
@@ -23,7 +23,7 @@ use plate_book::Book;
 /// Whether both arms are in and the turn is at rest.
 #[tactic(auto, unfolding(crate::specs::Robot::is_drawn_in))]
 fn is_drawn_in(book: &Book) -> bool
-    ensures { result ≡ is_drawn_in (cell_of book.now.entries) }
+    ensures { result ≡ is_drawn_in (situation_of book.now.entries) }
 {
     rests_at(book, Axis::ArmOne, Pose::In)
         && rests_at(book, Axis::ArmTwo, Pose::In)
@@ -32,7 +32,7 @@ fn is_drawn_in(book: &Book) -> bool
 
 #[tactic(auto, unfolding(crate::specs::Robot::holds_a_zone))]
 fn holds_a_zone(book: &Book) -> bool
-    ensures { result ≡ holds_a_zone (cell_of book.now.entries) }
+    ensures { result ≡ holds_a_zone (situation_of book.now.entries) }
 {
     is_robots(book, Zone::Z1)
         || (is_robots(book, Zone::Z2)
@@ -43,7 +43,7 @@ fn holds_a_zone(book: &Book) -> bool
 /// Whether the turn is where this arm has a job whose zone the robot holds.
 #[tactic(auto, unfolding(crate::specs::Robot::is_at_job))]
 fn is_at_job(book: &Book, arm: Arm) -> bool
-    ensures { result ≡ is_at_job (cell_of book.now.entries) arm }
+    ensures { result ≡ is_at_job (situation_of book.now.entries) arm }
 {
     let pose = book.pose(Axis::RobotTurn).at;
     works_at(arm, pose) && has_job(book, pose) && holds_zone_at(book, pose)
@@ -51,7 +51,7 @@ fn is_at_job(book: &Book, arm: Arm) -> bool
 
 /// Whether the turn is at rest where this arm faces the station.
 fn is_facing(book: &Book, arm: Arm, station: Station) -> bool
-    ensures { result ≡ is_faced station (faces (cell_of book.now.entries) arm) }
+    ensures { result ≡ is_faced station (faces (situation_of book.now.entries) arm) }
 {
     let turn = book.pose(Axis::RobotTurn);
     if turn.going.is_some() {
@@ -71,7 +71,7 @@ fn is_facing(book: &Book, arm: Arm, station: Station) -> bool
 
 #[tactic(auto, unfolding(crate::specs::Robot::is_out))]
 fn is_out(book: &Book, arm: Arm) -> bool
-    ensures { result ≡ is_out (cell_of book.now.entries) arm }
+    ensures { result ≡ is_out (situation_of book.now.entries) arm }
 {
     match arm {
         Arm::Arm1 => rests_at(book, Axis::ArmOne, Pose::Out),
@@ -81,7 +81,7 @@ fn is_out(book: &Book, arm: Arm) -> bool
 
 #[tactic(auto, unfolding(crate::specs::Robot::is_out_at))]
 fn is_out_at(book: &Book, arm: Arm, station: Station) -> bool
-    ensures { result ≡ is_out_at (cell_of book.now.entries) arm station }
+    ensures { result ≡ is_out_at (situation_of book.now.entries) arm station }
 {
     is_out(book, arm) && is_facing(book, arm, station)
 }
@@ -90,7 +90,7 @@ fn is_out_at(book: &Book, arm: Arm, station: Station) -> bool
 #[tactic(auto, using(crate::proofs::Handings::grip_law, crate::proofs::Handings::no_plate))]
 fn grip(book: &Book, arm: Arm, station: Station) -> Option<Entry>
     requires { grips_at arm station ≡ true }
-    ensures { result ≡ first_bookable book.now.limits (cell_of book.now.entries) (map (handing_row (cell_of book.now.entries)) (of_plate (λ k. Gripped arm k station) (plate_of book.now.entries station))) }
+    ensures { result ≡ first_bookable book.now.limits (situation_of book.now.entries) (map (handing_row (situation_of book.now.entries)) (of_plate (λ k. Gripped arm k station) (plate_of book.now.entries station))) }
 {
     match book.plate_at(station) {
         Some(plate) => first_bookable(
@@ -112,7 +112,7 @@ fn grip(book: &Book, arm: Arm, station: Station) -> Option<Entry>
 #[tactic(auto, using(crate::proofs::Handings::drop_law, crate::proofs::Handings::no_plate))]
 fn drop_at(book: &Book, arm: Arm, station: Station) -> Option<Entry>
     requires { drops_at arm station ≡ true }
-    ensures { result ≡ first_bookable book.now.limits (cell_of book.now.entries) (map (handing_row (cell_of book.now.entries)) (of_plate (λ k. Dropped arm k station) (plate_of book.now.entries (station_of_arm arm)))) }
+    ensures { result ≡ first_bookable book.now.limits (situation_of book.now.entries) (map (handing_row (situation_of book.now.entries)) (of_plate (λ k. Dropped arm k station) (plate_of book.now.entries (station_of_arm arm)))) }
 {
     match book.plate_at(station_of_arm(arm)) {
         Some(plate) => first_bookable(
@@ -132,7 +132,7 @@ fn drop_at(book: &Book, arm: Arm, station: Station) -> Option<Entry>
 
 #[tactic(auto, using(crate::proofs::Handings::handings1_law))]
 fn hand_by_arm1(book: &Book) -> Option<Entry>
-    ensures { result ≡ first_bookable book.now.limits (cell_of book.now.entries) (map (handing_row (cell_of book.now.entries)) (handings (cell_of book.now.entries) arms.Arm1)) }
+    ensures { result ≡ first_bookable book.now.limits (situation_of book.now.entries) (map (handing_row (situation_of book.now.entries)) (handings (situation_of book.now.entries) arms.Arm1)) }
 {
     let to_press1 = drop_at(book, Arm::Arm1, Station::Press1);
     let to_press2 = drop_at(book, Arm::Arm1, Station::Press2);
@@ -141,7 +141,7 @@ fn hand_by_arm1(book: &Book) -> Option<Entry>
 
 #[tactic(auto, using(crate::proofs::Handings::handings2_law))]
 fn hand_by_arm2(book: &Book) -> Option<Entry>
-    ensures { result ≡ first_bookable book.now.limits (cell_of book.now.entries) (map (handing_row (cell_of book.now.entries)) (handings (cell_of book.now.entries) arms.Arm2)) }
+    ensures { result ≡ first_bookable book.now.limits (situation_of book.now.entries) (map (handing_row (situation_of book.now.entries)) (handings (situation_of book.now.entries) arms.Arm2)) }
 {
     let from_press2 = grip(book, Arm::Arm2, Station::Press2);
     let to_belt = drop_at(book, Arm::Arm2, Station::DepIn);
@@ -150,7 +150,7 @@ fn hand_by_arm2(book: &Book) -> Option<Entry>
 
 /// The grip or drop that an arm can do.
 fn hand(book: &Book, arm: Arm) -> Option<Entry>
-    ensures { result ≡ first_bookable book.now.limits (cell_of book.now.entries) (map (handing_row (cell_of book.now.entries)) (handings (cell_of book.now.entries) arm)) }
+    ensures { result ≡ first_bookable book.now.limits (situation_of book.now.entries) (map (handing_row (situation_of book.now.entries)) (handings (situation_of book.now.entries) arm)) }
 {
     match arm {
         Arm::Arm1 => hand_by_arm1(book),
@@ -160,19 +160,19 @@ fn hand(book: &Book, arm: Arm) -> Option<Entry>
 
 #[tactic(auto, using(crate::proofs::Handings::has_handing_law))]
 fn has_handing(book: &Book, arm: Arm) -> bool
-    ensures { result ≡ has_handing book.now.limits (cell_of book.now.entries) arm }
+    ensures { result ≡ has_handing book.now.limits (situation_of book.now.entries) arm }
 {
     hand(book, arm).is_some()
 }
 
 fn is_to_draw_in(book: &Book, arm: Arm) -> bool
-    ensures { result ≡ is_to_draw_in book.now.limits (cell_of book.now.entries) arm }
+    ensures { result ≡ is_to_draw_in book.now.limits (situation_of book.now.entries) arm }
 {
     is_out(book, arm) && !has_handing(book, arm)
 }
 
 fn draw_in(book: &Book) -> Option<Entry>
-    ensures { result ≡ first_bookable book.now.limits (cell_of book.now.entries) (map (robot_row book.now.limits (cell_of book.now.entries)) arms_in) }
+    ensures { result ≡ first_bookable book.now.limits (situation_of book.now.entries) (map (robot_row book.now.limits (situation_of book.now.entries)) arms_in) }
 {
     first_bookable(
         book,
@@ -190,13 +190,13 @@ fn draw_in(book: &Book) -> Option<Entry>
 }
 
 fn is_to_yield(book: &Book, zone: Zone) -> bool
-    ensures { result ≡ (is_drawn_in (cell_of book.now.entries) && (is_robots (cell_of book.now.entries) zone && not (has_job_in (cell_of book.now.entries) zone))) }
+    ensures { result ≡ (is_drawn_in (situation_of book.now.entries) && (is_robots (situation_of book.now.entries) zone && not (has_job_in (situation_of book.now.entries) zone))) }
 {
     is_drawn_in(book) && is_robots(book, zone) && !has_job_in(book, zone)
 }
 
 fn yield_one(book: &Book) -> Option<Entry>
-    ensures { result ≡ first_bookable book.now.limits (cell_of book.now.entries) (map (robot_row book.now.limits (cell_of book.now.entries)) yields) }
+    ensures { result ≡ first_bookable book.now.limits (situation_of book.now.entries) (map (robot_row book.now.limits (situation_of book.now.entries)) yields) }
 {
     first_bookable(
         book,
@@ -226,7 +226,7 @@ fn yield_one(book: &Book) -> Option<Entry>
 }
 
 fn reach_out(book: &Book) -> Option<Entry>
-    ensures { result ≡ first_bookable book.now.limits (cell_of book.now.entries) (map (robot_row book.now.limits (cell_of book.now.entries)) arms_out) }
+    ensures { result ≡ first_bookable book.now.limits (situation_of book.now.entries) (map (robot_row book.now.limits (situation_of book.now.entries)) arms_out) }
 {
     let drawn_in = is_drawn_in(book);
     first_bookable(
@@ -246,14 +246,14 @@ fn reach_out(book: &Book) -> Option<Entry>
 
 /// Whether the robot turns to a pose.
 fn is_to_turn(book: &Book, pose: Pose) -> bool
-    ensures { result ≡ (has_job (cell_of book.now.entries) pose && (holds_zone_at (cell_of book.now.entries) pose && (is_drawn_in (cell_of book.now.entries) && not (same_pose ((cell_of book.now.entries).at axes.RobotTurn) pose)))) }
+    ensures { result ≡ (has_job (situation_of book.now.entries) pose && (holds_zone_at (situation_of book.now.entries) pose && (is_drawn_in (situation_of book.now.entries) && not (same_pose ((situation_of book.now.entries).at axes.RobotTurn) pose)))) }
 {
     let is_there = book.pose(Axis::RobotTurn).at == pose;
     has_job(book, pose) && holds_zone_at(book, pose) && is_drawn_in(book) && !is_there
 }
 
 fn turn(book: &Book) -> Option<Entry>
-    ensures { result ≡ first_bookable book.now.limits (cell_of book.now.entries) (map (robot_row book.now.limits (cell_of book.now.entries)) turns) }
+    ensures { result ≡ first_bookable book.now.limits (situation_of book.now.entries) (map (robot_row book.now.limits (situation_of book.now.entries)) turns) }
 {
     first_bookable(
         book,
@@ -287,14 +287,14 @@ fn turn(book: &Book) -> Option<Entry>
 }
 
 fn is_to_claim(book: &Book, zone: Zone) -> bool
-    ensures { result ≡ (is_to_enter (cell_of book.now.entries) zone && (is_drawn_in (cell_of book.now.entries) && not (holds_a_zone (cell_of book.now.entries)))) }
+    ensures { result ≡ (is_to_enter (situation_of book.now.entries) zone && (is_drawn_in (situation_of book.now.entries) && not (holds_a_zone (situation_of book.now.entries)))) }
 {
     is_to_enter(book, zone) && is_drawn_in(book) && !holds_a_zone(book)
 }
 
 /// The claim of a zone with a job: first to lay a forged plate down, then to load a press, then to fetch a plate.
 fn claim(book: &Book) -> Option<Entry>
-    ensures { result ≡ first_bookable book.now.limits (cell_of book.now.entries) (map (robot_row book.now.limits (cell_of book.now.entries)) claims) }
+    ensures { result ≡ first_bookable book.now.limits (situation_of book.now.entries) (map (robot_row book.now.limits (situation_of book.now.entries)) claims) }
 {
     first_bookable(
         book,
@@ -322,7 +322,7 @@ fn claim(book: &Book) -> Option<Entry>
 /// The claim of a press that is to be unloaded, which the robot prefers to all others.
 #[tactic(auto, unfolding(crate::specs::Candidates::unloads))]
 pub fn claim_to_unload(book: &Book) -> Option<Entry>
-    ensures { result ≡ first_bookable book.now.limits (cell_of book.now.entries) (unloads (cell_of book.now.entries)) }
+    ensures { result ≡ first_bookable book.now.limits (situation_of book.now.entries) (unloads (situation_of book.now.entries)) }
 {
     let free = is_drawn_in(book) && !holds_a_zone(book);
     first_bookable(
@@ -343,7 +343,7 @@ pub fn claim_to_unload(book: &Book) -> Option<Entry>
 /// What the robot does next: a grip or drop, an arm's way back, a zone given up, an arm's way out, a turn, or a claim.
 #[tactic(auto, using(crate::proofs::Handings::robot_law))]
 pub fn propose_robot(book: &Book) -> Option<Entry>
-    ensures { result ≡ first_bookable book.now.limits (cell_of book.now.entries) (map (robot_row book.now.limits (cell_of book.now.entries)) (candidates (cell_of book.now.entries) machines.Robot)) }
+    ensures { result ≡ first_bookable book.now.limits (situation_of book.now.entries) (map (robot_row book.now.limits (situation_of book.now.entries)) (candidates (situation_of book.now.entries) machines.Robot)) }
 {
     hand_by_arm1(book).or(hand_by_arm2(book).or(draw_in(book).or(yield_one(book).or(reach_out(
         book,

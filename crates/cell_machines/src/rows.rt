@@ -1,7 +1,7 @@
 //! The first entry of a list that is wanted and bookable.
 ghost use Rattle.std.specs.Prelude.{◌≡◌, Bool, is_some};
 ghost use Rattle.std.specs.List.{list_any};
-ghost use Rattle.cell_views.specs.Told.{cell_of};
+ghost use Rattle.cell_views.specs.Situations.{situation_of};
 ghost use Rattle.cell_machines.specs.Room.{is_bookable};
 ghost use Rattle.cell_machines.specs.Candidates.{first_bookable};
 
@@ -11,7 +11,7 @@ use plate_book::{Book, Refusal};
 /// Whether an entry is allowed, or only the journal's room is lacking.
 #[tactic(auto, unfolding(crate::specs::Room::is_bookable))]
 fn is_bookable(book: &Book, entry: Entry) -> bool
-    ensures { result ≡ is_bookable book.now.limits (cell_of book.now.entries) entry }
+    ensures { result ≡ is_bookable book.now.limits (situation_of book.now.entries) entry }
 {
     match book.allows(entry) {
         Ok(()) => true,
@@ -23,7 +23,7 @@ fn is_bookable(book: &Book, entry: Entry) -> bool
 /// The first entry of the list that is wanted and bookable.
 #[tactic(auto, unfolding(crate::specs::Candidates::first_bookable))]
 pub fn first_bookable(book: &Book, rows: &[(bool, Entry)]) -> Option<Entry>
-    ensures { result ≡ first_bookable book.now.limits (cell_of book.now.entries) rows.now }
+    ensures { result ≡ first_bookable book.now.limits (situation_of book.now.entries) rows.now }
 {
     for row in rows {
         let entry = row.1;
@@ -41,7 +41,7 @@ pub fn any_of(tests: &[bool]) -> bool
 }
 
 pub fn is_moving(book: &Book, axis: Axis) -> bool
-    ensures { result ≡ is_some ((cell_of book.now.entries).going axis) }
+    ensures { result ≡ is_some ((situation_of book.now.entries).going axis) }
 {
     book.pose(axis).going.is_some()
 }

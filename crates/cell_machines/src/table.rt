@@ -1,7 +1,7 @@
 //! What the table does next.
 ghost use Rattle.std.specs.Prelude.{◌≡◌, not, ◌&&◌, true, false};
 ghost use Rattle.cell_types.specs.declared.words.Machine.TheVariants as machines;
-ghost use Rattle.cell_views.specs.Told.{cell_of};
+ghost use Rattle.cell_views.specs.Situations.{situation_of};
 ghost use Rattle.cell_machines.specs.Table.{is_lift_at_target, is_turn_at_target, is_table_at_rest, is_at_target, is_off_target};
 ghost use Rattle.cell_machines.specs.Candidates.{rows, first_bookable};
 
@@ -12,7 +12,7 @@ use cell_types::{Axis, Entry, Machine, Pose, Station, Zone};
 use plate_book::Book;
 
 fn is_lift_at_target(book: &Book) -> bool
-    ensures { result ≡ is_lift_at_target (cell_of book.now.entries) }
+    ensures { result ≡ is_lift_at_target (situation_of book.now.entries) }
 {
     let target = if is_occupied(book, Station::Table) {
         Pose::High
@@ -23,7 +23,7 @@ fn is_lift_at_target(book: &Book) -> bool
 }
 
 fn is_turn_at_target(book: &Book) -> bool
-    ensures { result ≡ is_turn_at_target (cell_of book.now.entries) }
+    ensures { result ≡ is_turn_at_target (situation_of book.now.entries) }
 {
     let target = if is_occupied(book, Station::Table) {
         Pose::Robot
@@ -34,19 +34,19 @@ fn is_turn_at_target(book: &Book) -> bool
 }
 
 fn is_table_at_rest(book: &Book) -> bool
-    ensures { result ≡ is_table_at_rest (cell_of book.now.entries) }
+    ensures { result ≡ is_table_at_rest (situation_of book.now.entries) }
 {
     is_at_rest(book, Axis::TableLift) && is_at_rest(book, Axis::TableTurn)
 }
 
 fn is_at_target(book: &Book) -> bool
-    ensures { result ≡ is_at_target (cell_of book.now.entries) }
+    ensures { result ≡ is_at_target (situation_of book.now.entries) }
 {
     is_table_at_rest(book) && (is_lift_at_target(book) && is_turn_at_target(book))
 }
 
 fn is_off_target(book: &Book) -> bool
-    ensures { result ≡ is_off_target (cell_of book.now.entries) }
+    ensures { result ≡ is_off_target (situation_of book.now.entries) }
 {
     is_table_at_rest(book) && !(is_lift_at_target(book) && is_turn_at_target(book))
 }
@@ -54,7 +54,7 @@ fn is_off_target(book: &Book) -> bool
 /// What Table does next. With a plate it rises before it turns, and without one it turns back before it sinks.
 #[tactic(auto, unfolding(crate::specs::Candidates::rows, crate::specs::Candidates::candidates))]
 pub fn propose_table(book: &Book, plan: u32) -> Option<Entry>
-    ensures { result ≡ first_bookable book.now.limits (cell_of book.now.entries) (rows book.now.limits (cell_of book.now.entries) plan machines.Table) }
+    ensures { result ≡ first_bookable book.now.limits (situation_of book.now.entries) (rows book.now.limits (situation_of book.now.entries) plan machines.Table) }
 {
     let there = is_at_target(book);
     let away = is_off_target(book);

@@ -5,7 +5,7 @@ use Rattle.cell_types.specs.declared.words.Station.TheVariants as station
 use Rattle.cell_types.specs.declared.words.Axis.TheVariants as axis
 use Rattle.cell_types.specs.declared.words.Colour.{Colour}
 use Rattle.cell_types.specs.declared.words.Colour.TheVariants as colour
-use Rattle.cell_views.specs.Told.{Cell}
+use Rattle.cell_views.specs.Situations.{Situation}
 use Rattle.cell_policy.specs.Reads.{is_at_rest}
 
 abbrev pub green_where : Bool → Colour
@@ -13,12 +13,12 @@ green_where true = colour.Green
 green_where false = colour.Red
 
 -- green: a plate may be laid in
-unfoldable pub feed_light : Cell → ℕ → Colour
+unfoldable pub feed_light : Situation → ℕ → Colour
 feed_light c plan =
     green_where (not (c.failed machine.Feed) && (is_at_rest c axis.FeedBelt && (not (c.occupied station.FeedIn)
     && (not (c.occupied station.FeedEnd) && nat_lt c.admitted plan))))
 
 -- green: a plate may be taken out
-unfoldable pub deposit_light : Cell → Colour
+unfoldable pub deposit_light : Situation → Colour
 deposit_light c =
     green_where (not (c.failed machine.Deposit) && (is_at_rest c axis.DepositBelt && c.occupied station.DepEnd))

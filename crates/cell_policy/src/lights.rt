@@ -1,6 +1,6 @@
 //! The lights that the belts want.
 ghost use Rattle.std.specs.Prelude.{◌≡◌};
-ghost use Rattle.cell_views.specs.Told.{cell_of};
+ghost use Rattle.cell_views.specs.Situations.{situation_of};
 ghost use Rattle.cell_policy.specs.Lights.{green_where, feed_light, deposit_light};
 
 use crate::reads::{is_at_rest, is_occupied};
@@ -21,7 +21,7 @@ fn green_where(condition: bool) -> Colour
 /// where Feed is healthy, its belt is at rest, FeedIn and FeedEnd are empty, and fewer than `plan` plates were admitted.
 #[tactic(auto, unfolding(crate::specs::Lights::feed_light))]
 pub fn feed_light_wanted(book: &Book, plan: u32) -> Colour
-    ensures { result ≡ feed_light (cell_of book.now.entries) plan }
+    ensures { result ≡ feed_light (situation_of book.now.entries) plan }
 {
     green_where(
         !book.failed(Machine::Feed)
@@ -36,7 +36,7 @@ pub fn feed_light_wanted(book: &Book, plan: u32) -> Colour
 /// exactly where Deposit is healthy, its belt is at rest and a plate is at DepEnd.
 #[tactic(auto, unfolding(crate::specs::Lights::deposit_light))]
 pub fn deposit_light_wanted(book: &Book) -> Colour
-    ensures { result ≡ deposit_light (cell_of book.now.entries) }
+    ensures { result ≡ deposit_light (situation_of book.now.entries) }
 {
     green_where(
         !book.failed(Machine::Deposit)

@@ -2,7 +2,7 @@
 ghost use Rattle.std.specs.Prelude.{◌≡◌};
 ghost use Rattle.cell_types.specs.After.{is_machine};
 ghost use Rattle.cell_views.specs.Views.{is_occupied};
-ghost use Rattle.cell_views.specs.Told.{cell_of};
+ghost use Rattle.cell_views.specs.Situations.{situation_of};
 ghost use Rattle.plate_book.specs.Rules.First.{rests_at};
 ghost use Rattle.cell_policy.specs.Reads.{is_at_rest};
 
@@ -11,7 +11,7 @@ use plate_book::Book;
 
 /// Whether an axis is at rest at this pose.
 pub fn rests_at(book: &Book, axis: Axis, pose: Pose) -> bool
-    ensures { result ≡ rests_at (cell_of book.now.entries) axis pose }
+    ensures { result ≡ rests_at (situation_of book.now.entries) axis pose }
 {
     let state = book.pose(axis);
     state.going.is_none() && state.at == pose
@@ -19,7 +19,7 @@ pub fn rests_at(book: &Book, axis: Axis, pose: Pose) -> bool
 
 /// Whether an axis is at rest, at any pose.
 pub fn is_at_rest(book: &Book, axis: Axis) -> bool
-    ensures { result ≡ is_at_rest (cell_of book.now.entries) axis }
+    ensures { result ≡ is_at_rest (situation_of book.now.entries) axis }
 {
     book.pose(axis).going.is_none()
 }
@@ -27,7 +27,7 @@ pub fn is_at_rest(book: &Book, axis: Axis) -> bool
 /// Whether this machine holds a zone.
 #[tactic(auto, unfolding(cell_types::specs::After::is_machine))]
 pub fn is_held_by(book: &Book, machine: Machine, zone: Zone) -> bool
-    ensures { result ≡ is_machine machine ((cell_of book.now.entries).holder zone) }
+    ensures { result ≡ is_machine machine ((situation_of book.now.entries).holder zone) }
 {
     match book.holder(zone) {
         Some(holder) => holder == machine,

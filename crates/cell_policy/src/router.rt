@@ -1,6 +1,6 @@
 //! The router: which press takes the next plate.
 ghost use Rattle.std.specs.Prelude.{◌≡◌};
-ghost use Rattle.cell_views.specs.Told.{cell_of};
+ghost use Rattle.cell_views.specs.Situations.{situation_of};
 ghost use Rattle.cell_policy.specs.Router.{is_ready, press_chosen, IsChoice};
 
 use crate::reads::{is_held_by, is_occupied, rests_at};
@@ -9,7 +9,7 @@ use plate_book::Book;
 
 /// Whether a press takes a plate now.
 fn is_ready(book: &Book, press: Machine, axis: Axis, zone: Zone, station: Station) -> bool
-    ensures { result ≡ is_ready (cell_of book.now.entries) press axis zone station }
+    ensures { result ≡ is_ready (situation_of book.now.entries) press axis zone station }
 {
     !book.failed(press)
         && !is_occupied(book, station)
@@ -20,15 +20,15 @@ fn is_ready(book: &Book, press: Machine, axis: Axis, zone: Zone, station: Statio
 /// The press for the next plate, by this project's profile: of the presses that are healthy, empty, at rest in Middle
 /// and don't hold their own zone, the one that forged fewer plates so far, Press1 at a tie; None where there is none.
 pub fn choose_press(book: &Book) -> Option<Machine>
-    ensures best { IsChoice (cell_of book.now.entries) result }
-    ensures value { result ≡ press_chosen (cell_of book.now.entries) }
+    ensures best { IsChoice (situation_of book.now.entries) result }
+    ensures value { result ≡ press_chosen (situation_of book.now.entries) }
 {
     find_press(book)
 }
 
 #[tactic(auto, unfolding(crate::specs::Router::press_chosen))]
 fn find_press(book: &Book) -> Option<Machine>
-    ensures { result ≡ press_chosen (cell_of book.now.entries) }
+    ensures { result ≡ press_chosen (situation_of book.now.entries) }
 {
     let first = is_ready(
         book,

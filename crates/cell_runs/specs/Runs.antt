@@ -4,7 +4,7 @@ use Rattle.std.specs.Io.KnownBytes.{Appends}
 use Rattle.cell_types.specs.declared.words.Entry.{Entry}
 use Rattle.cell_types.specs.declared.words.Totals.{Totals}
 use Rattle.cell_views.specs.Views.{count_of}
-use Rattle.plate_book.specs.declared.limits.Limits.{Limits}
+use Rattle.plate_book.specs.declared.limits.BookLimits.{BookLimits}
 use Rattle.plate_book.specs.Rules.Legal.{legal}
 use Rattle.cell_turns.specs.declared.plan.Plan.{Plan}
 use Rattle.cell_workers.specs.Ends.{IsDone}
@@ -56,15 +56,15 @@ StopsPrinting journal e t J old new status = WritesPart old new (shown journal e
 abbrev pub PrintsOrStops : Bool → End → Totals → List Entry → Option (List ℕ) → Option (List ℕ) → ℕ → Type 0
 PrintsOrStops journal e t J old new status = Prints journal e t J old new status ⊎ StopsPrinting journal e t J old new status
 
-abbrev pub limits_of : Plan → Limits
+abbrev pub limits_of : Plan → BookLimits
 limits_of plan = record { entries = plan.journal_limit; plates = plan.plates }
 
 -- a run on one thread has a journal that is legal within its limits, and is done where it finished
-abbrev pub IsRoundsRun : Limits → End → List Entry → Type 0
+abbrev pub IsRoundsRun : BookLimits → End → List Entry → Type 0
 IsRoundsRun limits e J = (legal limits J ≡ true) × (e ≡ end.Finished → IsDone limits.plates J)
 
 -- a run on one thread is printed; or memory was refused before it, and nothing was written
-abbrev pub WritesRounds : Bool → Limits → Option (List ℕ) → Option (List ℕ) → ℕ → Type 0
+abbrev pub WritesRounds : Bool → BookLimits → Option (List ℕ) → Option (List ℕ) → ℕ → Type 0
 WritesRounds journal limits old new status =
     ((e : End) × (J : List Entry) × IsRoundsRun limits e J × PrintsOrStops journal e (count_of J) J old new status) ⊎ WritesError old new [] 4 status
 
@@ -75,12 +75,12 @@ WritesRunError old new run.ThreadRefused status = WritesError old new [] 4 statu
 WritesRunError old new run.JournalDisagrees status = WritesError old new (codes "journal disagrees\n") 1 status
 
 -- a run on threads has a report, which is printed with the run's end, or why there is none is told
-abbrev pub WritesReport : Bool → Limits → Option (List ℕ) → Option (List ℕ) → ℕ → Type 0
+abbrev pub WritesReport : Bool → BookLimits → Option (List ℕ) → Option (List ℕ) → ℕ → Type 0
 WritesReport journal limits old new status =
     ((e : End) × (J : List Entry) × (t : Totals) × (ws : List (List Entry × Totals)) × IsReport limits J t ws × PrintsOrStops journal e t J old new status)
     ⊎ ((why : RunError) × WritesRunError old new why status)
 
-abbrev pub WritesRun : Bool → Bool → Limits → Option (List ℕ) → Option (List ℕ) → ℕ → Type 0
+abbrev pub WritesRun : Bool → Bool → BookLimits → Option (List ℕ) → Option (List ℕ) → ℕ → Type 0
 WritesRun false journal limits old new status = WritesRounds journal limits old new status
 WritesRun true journal limits old new status = WritesReport journal limits old new status
 

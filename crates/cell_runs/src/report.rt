@@ -2,7 +2,7 @@
 ghost use Rattle.std.specs.Prelude.{◌≡◌, map, IfOk, IsErr, OnOk, true};
 ghost use Rattle.std.specs.Io.KnownBytes.{Appends};
 ghost use Rattle.cell_audit.specs.Watched.{IsSameWriter, WritesPart, bytes_held, has_refused};
-ghost use Rattle.plate_book.specs.declared.limits.Limits.{Limits};
+ghost use Rattle.plate_book.specs.declared.limits.BookLimits.{BookLimits};
 ghost use Rattle.cell_workers.specs.Ends.{IsDone};
 ghost use Rattle.cell_workers.specs.Report.{IsReport};
 ghost use Rattle.cell_workers.specs.declared.ends.End.TheVariants as end;
@@ -128,7 +128,7 @@ pub fn write_report<W: Write>(
     writer: &mut WatchedWriter<'_, W>,
 ) -> Result<u8, WriteFault>
     ensures writer { IsSameWriter writer.old writer.new }
-    ensures whole { IfOk result (λ status. (limits : Limits) → IsReport limits report.now.journal.entries report.now.totals (map (λ w. (w.0.items, w.1)) report.now.workers) → WritesReport journal limits (bytes_held W.contents writer.old) (bytes_held W.contents writer.new) status) }
+    ensures whole { IfOk result (λ status. (limits : BookLimits) → IsReport limits report.now.journal.entries report.now.totals (map (λ w. (w.0.items, w.1)) report.now.workers) → WritesReport journal limits (bytes_held W.contents writer.old) (bytes_held W.contents writer.new) status) }
     ensures fault { IsErr result → has_refused writer.new ≡ true }
 {
     write_run(

@@ -15,8 +15,8 @@ use Rattle.cell_types.specs.declared.words.Cause.TheVariants as cause
 use Rattle.cell_types.specs.declared.words.Entry.{Entry}
 use Rattle.cell_types.specs.declared.words.Entry.TheVariants.{Admitted, Conveyed, Forged, Delivered, Declared}
 use Rattle.cell_views.specs.Views.{plate_of, is_failed, is_asked, is_admitted}
-use Rattle.cell_views.specs.Told.{Cell, cell_of}
-use Rattle.plate_book.specs.declared.limits.Limits.{Limits}
+use Rattle.cell_views.specs.Situations.{Situation, situation_of}
+use Rattle.plate_book.specs.declared.limits.BookLimits.{BookLimits}
 use Rattle.cell_diagnosis.specs.declared.motion.Motion.{Motion}
 use Rattle.cell_diagnosis.specs.declared.reading.Reading.{Reading}
 use Rattle.cell_diagnosis.specs.declared.verdict.Verdict.{Verdict}
@@ -124,7 +124,7 @@ left : (a b : Bool) → (a && b) ≡ true → a ≡ true
 left true b h = refl
 left false b h = cc
 
-unwanted : (l : Limits) (c : Cell) (plan : ℕ) (m n : Machine) (why : Cause) → wants l c plan m (Declared n why) ≡ false
+unwanted : (l : BookLimits) (c : Situation) (plan : ℕ) (m n : Machine) (why : Cause) → wants l c plan m (Declared n why) ≡ false
 unwanted l c plan machine.Feed n why = refl
 unwanted l c plan machine.Table n why = refl
 unwanted l c plan machine.Robot n why = refl
@@ -132,15 +132,15 @@ unwanted l c plan machine.Press1 n why = refl
 unwanted l c plan machine.Press2 n why = refl
 unwanted l c plan machine.Deposit n why = refl
 
-of_useful : (l : Limits) (J : List Entry) (plan : ℕ) (m : Machine) (e : Entry) → is_useful l J plan m e ≡ true → is_command_fault e ≡ false
+of_useful : (l : BookLimits) (J : List Entry) (plan : ℕ) (m : Machine) (e : Entry) → is_useful l J plan m e ≡ true → is_command_fault e ≡ false
 unfolding is_useful_now
-of_useful l J plan m (Declared n why) h = absurd (differ (sym (unwanted l (cell_of J) plan m n why) ∙ left (wants l (cell_of J) plan m (Declared n why)) (is_bookable l (cell_of J) (Declared n why)) h))
+of_useful l J plan m (Declared n why) h = absurd (differ (sym (unwanted l (situation_of J) plan m n why) ∙ left (wants l (situation_of J) plan m (Declared n why)) (is_bookable l (situation_of J) (Declared n why)) h))
   where
     differ : false ≡ true → ⊥
     differ q = cc
 of_useful l J plan m _ h = refl
 
-of_ruled : (l : Limits) (J : List Entry) (m : Machine) (plates : ℕ) (failed : Bool) (k : Ruling) (e : Entry) → FaultRuling failed k → IsRuled l J m plates k (Some e) → is_command_fault e ≡ failed
+of_ruled : (l : BookLimits) (J : List Entry) (m : Machine) (plates : ℕ) (failed : Bool) (k : Ruling) (e : Entry) → FaultRuling failed k → IsRuled l J m plates k (Some e) → is_command_fault e ≡ failed
 of_ruled l J m plates failed Nothing e f h = cc
 of_ruled l J m plates failed PastLast e f h = absurd h
 of_ruled l J m plates failed Proposes e f h = of_useful l J plates m e h ∙ sym f
@@ -151,11 +151,11 @@ of_ruled l J m plates failed (Books x) e f h = subst (λ (o : Option Entry). on_
     on_entry (Some y) = is_command_fault y ≡ failed
 
 -- a turn books a CommandFault exactly where the last command failed
-pub fault_decided : (l : Limits) (J : List Entry) (m : Machine) (p : Plan) (s : Mind) (r : Option Reading) (e : Entry) → IsDecided l J m p s r (Some e) → is_command_fault e ≡ s.memory.command_failed
+pub fault_decided : (l : BookLimits) (J : List Entry) (m : Machine) (p : Plan) (s : Mind) (r : Option Reading) (e : Entry) → IsDecided l J m p s r (Some e) → is_command_fault e ≡ s.memory.command_failed
 fault_decided l J m p s r e h = of_ruled l J m p.plates s.memory.command_failed (ruling J m p s r) e (of_ruling J m p s r) h
 
 -- the same of a watch
-pub fault_booked : (l : Limits) (J : List Entry) (m : Machine) (p : Plan) (w : Watch) (r : Option Reading) (o : Option Entry)
+pub fault_booked : (l : BookLimits) (J : List Entry) (m : Machine) (p : Plan) (w : Watch) (r : Option Reading) (o : Option Entry)
     → ((s : Mind) → FitsMind w s → IsDecided l J m p s r o) → IfSome o (λ e. is_command_fault e ≡ has_failed_command w)
 fault_booked l J m p w r None h = tt
 fault_booked l J m p w r (Some e) h = of_some w (is_command_fault e) (has_failed_command w) (λ s fit. fault_decided l J m p s r e (h s fit) ∙ sym (ap (λ (k : Memory). k.command_failed) fit.memory))

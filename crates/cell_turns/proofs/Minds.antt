@@ -5,7 +5,7 @@ use mathlib.Core.Bool.{Bool-set}
 use Rattle.std.specs.Prelude.{is_none}
 use Rattle.cell_types.specs.declared.words.Machine.{Machine}
 use Rattle.cell_types.specs.declared.words.Entry.{Entry}
-use Rattle.plate_book.specs.declared.limits.Limits.{Limits}
+use Rattle.plate_book.specs.declared.limits.BookLimits.{BookLimits}
 use Rattle.cell_diagnosis.specs.declared.reading.Reading.{Reading}
 use Rattle.cell_diagnosis.specs.declared.axis_watch.AxisWatch.{AxisWatch}
 use Rattle.cell_diagnosis.specs.declared.rest_watch.RestWatch.{RestWatch}
@@ -71,7 +71,7 @@ ruling_is w J p s r k found motion_is sign_is k_is fit axis_is rest_is =
     ∙ ap (λ (f : Findings). ruling_by J w.machine w.memory f) (found_is w J p s r found motion_is sign_is fit axis_is rest_is)
     ∙ ap (λ (m : Memory). ruling_by J w.machine m (findings J w.machine p s r)) fit.memory
 
-pub decided : (l : Limits) (w : Watch) (J : List Entry) (p : Plan) (s : Mind) (r : Option Reading) (k : Ruling) (e : Option Entry) (found : Findings)
+pub decided : (l : BookLimits) (w : Watch) (J : List Entry) (p : Plan) (s : Mind) (r : Option Reading) (k : Ruling) (e : Option Entry) (found : Findings)
     → found.motion ≡ motion_of_machine J p w.machine
     → found.sign ≡ shows_sign J w.machine r
     → k ≡ ruling_by J w.machine w.memory found

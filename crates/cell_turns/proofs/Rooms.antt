@@ -25,12 +25,12 @@ use Rattle.cell_types.specs.Entries.{actor_of}
 use Rattle.cell_types.specs.Same.{same_pose, pose_number, same_colour}
 use Rattle.cell_types.specs.After.{is_plate}
 use Rattle.cell_views.specs.Views.{at_of, going_of, plate_of, is_at, has_other, is_failed, is_asked, lamp_of, is_admitted, is_quarantined}
-use Rattle.cell_views.specs.Told.{Cell, cell_of}
-use Rattle.plate_book.specs.declared.limits.Limits.{Limits}
+use Rattle.cell_views.specs.Situations.{Situation, situation_of}
+use Rattle.plate_book.specs.declared.limits.BookLimits.{BookLimits}
 use Rattle.plate_book.specs.declared.refusal.Refusal.{Refusal}
 use Rattle.plate_book.specs.declared.refusal.Refusal.TheVariants.{JournalFull, PlateLimit, OutOfMemory}
 use Rattle.plate_book.specs.Rules.First.{first_true, is_pose, ends_by_arrival, conveyed_tests}
-use Rattle.plate_book.specs.Rules.Bridged.{IsTold}
+use Rattle.plate_book.specs.Rules.Bridged.{TellsWhatIsLeft}
 use Rattle.plate_book.specs.Rules.Legal.{first_of}
 use Rattle.cell_diagnosis.specs.declared.motion.Motion.{Motion}
 use Rattle.cell_diagnosis.specs.declared.verdict.Verdict.{Verdict}
@@ -52,12 +52,12 @@ use Rattle.cell_turns.specs.Minds.{Mind, FitsMind}
 use Rattle.cell_turns.specs.Turns.{may_meet, IsRuled, IsDecided, IsUnbooked, IsExcused}
 use Rattle.cell_turns.proofs.Points.{by_sign, by_end, by_rest, by_axis, by_all}
 
-pub record IsOwn (l : Limits) (J : List Entry) (m : Machine) (e : Entry) : Type 0 where
+pub record IsOwn (l : BookLimits) (J : List Entry) (m : Machine) (e : Entry) : Type 0 where
   pub by : actor_of e ≡ actor.Machine m
   pub room : may_meet e (first_of l J e) ≡ true
   pub plain : is_quarantined e ≡ false
 
-abbrev pub OwnRuling : Limits → List Entry → Machine → Ruling → Type 0
+abbrev pub OwnRuling : BookLimits → List Entry → Machine → Ruling → Type 0
 OwnRuling l J m (Books e) = IsOwn l J m e
 OwnRuling l J m _ = Unit {0}
 
@@ -94,13 +94,13 @@ same_self p = eq-eqb (pose_number p) (pose_number p) refl
 goes : (J : List Entry) (a : Axis) (to : Pose) → going_of J a ≡ Some to → is_pose to (going_of J a) ≡ true
 goes J a to is = ap (is_pose to) is ∙ same_self to
 
-holds : (J : List Entry) (s : Station) (k : ℕ) → IsTold J → plate_of J s ≡ Some k → is_at J s k ≡ true
-holds J s k told is = ap (λ (c : Cell). c.holds s k) told.cell ∙ ap (is_plate k) (sym (ap (λ (c : Cell). c.plate s) told.cell) ∙ is) ∙ eq-eqb k k refl
+holds : (J : List Entry) (s : Station) (k : ℕ) → TellsWhatIsLeft J → plate_of J s ≡ Some k → is_at J s k ≡ true
+holds J s k told is = ap (λ (c : Situation). c.holds s k) told.cell ∙ ap (is_plate k) (sym (ap (λ (c : Situation). c.plate s) told.cell) ∙ is) ∙ eq-eqb k k refl
 
-alone : (J : List Entry) (s : Station) (k : ℕ) → IsTold J → plate_of J s ≡ Some k → has_other J s k ≡ false
+alone : (J : List Entry) (s : Station) (k : ℕ) → TellsWhatIsLeft J → plate_of J s ≡ Some k → has_other J s k ≡ false
 alone J s k told is =
-    ap (λ (c : Cell). c.other s k) told.cell
-    ∙ ap (λ (o : Option ℕ). is_some o && not (is_plate k o)) (sym (ap (λ (c : Cell). c.plate s) told.cell) ∙ is) ∙ ap not (eq-eqb k k refl)
+    ap (λ (c : Situation). c.other s k) told.cell
+    ∙ ap (λ (o : Option ℕ). is_some o && not (is_plate k o)) (sym (ap (λ (c : Situation). c.plate s) told.cell) ∙ is) ∙ ap not (eq-eqb k k refl)
 
 -- the motion that the book shows
 
@@ -135,21 +135,21 @@ shown J p machine.Deposit = on_shown J p axis.DepositBelt
 
 -- each entry that may be decided
 
-own_declared : (l : Limits) (J : List Entry) (m : Machine) (c : Cause) → is_failed J m ≡ false → IsOwn l J m (Declared m c)
+own_declared : (l : BookLimits) (J : List Entry) (m : Machine) (c : Cause) → is_failed J m ≡ false → IsOwn l J m (Declared m c)
 own_declared l J m c healthy = record {
   by = refl;
   room = full_then _ (Declared m c) _ (skip _ _ (Declared m c) _ healthy (none_left (Declared m c)));
   plain = refl;
 }
 
-own_arrived : (l : Limits) (J : List Entry) (a : Axis) (to : Pose) → is_failed J (machine_of_axis a) ≡ false → going_of J a ≡ Some to → ends_by_arrival a to ≡ true → IsOwn l J (machine_of_axis a) (ArrivedAt a to)
+own_arrived : (l : BookLimits) (J : List Entry) (a : Axis) (to : Pose) → is_failed J (machine_of_axis a) ≡ false → going_of J a ≡ Some to → ends_by_arrival a to ≡ true → IsOwn l J (machine_of_axis a) (ArrivedAt a to)
 own_arrived l J a to healthy going ends = record {
   by = refl;
   room = full_then _ (ArrivedAt a to) _ (skip _ _ (ArrivedAt a to) _ healthy (skip _ _ (ArrivedAt a to) _ (ap (λ (b : Bool). not (b && ends_by_arrival a to)) (goes J a to going) ∙ ap not ends) (none_left (ArrivedAt a to))));
   plain = refl;
 }
 
-own_conveyed : (l : Limits) (J : List Entry) (a : Axis) (from dest : Station) (to : Pose) → motion_to a dest ≡ Some (record { to = to; from = from; dest = dest }) → is_failed J (machine_of_axis a) ≡ false → going_of J a ≡ Some to → IsTold J → OwnRuling l J (machine_of_axis a) (books (conveyed J a from dest))
+own_conveyed : (l : BookLimits) (J : List Entry) (a : Axis) (from dest : Station) (to : Pose) → motion_to a dest ≡ Some (record { to = to; from = from; dest = dest }) → is_failed J (machine_of_axis a) ≡ false → going_of J a ≡ Some to → TellsWhatIsLeft J → OwnRuling l J (machine_of_axis a) (books (conveyed J a from dest))
 own_conveyed l J a from dest to is healthy going told = go (plate_of J from) refl
   where
     go : (o : Option ℕ) → plate_of J from ≡ o → OwnRuling l J (machine_of_axis a) (books (option_map (λ k. Conveyed a k dest) o))
@@ -157,12 +157,12 @@ own_conveyed l J a from dest to is healthy going told = go (plate_of J from) ref
     go (Some k) at = record {
       by = refl;
       room = full_then _ (Conveyed a k dest) _ (skip _ _ (Conveyed a k dest) _ healthy
-          (subst (λ (mo : Option BeltMotion). may_meet (Conveyed a k dest) (first_true (conveyed_tests (cell_of J) a k mo)) ≡ true) (sym is)
+          (subst (λ (mo : Option BeltMotion). may_meet (Conveyed a k dest) (first_true (conveyed_tests (situation_of J) a k mo)) ≡ true) (sym is)
           (skip _ _ (Conveyed a k dest) _ (ap not (goes J a to going)) (skip _ _ (Conveyed a k dest) _ (ap not (holds J from k told at)) (none_left (Conveyed a k dest))))));
       plain = refl;
     }
 
-own_forged1 : (l : Limits) (J : List Entry) → is_failed J machine.Press1 ≡ false → going_of J axis.PressOne ≡ Some pose.Top → IsTold J → OwnRuling l J machine.Press1 (books (forged J machine.Press1 station.Press1))
+own_forged1 : (l : BookLimits) (J : List Entry) → is_failed J machine.Press1 ≡ false → going_of J axis.PressOne ≡ Some pose.Top → TellsWhatIsLeft J → OwnRuling l J machine.Press1 (books (forged J machine.Press1 station.Press1))
 own_forged1 l J healthy going told = go (plate_of J station.Press1) refl
   where
     go : (o : Option ℕ) → plate_of J station.Press1 ≡ o → OwnRuling l J machine.Press1 (books (option_map (λ k. Forged machine.Press1 k) o))
@@ -174,7 +174,7 @@ own_forged1 l J healthy going told = go (plate_of J station.Press1) refl
       plain = refl;
     }
 
-own_forged2 : (l : Limits) (J : List Entry) → is_failed J machine.Press2 ≡ false → going_of J axis.PressTwo ≡ Some pose.Top → IsTold J → OwnRuling l J machine.Press2 (books (forged J machine.Press2 station.Press2))
+own_forged2 : (l : BookLimits) (J : List Entry) → is_failed J machine.Press2 ≡ false → going_of J axis.PressTwo ≡ Some pose.Top → TellsWhatIsLeft J → OwnRuling l J machine.Press2 (books (forged J machine.Press2 station.Press2))
 own_forged2 l J healthy going told = go (plate_of J station.Press2) refl
   where
     go : (o : Option ℕ) → plate_of J station.Press2 ≡ o → OwnRuling l J machine.Press2 (books (option_map (λ k. Forged machine.Press2 k) o))
@@ -186,7 +186,7 @@ own_forged2 l J healthy going told = go (plate_of J station.Press2) refl
       plain = refl;
     }
 
-own_ending : (l : Limits) (J : List Entry) (a : Axis) (to : Pose) → is_failed J (machine_of_axis a) ≡ false → going_of J a ≡ Some to → IsTold J → OwnRuling l J (machine_of_axis a) (books (ending J a to))
+own_ending : (l : BookLimits) (J : List Entry) (a : Axis) (to : Pose) → is_failed J (machine_of_axis a) ≡ false → going_of J a ≡ Some to → TellsWhatIsLeft J → OwnRuling l J (machine_of_axis a) (books (ending J a to))
 own_ending l J axis.FeedBelt pose.ToEnd healthy going told = own_conveyed l J axis.FeedBelt station.FeedIn station.FeedEnd pose.ToEnd refl healthy going told
 own_ending l J axis.FeedBelt pose.ToTable healthy going told = own_conveyed l J axis.FeedBelt station.FeedEnd station.Table pose.ToTable refl healthy going told
 own_ending l J axis.FeedBelt _ healthy going told = tt
@@ -207,7 +207,7 @@ not_red : (c : Colour) → same_colour c colour.Green ≡ true → same_colour c
 not_red colour.Red h = cc
 not_red colour.Green h = refl
 
-own_next : (l : Limits) (J : List Entry) → is_failed J machine.Feed ≡ false → same_colour (lamp_of J belt.Feed) colour.Green ≡ true → OwnRuling l J machine.Feed (next_plate (count_by is_admitted J + 1))
+own_next : (l : BookLimits) (J : List Entry) → is_failed J machine.Feed ≡ false → same_colour (lamp_of J belt.Feed) colour.Green ≡ true → OwnRuling l J machine.Feed (next_plate (count_by is_admitted J + 1))
 own_next l J healthy lit = go (nat_lt 100000 (count_by is_admitted J + 1))
   where
     k : ℕ
@@ -221,7 +221,7 @@ own_next l J healthy lit = go (nat_lt 100000 (count_by is_admitted J + 1))
       plain = refl;
     }
 
-own_signed : (l : Limits) (J : List Entry) (m : Machine) → is_failed J m ≡ false → IsLit J m → IsTold J → OwnRuling l J m (signed J m)
+own_signed : (l : BookLimits) (J : List Entry) (m : Machine) → is_failed J m ≡ false → IsLit J m → TellsWhatIsLeft J → OwnRuling l J m (signed J m)
 own_signed l J machine.Feed healthy lit told = own_next l J healthy lit
 own_signed l J machine.Deposit healthy lit told = go (plate_of J station.DepEnd) refl
   where
@@ -239,11 +239,11 @@ own_signed l J machine.Press2 healthy lit told = tt
 
 -- the points
 
-own_by_sign : (l : Limits) (J : List Entry) (m : Machine) (sign : Bool) → is_failed J m ≡ false → (sign ≡ true → IsLit J m) → IsTold J → OwnRuling l J m (by_sign J m sign)
+own_by_sign : (l : BookLimits) (J : List Entry) (m : Machine) (sign : Bool) → is_failed J m ≡ false → (sign ≡ true → IsLit J m) → TellsWhatIsLeft J → OwnRuling l J m (by_sign J m sign)
 own_by_sign l J m true healthy lit told = own_signed l J m healthy (lit refl) told
 own_by_sign l J m false healthy lit told = tt
 
-own_by_end : (l : Limits) (J : List Entry) (m : Machine) (sign : Bool) (o : Option Motion) (v : Verdict) → is_failed J m ≡ false → (sign ≡ true → IsLit J m) → IsTold J → AreShown J m o → OwnRuling l J m (by_end J m sign o v)
+own_by_end : (l : BookLimits) (J : List Entry) (m : Machine) (sign : Bool) (o : Option Motion) (v : Verdict) → is_failed J m ≡ false → (sign ≡ true → IsLit J m) → TellsWhatIsLeft J → AreShown J m o → OwnRuling l J m (by_end J m sign o v)
 own_by_end l J m sign None v healthy lit told seen = own_by_sign l J m sign healthy lit told
 own_by_end l J m sign (Some mo) Pending healthy lit told seen = own_by_sign l J m sign healthy lit told
 own_by_end l J m sign (Some mo) (Fault c) healthy lit told seen = own_by_sign l J m sign healthy lit told
@@ -251,17 +251,17 @@ own_by_end l J m sign (Some mo) Arrived healthy lit told seen =
     subst (λ (n : Machine). OwnRuling l J n (books (ending J mo.axis mo.to))) seen.own
     (own_ending l J mo.axis mo.to (rw seen.own healthy) seen.going told)
 
-own_by_rest : (l : Limits) (J : List Entry) (m : Machine) (sign : Bool) (o : Option Motion) (v u : Verdict) → is_failed J m ≡ false → (sign ≡ true → IsLit J m) → IsTold J → AreShown J m o → OwnRuling l J m (by_rest J m sign o v u)
+own_by_rest : (l : BookLimits) (J : List Entry) (m : Machine) (sign : Bool) (o : Option Motion) (v u : Verdict) → is_failed J m ≡ false → (sign ≡ true → IsLit J m) → TellsWhatIsLeft J → AreShown J m o → OwnRuling l J m (by_rest J m sign o v u)
 own_by_rest l J m sign o v (Fault c) healthy lit told seen = own_declared l J m c healthy
 own_by_rest l J m sign o v Arrived healthy lit told seen = own_by_end l J m sign o v healthy lit told seen
 own_by_rest l J m sign o v Pending healthy lit told seen = own_by_end l J m sign o v healthy lit told seen
 
-own_by_axis : (l : Limits) (J : List Entry) (m : Machine) (sign : Bool) (o : Option Motion) (v u : Verdict) → is_failed J m ≡ false → (sign ≡ true → IsLit J m) → IsTold J → AreShown J m o → OwnRuling l J m (by_axis J m sign o v u)
+own_by_axis : (l : BookLimits) (J : List Entry) (m : Machine) (sign : Bool) (o : Option Motion) (v u : Verdict) → is_failed J m ≡ false → (sign ≡ true → IsLit J m) → TellsWhatIsLeft J → AreShown J m o → OwnRuling l J m (by_axis J m sign o v u)
 own_by_axis l J m sign o (Fault c) u healthy lit told seen = own_declared l J m c healthy
 own_by_axis l J m sign o Arrived u healthy lit told seen = own_by_rest l J m sign o Arrived u healthy lit told seen
 own_by_axis l J m sign o Pending u healthy lit told seen = own_by_rest l J m sign o Pending u healthy lit told seen
 
-pub own_ruling : (l : Limits) (J : List Entry) (m : Machine) (kept : Memory) (found : Findings) → ((kept.sign && found.sign) ≡ true → IsLit J m) → IsTold J → AreShown J m found.motion → OwnRuling l J m (ruling_by J m kept found)
+pub own_ruling : (l : BookLimits) (J : List Entry) (m : Machine) (kept : Memory) (found : Findings) → ((kept.sign && found.sign) ≡ true → IsLit J m) → TellsWhatIsLeft J → AreShown J m found.motion → OwnRuling l J m (ruling_by J m kept found)
 own_ruling l J m kept found lit told seen = go (is_failed J m) refl kept.command_failed (is_asked J m) kept.failed
   where
     go : (failed : Bool) → is_failed J m ≡ failed → (a b c : Bool) → OwnRuling l J m (by_all J m failed a b c (kept.sign && found.sign) found.motion found.at_axis found.at_rest)
@@ -293,16 +293,16 @@ room_by e o (inl h) = ap (may_meet e) h
 room_by e o (inr h) = ap (may_meet e) h
 
 abbrev pub UsefulIsOwn : Type 0
-UsefulIsOwn = (l : Limits) (J : List Entry) (plan : ℕ) (m : Machine) (e : Entry) → is_useful l J plan m e ≡ true → actor_of e ≡ actor.Machine m
+UsefulIsOwn = (l : BookLimits) (J : List Entry) (plan : ℕ) (m : Machine) (e : Entry) → is_useful l J plan m e ≡ true → actor_of e ≡ actor.Machine m
 
 abbrev pub UsefulHasRoom : Type 0
-UsefulHasRoom = (l : Limits) (J : List Entry) (plan : ℕ) (m : Machine) (e : Entry) → is_useful l J plan m e ≡ true → (first_of l J e ≡ None) ⊎ (first_of l J e ≡ Some JournalFull)
+UsefulHasRoom = (l : BookLimits) (J : List Entry) (plan : ℕ) (m : Machine) (e : Entry) → is_useful l J plan m e ≡ true → (first_of l J e ≡ None) ⊎ (first_of l J e ≡ Some JournalFull)
 
-abbrev pub OwnEntry : Limits → List Entry → Machine → Option Entry → Type 0
+abbrev pub OwnEntry : BookLimits → List Entry → Machine → Option Entry → Type 0
 OwnEntry l J m None = Unit {0}
 OwnEntry l J m (Some e) = IsOwn l J m e
 
-own_ruled : (l : Limits) (J : List Entry) (m : Machine) (plates : ℕ) (k : Ruling) (e : Option Entry) → UsefulIsOwn → UsefulHasRoom → OwnRuling l J m k → IsRuled l J m plates k e → OwnEntry l J m e
+own_ruled : (l : BookLimits) (J : List Entry) (m : Machine) (plates : ℕ) (k : Ruling) (e : Option Entry) → UsefulIsOwn → UsefulHasRoom → OwnRuling l J m k → IsRuled l J m plates k e → OwnEntry l J m e
 own_ruled l J m plates Nothing e mine room own h = subst (OwnEntry l J m) (sym h) tt
 own_ruled l J m plates (Books x) e mine room own h = subst (OwnEntry l J m) (sym h) own
 own_ruled l J m plates PastLast e mine room own h = absurd h
@@ -313,8 +313,8 @@ own_ruled l J m plates Proposes (Some e) mine room own h = record {
   plain = plain_by e m (mine l J plates m e h);
 }
 
-pub own_turn : (l : Limits) (w : Watch) (J : List Entry) (p : Plan) (r : Option Reading) (k : Ruling) (e : Option Entry) (found : Findings)
-    → UsefulIsOwn → UsefulHasRoom → IsTold J
+pub own_turn : (l : BookLimits) (w : Watch) (J : List Entry) (p : Plan) (r : Option Reading) (k : Ruling) (e : Option Entry) (found : Findings)
+    → UsefulIsOwn → UsefulHasRoom → TellsWhatIsLeft J
     → found.motion ≡ motion_of_machine J p w.machine
     → found.sign ≡ shows_sign J w.machine r
     → k ≡ ruling_by J w.machine w.memory found
@@ -337,7 +337,7 @@ expects e JournalFull h = inl refl
 expects e PlateLimit h = inr refl
 expects e _ h = cc
 
-refused_first : (l : Limits) (J : List Entry) (m : Machine) (e : Entry) (why : Refusal) → IsOwn l J m e → IsUnbooked l J (Some e) why → first_of l J e ≡ Some why
+refused_first : (l : BookLimits) (J : List Entry) (m : Machine) (e : Entry) (why : Refusal) → IsOwn l J m e → IsUnbooked l J (Some e) why → first_of l J e ≡ Some why
 refused_first l J m e why own h = go (memory_or_not why)
   where
     go : (why ≡ OutOfMemory) ⊎ (why ≢ OutOfMemory) → first_of l J e ≡ Some why
@@ -348,7 +348,7 @@ refused_first l J m e why own h = go (memory_or_not why)
     go (inr isnt) = h.1 isnt
 
 -- the book's refusal of the entry that was decided
-pub excused : (l : Limits) (J : List Entry) (m : Machine) (p : Plan) (r : Option Reading) (w : Watch) (e : Option Entry) (why : Refusal)
+pub excused : (l : BookLimits) (J : List Entry) (m : Machine) (p : Plan) (r : Option Reading) (w : Watch) (e : Option Entry) (why : Refusal)
     → ((s : Mind) → FitsMind w s → IsDecided l J m p s r e) → OwnEntry l J m e → IsUnbooked l J e why → IsExcused l J m p r w (Refused why)
 excused l J m p r w None why decided own h = absurd h
 excused l J m p r w (Some e) why decided own h =
@@ -356,11 +356,11 @@ excused l J m p r w (Some e) why decided own h =
     let expected : may_meet e (Some why) ≡ true = subst (λ (o : Option Refusal). may_meet e o ≡ true) first own.room in
     (λ s fit. inr (record { entry = e; decided = decided s fit; first = first; expected = expected }), expects e why expected)
 
-pub own_actor : (l : Limits) (J : List Entry) (m : Machine) (e : Option Entry) → OwnEntry l J m e → IfSome e (λ x. actor_of x ≡ actor.Machine m)
+pub own_actor : (l : BookLimits) (J : List Entry) (m : Machine) (e : Option Entry) → OwnEntry l J m e → IfSome e (λ x. actor_of x ≡ actor.Machine m)
 own_actor l J m None own = tt
 own_actor l J m (Some e) own = own.by
 
 -- the plates' numbers have run out
-pub past_last : (l : Limits) (J : List Entry) (m : Machine) (p : Plan) (r : Option Reading) (w : Watch) (k : Ruling) (why : Refusal)
+pub past_last : (l : BookLimits) (J : List Entry) (m : Machine) (p : Plan) (r : Option Reading) (w : Watch) (k : Ruling) (why : Refusal)
     → ((s : Mind) → FitsMind w s → k ≡ ruling J m p s r) → (k ≡ PastLast) × (why ≡ PlateLimit) → IsExcused l J m p r w (Refused why)
 past_last l J m p r w k why ruled h = (λ s fit. inl (sym (ruled s fit) ∙ h.0, h.1), inr h.1)

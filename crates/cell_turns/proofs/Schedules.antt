@@ -15,7 +15,7 @@ use Rattle.cell_types.specs.declared.words.Entry.{Entry}
 use Rattle.cell_types.specs.Entries.{actor_of}
 use Rattle.cell_types.specs.Same.{same_machine}
 use Rattle.cell_views.specs.Views.{is_admitted, is_forged, is_quarantined, is_delivered, count_of}
-use Rattle.plate_book.specs.declared.limits.Limits.{Limits}
+use Rattle.plate_book.specs.declared.limits.BookLimits.{BookLimits}
 use Rattle.plate_book.specs.Rules.History.{History}
 use Rattle.plate_book.specs.Rules.Legal.{first_of}
 use Rattle.cell_ledger.specs.Counts.{plus}
@@ -46,7 +46,7 @@ use Rattle.cell_turns.proofs.Acts.{did_push}
 fit_put : (ws : Six Watch) (minds : Six Mind) (m : Machine) (w : Watch) (s : Mind) → FitAll ws minds → FitsMind w s → FitAll (put ws m w) (put minds m s)
 fit_put ws minds m w s f g = record { each = all_put (λ n x y z. FitsMind x y) m ws minds minds w s s f.each g }
 
-led_turn : (l : Limits) (p : Plan) (s : Now) (steps : List Step) (refused failed : ℕ) (cur next : History) (ws : Six Watch) (m : Machine) (r : Option Reading) (w' : Watch)
+led_turn : (l : BookLimits) (p : Plan) (s : Now) (steps : List Step) (refused failed : ℕ) (cur next : History) (ws : Six Watch) (m : Machine) (r : Option Reading) (w' : Watch)
     → cur.limits ≡ l → TurnedAt p m r cur next (at ws m) w' → Led l p s steps refused failed cur.entries ws → Led l p s (steps ++ Turn m r ∷ []) refused failed next.entries (put ws m w')
 led_turn l p s steps refused failed cur next ws m r w' limits t led =
     let mind = at led.minds m in
@@ -57,8 +57,8 @@ led_turn l p s steps refused failed cur next ws m r w' limits t led =
       leads = turns m r led.leads (record {
         booked = t.booked;
         lost = t.lost;
-        decided = subst (λ (k : Limits). IsDecided k cur.entries m p mind r t.booked) limits (t.decided mind fit);
-        allowed = subst (λ (k : Limits). IfSome t.booked (λ e. first_of k cur.entries e ≡ None)) limits t.allowed;
+        decided = subst (λ (k : BookLimits). IsDecided k cur.entries m p mind r t.booked) limits (t.decided mind fit);
+        allowed = subst (λ (k : BookLimits). IfSome t.booked (λ e. first_of k cur.entries e ≡ None)) limits t.allowed;
         commanded = t.commanded;
         journal = ap (λ (h : History). h.entries) t.journal;
         minds = refl;
@@ -66,14 +66,14 @@ led_turn l p s steps refused failed cur next ws m r w' limits t led =
       fits = fit_put ws led.minds m w' after led.fits (t.fits mind fit);
     }
 
-led_away : (l : Limits) (p : Plan) (s : Now) (steps : List Step) (refused failed : ℕ) (cur next : History) (ws : Six Watch) (m : Machine) (r : Option Reading) (w' : Watch)
+led_away : (l : BookLimits) (p : Plan) (s : Now) (steps : List Step) (refused failed : ℕ) (cur next : History) (ws : Six Watch) (m : Machine) (r : Option Reading) (w' : Watch)
     → cur.limits ≡ l → TurnedAway p m r cur next (at ws m) w' → Led l p s steps refused failed cur.entries ws → Led l p s (steps ++ Turn m r ∷ []) (refused + 1) failed next.entries (put ws m w')
 led_away l p s steps refused failed cur next ws m r w' limits t led =
     subst (λ (u : Six Watch). Led l p s (steps ++ Turn m r ∷ []) (refused + 1) failed next.entries u) (sym (ap (put ws m) t.watch ∙ put_at ws m))
     (subst (λ (J : List Entry). Led l p s (steps ++ Turn m r ∷ []) (refused + 1) failed J ws) (sym (ap (λ (h : History). h.entries) t.journal))
     (record {
       minds = led.minds;
-      leads = refuses m r t.why led.leads (subst (λ (k : Limits). IsTurnedAway k cur.entries m p (at led.minds m) r t.why) limits (t.away (at led.minds m) (led.fits.each m)));
+      leads = refuses m r t.why led.leads (subst (λ (k : BookLimits). IsTurnedAway k cur.entries m p (at led.minds m) r t.why) limits (t.away (at led.minds m) (led.fits.each m)));
       fits = led.fits;
     }))
 
@@ -248,7 +248,7 @@ did_hand acts log log' es es' e Booked is list d = did_push acts log log' es es'
     done (Some a) = refl
 
 -- what is handed is the operator's, if it was booked
-pub his_entry : (l : Limits) (J : List Entry) (e : Entry) (how : Handed) → IsHanded l J e how → IfSome (handed_entry how e) (λ x. actor_of x ≡ actor.Operator)
+pub his_entry : (l : BookLimits) (J : List Entry) (e : Entry) (how : Handed) → IsHanded l J e how → IfSome (handed_entry how e) (λ x. actor_of x ≡ actor.Operator)
 his_entry l J e Spared h = tt
 his_entry l J e Failed h = tt
 his_entry l J e Booked h = h.actor

@@ -3,7 +3,7 @@ use Rattle.std.specs.Prelude.{◌≡◌, ◌≢◌, ◌⊎◌, true, false, Opti
 use Rattle.cell_types.specs.declared.words.Actor.TheVariants as actor
 use Rattle.cell_types.specs.declared.words.Entry.{Entry}
 use Rattle.cell_types.specs.Entries.{actor_of}
-use Rattle.plate_book.specs.declared.limits.Limits.{Limits}
+use Rattle.plate_book.specs.declared.limits.BookLimits.{BookLimits}
 use Rattle.plate_book.specs.Rules.Legal.{first_of}
 use Rattle.cell_turns.specs.declared.schedule.Handed.{Handed}
 use Rattle.cell_turns.specs.declared.schedule.Handed.TheVariants.{Spared, Failed, Booked}
@@ -11,16 +11,16 @@ use Rattle.cell_turns.specs.Logs.{ActLog, after_hand}
 use Rattle.cell_turns.specs.Acts.{act_of}
 
 -- an entry of the operator that the book allows
-pub record IsHis (l : Limits) (J : List Entry) (e : Entry) : Type 0 where
+pub record IsHis (l : BookLimits) (J : List Entry) (e : Entry) : Type 0 where
   pub actor : actor_of e ≡ actor.Operator
   pub allowed : first_of l J e ≡ None
 
 -- nothing is done for it: it isn't the operator's, or the book refuses it
-abbrev pub IsSpared : Limits → List Entry → Entry → Type 0
+abbrev pub IsSpared : BookLimits → List Entry → Entry → Type 0
 IsSpared l J e = (actor_of e ≢ actor.Operator) ⊎ (is_some (first_of l J e) ≡ true)
 
 -- why this became of it: an act by hand that failed, or that was done, was wanted
-abbrev pub IsHanded : Limits → List Entry → Entry → Handed → Type 0
+abbrev pub IsHanded : BookLimits → List Entry → Entry → Handed → Type 0
 IsHanded l J e Spared = IsSpared l J e
 IsHanded l J e Failed = IsHis l J e × (is_some (act_of e) ≡ true)
 IsHanded l J e Booked = IsHis l J e

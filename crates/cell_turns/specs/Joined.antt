@@ -1,6 +1,6 @@
 -- Schedules, one after another
 use Rattle.std.specs.Prelude.{ℕ, ◌≡◌, ◌+◌, Bool, true, List, ◌++◌}
-use Rattle.plate_book.specs.declared.limits.Limits.{Limits}
+use Rattle.plate_book.specs.declared.limits.BookLimits.{BookLimits}
 use Rattle.plate_book.specs.Rules.History.{History}
 use Rattle.cell_turns.specs.declared.plan.Plan.{Plan}
 use Rattle.cell_turns.specs.declared.schedule.Step.{Step}
@@ -13,7 +13,7 @@ use Rattle.cell_turns.specs.Schedules.{Now, Leads, Scheduled}
 -- the third, with the refused turns and the failed acts of both
 abbrev pub LeadsJoin : Type 0
 LeadsJoin =
-    (l : Limits) (p : Plan) (s t u : Now) (xs ys : List Step) (refused refused' failed failed' : ℕ)
+    (l : BookLimits) (p : Plan) (s t u : Now) (xs ys : List Step) (refused refused' failed failed' : ℕ)
     → Leads l p s xs refused failed t → Leads l p t ys refused' failed' u → Leads l p s (xs ++ ys) (refused + refused') (failed + failed') u
 
 -- so do two schedules, where hands that tell what they did in the second told it in the first

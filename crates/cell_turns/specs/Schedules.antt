@@ -8,7 +8,7 @@ use Rattle.cell_types.specs.declared.words.Entry.{Entry}
 use Rattle.cell_types.specs.Entries.{actor_of, command_of}
 use Rattle.cell_types.specs.Same.{same_machine}
 use Rattle.cell_views.specs.Views.{count_of}
-use Rattle.plate_book.specs.declared.limits.Limits.{Limits}
+use Rattle.plate_book.specs.declared.limits.BookLimits.{BookLimits}
 use Rattle.plate_book.specs.declared.refusal.Refusal.{Refusal}
 use Rattle.plate_book.specs.Rules.History.{History}
 use Rattle.plate_book.specs.Rules.Legal.{first_of}
@@ -42,7 +42,7 @@ abbrev pub mind_sent : Bool → Mind → Mind
 mind_sent lost s = if lost then with_failure s else s
 
 -- a turn of m at this reading that isn't refused: its entry, and whether the port failed on its command
-pub record TurnsTo (l : Limits) (p : Plan) (m : Machine) (r : Option Reading) (s t : Now) : Type 0 where
+pub record TurnsTo (l : BookLimits) (p : Plan) (m : Machine) (r : Option Reading) (s t : Now) : Type 0 where
   pub booked : Option Entry
   pub lost : Bool
   pub decided : IsDecided l s.journal m p (at s.minds m) r booked
@@ -53,7 +53,7 @@ pub record TurnsTo (l : Limits) (p : Plan) (m : Machine) (r : Option Reading) (s
 
 -- the steps lead from one state to another, `refused` turns were refused and `failed` acts by hand failed. An entry by hand
 -- is booked exactly where it is the operator's, is allowed, and his hands didn't fail; a refused turn changes nothing.
-pub data Leads (l : Limits) (p : Plan) : Now → List Step → ℕ → ℕ → Now → Type 0 where
+pub data Leads (l : BookLimits) (p : Plan) : Now → List Step → ℕ → ℕ → Now → Type 0 where
   stays : {s : Now} → Leads l p s [] 0 0 s
   turns : {s t u : Now} {steps : List Step} {refused failed : ℕ} (m : Machine) (r : Option Reading) → Leads l p s steps refused failed t → TurnsTo l p m r t u → Leads l p s (steps ++ Turn m r ∷ []) refused failed u
   refuses : {s t : Now} {steps : List Step} {refused failed : ℕ} (m : Machine) (r : Option Reading) (why : Refusal) → Leads l p s steps refused failed t → IsTurnedAway l t.journal m p (at t.minds m) r why → Leads l p s (steps ++ Turn m r ∷ []) (refused + 1) failed t
@@ -66,7 +66,7 @@ pub record FitAll (ws : Six Watch) (minds : Six Mind) : Type 0 where
   pub each : (m : Machine) → FitsMind (at ws m) (at minds m)
 
 -- what the steps so far led to
-pub record Led (l : Limits) (p : Plan) (s : Now) (steps : List Step) (refused failed : ℕ) (journal : List Entry) (ws : Six Watch) : Type 0 where
+pub record Led (l : BookLimits) (p : Plan) (s : Now) (steps : List Step) (refused failed : ℕ) (journal : List Entry) (ws : Six Watch) : Type 0 where
   pub minds : Six Mind
   pub leads : Leads l p s steps refused failed (now journal minds)
   pub fits : FitAll ws minds
@@ -107,7 +107,7 @@ act_at (Turn m r) = None
 act_at (Hand e) = act_of e
 
 -- where memory can be refused: at a turn, and at an entry by hand that is the operator's and allowed
-abbrev pub CanStop : Limits → List Entry → Step → Type 0
+abbrev pub CanStop : BookLimits → List Entry → Step → Type 0
 CanStop l J (Turn m r) = Unit {0}
 CanStop l J (Hand e) = IsHis l J e
 

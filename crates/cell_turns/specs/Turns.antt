@@ -8,7 +8,7 @@ use Rattle.std.specs.Option.{option_and_then}
 use Rattle.cell_types.specs.Entries.{actor_of, command_of}
 use Rattle.cell_types.specs.declared.words.Actor.TheVariants as actor
 use Rattle.cell_views.specs.Views.{is_failed, is_asked, is_admitted, is_quarantined, count_of}
-use Rattle.plate_book.specs.declared.limits.Limits.{Limits}
+use Rattle.plate_book.specs.declared.limits.BookLimits.{BookLimits}
 use Rattle.plate_book.specs.declared.refusal.Refusal.{Refusal}
 use Rattle.plate_book.specs.declared.refusal.Refusal.TheVariants.{JournalFull, PlateLimit, OutOfMemory}
 use Rattle.plate_book.specs.Rules.History.{History}
@@ -30,19 +30,19 @@ use Rattle.cell_turns.specs.Observed.{axis_noted, rest_noted}
 use Rattle.cell_turns.specs.Rulings.{ruling}
 
 -- what is proposed: a useful entry, and none only where no entry is useful
-abbrev pub IsProposed : Limits → List Entry → Machine → ℕ → Option Entry → Type 0
+abbrev pub IsProposed : BookLimits → List Entry → Machine → ℕ → Option Entry → Type 0
 IsProposed l J m plates (Some e) = is_useful l J plates m e ≡ true
 IsProposed l J m plates None = (e : Entry) → is_useful l J plates m e ≡ false
 
 -- the entry of a turn by what was decided
-abbrev pub IsRuled : Limits → List Entry → Machine → ℕ → Ruling → Option Entry → Type 0
+abbrev pub IsRuled : BookLimits → List Entry → Machine → ℕ → Ruling → Option Entry → Type 0
 IsRuled l J m plates Nothing e = e ≡ None
 IsRuled l J m plates (Books x) e = e ≡ Some x
 IsRuled l J m plates PastLast e = ⊥
 IsRuled l J m plates Proposes e = IsProposed l J m plates e
 
 -- the entry that a turn of m decides on
-abbrev pub IsDecided : Limits → List Entry → Machine → Plan → Mind → Option Reading → Option Entry → Type 0
+abbrev pub IsDecided : BookLimits → List Entry → Machine → Plan → Mind → Option Reading → Option Entry → Type 0
 IsDecided l J m p s r e = IsRuled l J m p.plates (ruling J m p s r) e
 
 -- the watches begin anew: the machine was booked failed at its last turn and is so no more, and nothing is declared
@@ -74,7 +74,7 @@ mind_after J m p s r e =
     }
 
 -- why the book didn't book an entry
-abbrev pub IsUnbooked : Limits → List Entry → Option Entry → Refusal → Type 0
+abbrev pub IsUnbooked : BookLimits → List Entry → Option Entry → Refusal → Type 0
 IsUnbooked l J None why = ⊥
 IsUnbooked l J (Some e) why = (why ≡ OutOfMemory → is_quarantined e ≡ true) × (why ≢ OutOfMemory → first_of l J e ≡ Some why)
 
@@ -86,18 +86,18 @@ may_meet e (Some PlateLimit) = is_admitted e
 may_meet e (Some _) = false
 
 -- a turn of m is refused: the plates' numbers have run out, or the book refuses the entry that was decided
-pub record IsRefused (l : Limits) (J : List Entry) (m : Machine) (p : Plan) (s : Mind) (r : Option Reading) (why : Refusal) : Type 0 where
+pub record IsRefused (l : BookLimits) (J : List Entry) (m : Machine) (p : Plan) (s : Mind) (r : Option Reading) (why : Refusal) : Type 0 where
   pub entry : Entry
   pub decided : IsDecided l J m p s r (Some entry)
   pub first : first_of l J entry ≡ Some why
   pub expected : may_meet entry (Some why) ≡ true
 
-abbrev pub IsTurnedAway : Limits → List Entry → Machine → Plan → Mind → Option Reading → Refusal → Type 0
+abbrev pub IsTurnedAway : BookLimits → List Entry → Machine → Plan → Mind → Option Reading → Refusal → Type 0
 IsTurnedAway l J m p s r why =
     ((ruling J m p s r ≡ PastLast) × (why ≡ PlateLimit)) ⊎ IsRefused l J m p s r why
 
 -- why a turn answers an error: the list can't grow, or the turn is refused for want of room
-abbrev pub IsExcused : Limits → List Entry → Machine → Plan → Option Reading → Watch → TurnError → Type 0
+abbrev pub IsExcused : BookLimits → List Entry → Machine → Plan → Option Reading → Watch → TurnError → Type 0
 IsExcused l J m p r w (Refused why) =
     ((s : Mind) → FitsMind w s → IsTurnedAway l J m p s r why) × ((why ≡ JournalFull) ⊎ (why ≡ PlateLimit))
 IsExcused l J m p r w NoMemory = Unit {0}

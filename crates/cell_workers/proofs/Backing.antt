@@ -17,8 +17,8 @@ use Rattle.cell_types.specs.declared.words.Entry.TheVariants.{Admitted, Arrived 
 use Rattle.cell_types.specs.declared.cell.BeltMotion.{BeltMotion}
 use Rattle.cell_types.specs.Cell.{press_axis, motion_to}
 use Rattle.cell_views.specs.Views.{plate_of, is_failed, is_asked, is_admitted}
-use Rattle.cell_views.specs.Told.{Cell, cell_of}
-use Rattle.plate_book.specs.declared.limits.Limits.{Limits}
+use Rattle.cell_views.specs.Situations.{Situation, situation_of}
+use Rattle.plate_book.specs.declared.limits.BookLimits.{BookLimits}
 use Rattle.cell_diagnosis.specs.declared.motion.Motion.{Motion}
 use Rattle.cell_diagnosis.specs.declared.reading.Reading.{Reading}
 use Rattle.cell_diagnosis.specs.declared.verdict.Verdict.{Verdict}
@@ -104,7 +104,7 @@ needs_evidence (Delivered k) = true
 needs_evidence (Declared m c) = true
 needs_evidence _ = false
 
-unwanted_feed : (l : Limits) (c : Cell) (plan : ℕ) (e : Entry) → needs_evidence e ≡ true → wants l c plan machine.Feed e ≡ false
+unwanted_feed : (l : BookLimits) (c : Situation) (plan : ℕ) (e : Entry) → needs_evidence e ≡ true → wants l c plan machine.Feed e ≡ false
 unfolding needs_evidence
 unwanted_feed l c plan (ArrivedAt a at) h = refl
 unwanted_feed l c plan (Conveyed a k dest) h = refl
@@ -114,7 +114,7 @@ unwanted_feed l c plan (Delivered k) h = refl
 unwanted_feed l c plan (Declared m why) h = refl
 unwanted_feed l c plan _ h = cc
 
-unwanted_table : (l : Limits) (c : Cell) (plan : ℕ) (e : Entry) → needs_evidence e ≡ true → wants l c plan machine.Table e ≡ false
+unwanted_table : (l : BookLimits) (c : Situation) (plan : ℕ) (e : Entry) → needs_evidence e ≡ true → wants l c plan machine.Table e ≡ false
 unfolding needs_evidence
 unwanted_table l c plan (ArrivedAt a at) h = refl
 unwanted_table l c plan (Conveyed a k dest) h = refl
@@ -124,7 +124,7 @@ unwanted_table l c plan (Delivered k) h = refl
 unwanted_table l c plan (Declared m why) h = refl
 unwanted_table l c plan _ h = cc
 
-unwanted_robot : (l : Limits) (c : Cell) (plan : ℕ) (e : Entry) → needs_evidence e ≡ true → wants l c plan machine.Robot e ≡ false
+unwanted_robot : (l : BookLimits) (c : Situation) (plan : ℕ) (e : Entry) → needs_evidence e ≡ true → wants l c plan machine.Robot e ≡ false
 unfolding needs_evidence
 unwanted_robot l c plan (ArrivedAt a at) h = refl
 unwanted_robot l c plan (Conveyed a k dest) h = refl
@@ -134,7 +134,7 @@ unwanted_robot l c plan (Delivered k) h = refl
 unwanted_robot l c plan (Declared m why) h = refl
 unwanted_robot l c plan _ h = cc
 
-unwanted_press1 : (l : Limits) (c : Cell) (plan : ℕ) (e : Entry) → needs_evidence e ≡ true → wants l c plan machine.Press1 e ≡ false
+unwanted_press1 : (l : BookLimits) (c : Situation) (plan : ℕ) (e : Entry) → needs_evidence e ≡ true → wants l c plan machine.Press1 e ≡ false
 unfolding needs_evidence
 unwanted_press1 l c plan (ArrivedAt a at) h = refl
 unwanted_press1 l c plan (Conveyed a k dest) h = refl
@@ -144,7 +144,7 @@ unwanted_press1 l c plan (Delivered k) h = refl
 unwanted_press1 l c plan (Declared m why) h = refl
 unwanted_press1 l c plan _ h = cc
 
-unwanted_press2 : (l : Limits) (c : Cell) (plan : ℕ) (e : Entry) → needs_evidence e ≡ true → wants l c plan machine.Press2 e ≡ false
+unwanted_press2 : (l : BookLimits) (c : Situation) (plan : ℕ) (e : Entry) → needs_evidence e ≡ true → wants l c plan machine.Press2 e ≡ false
 unfolding needs_evidence
 unwanted_press2 l c plan (ArrivedAt a at) h = refl
 unwanted_press2 l c plan (Conveyed a k dest) h = refl
@@ -154,7 +154,7 @@ unwanted_press2 l c plan (Delivered k) h = refl
 unwanted_press2 l c plan (Declared m why) h = refl
 unwanted_press2 l c plan _ h = cc
 
-unwanted_deposit : (l : Limits) (c : Cell) (plan : ℕ) (e : Entry) → needs_evidence e ≡ true → wants l c plan machine.Deposit e ≡ false
+unwanted_deposit : (l : BookLimits) (c : Situation) (plan : ℕ) (e : Entry) → needs_evidence e ≡ true → wants l c plan machine.Deposit e ≡ false
 unfolding needs_evidence
 unwanted_deposit l c plan (ArrivedAt a at) h = refl
 unwanted_deposit l c plan (Conveyed a k dest) h = refl
@@ -164,7 +164,7 @@ unwanted_deposit l c plan (Delivered k) h = refl
 unwanted_deposit l c plan (Declared m why) h = refl
 unwanted_deposit l c plan _ h = cc
 
-unwanted : (l : Limits) (c : Cell) (plan : ℕ) (m : Machine) (e : Entry) → needs_evidence e ≡ true → wants l c plan m e ≡ false
+unwanted : (l : BookLimits) (c : Situation) (plan : ℕ) (m : Machine) (e : Entry) → needs_evidence e ≡ true → wants l c plan m e ≡ false
 unwanted l c plan machine.Feed e h = unwanted_feed l c plan e h
 unwanted l c plan machine.Table e h = unwanted_table l c plan e h
 unwanted l c plan machine.Robot e h = unwanted_robot l c plan e h
@@ -186,7 +186,7 @@ left : (a b : Bool) → (a && b) ≡ true → a ≡ true
 left true b h = refl
 left false b h = cc
 
-useful_backed : (l : Limits) (J : List Entry) (plan : ℕ) (m : Machine) (p : Plan) (got : List (Option Reading)) (e : Entry) → is_useful l J plan m e ≡ true → Backed p got e
+useful_backed : (l : BookLimits) (J : List Entry) (plan : ℕ) (m : Machine) (p : Plan) (got : List (Option Reading)) (e : Entry) → is_useful l J plan m e ≡ true → Backed p got e
 unfolding is_useful_now
 useful_backed l J plan m p got e h = go (needs_evidence e) refl
   where
@@ -195,7 +195,7 @@ useful_backed l J plan m p got e h = go (needs_evidence e) refl
 
     go : (b : Bool) → needs_evidence e ≡ b → Backed p got e
     go false is = plainly p got e is
-    go true is = absurd (differ (sym (unwanted l (cell_of J) plan m e is) ∙ left (wants l (cell_of J) plan m e) (is_bookable l (cell_of J) e) h))
+    go true is = absurd (differ (sym (unwanted l (situation_of J) plan m e is) ∙ left (wants l (situation_of J) plan m e) (is_bookable l (situation_of J) e) h))
 
 -- what the points book
 
@@ -294,7 +294,7 @@ of_ruling J m p got s r t calm =
       arrival = λ mo motion is. axis_arrives J m p got r s.axis mo t.axis still.0 motion is;
     })
 
-of_ruled : (l : Limits) (J : List Entry) (m : Machine) (plates : ℕ) (p : Plan) (got : List (Option Reading)) (k : Ruling) (e : Entry) → RulingBacked p got k → IsRuled l J m plates k (Some e) → Backed p got e
+of_ruled : (l : BookLimits) (J : List Entry) (m : Machine) (plates : ℕ) (p : Plan) (got : List (Option Reading)) (k : Ruling) (e : Entry) → RulingBacked p got k → IsRuled l J m plates k (Some e) → Backed p got e
 of_ruled l J m plates p got Nothing e f h = cc
 of_ruled l J m plates p got PastLast e f h = absurd h
 of_ruled l J m plates p got Proposes e f h = useful_backed l J plates m p got e h
@@ -305,7 +305,7 @@ of_ruled l J m plates p got (Books x) e f h = subst (λ (o : Option Entry). on_e
     on_entry (Some y) = Backed p got y
 
 -- the answers, with this reading, are the evidence of what a turn decides on
-pub decided_backed : (l : Limits) (J : List Entry) (m : Machine) (p : Plan) (got : List (Option Reading)) (s : Mind) (r : Option Reading) (e : Option Entry) → Traces m p got s → Calm s → IsDecided l J m p s r e → IfSome e (Backed p (got ++ r ∷ []))
+pub decided_backed : (l : BookLimits) (J : List Entry) (m : Machine) (p : Plan) (got : List (Option Reading)) (s : Mind) (r : Option Reading) (e : Option Entry) → Traces m p got s → Calm s → IsDecided l J m p s r e → IfSome e (Backed p (got ++ r ∷ []))
 decided_backed l J m p got s r None t calm h = tt
 decided_backed l J m p got s r (Some e) t calm h = of_ruled l J m p.plates p (got ++ r ∷ []) (ruling J m p s r) e (of_ruling J m p got s r t calm) h
 
@@ -327,11 +327,11 @@ failed_by : (J : List Entry) (m : Machine) (c : Cause) (e : Option Entry) → e 
 failed_by J m c e is = ap (λ (o : Option Entry). is_failed (J ++ option_to_list o) m) is ∙ declared_fails J m c
 
 -- the motion has ended, with an entry
-at_end : (l : Limits) (J : List Entry) (m : Machine) (plates : ℕ) (x e : Option Entry) (F : Option Following) (L : List Noted) → ends_motion x ≡ is_some x → is_some x ≡ true → rest L ≡ Pending → IsRuled l J m plates (books x) e → Settled (is_failed (J ++ option_to_list e) m) false (ends_motion e) F L
+at_end : (l : BookLimits) (J : List Entry) (m : Machine) (plates : ℕ) (x e : Option Entry) (F : Option Following) (L : List Noted) → ends_motion x ≡ is_some x → is_some x ≡ true → rest L ≡ Pending → IsRuled l J m plates (books x) e → Settled (is_failed (J ++ option_to_list e) m) false (ends_motion e) F L
 at_end l J m plates None e F L ends some still h = cc
 at_end l J m plates (Some y) e F L ends some still h = inr (ap (λ (o : Option Entry). axis_verdict (if ends_motion o then None else F)) h ∙ ap (λ b. axis_verdict (if b then None else F)) ends, still)
 
-settles : (l : Limits) (J : List Entry) (m : Machine) (plates : ℕ) (sign : Bool) (o : Option Motion) (v u : Verdict) (e : Option Entry) (F : Option Following) (L : List Noted)
+settles : (l : BookLimits) (J : List Entry) (m : Machine) (plates : ℕ) (sign : Bool) (o : Option Motion) (v u : Verdict) (e : Option Entry) (F : Option Following) (L : List Noted)
     → ((mo : Motion) → o ≡ Some mo → is_some (ending J mo.axis mo.to) ≡ true)
     → (o ≡ None → v ≡ Pending) → (u ≡ Arrived → ⊥) → v ≡ axis_verdict F → u ≡ rest L
     → IsRuled l J m plates (by_axis J m sign o v u) e → Settled (is_failed (J ++ option_to_list e) m) false (ends_motion e) F L
@@ -347,7 +347,7 @@ settles l J m plates sign None Arrived Pending e F L has idle never v_is u_is h 
     differ q = cc
 settles l J m plates sign (Some mo) Arrived Pending e F L has idle never v_is u_is h = at_end l J m plates (ending J mo.axis mo.to) e F L (ending_ends J mo.axis mo.to) (has mo refl) (sym u_is) h
 
-calm_points : (l : Limits) (J : List Entry) (m : Machine) (plates : ℕ) (kept : Memory) (found : Findings) (e : Option Entry) (F : Option Following) (L : List Noted)
+calm_points : (l : BookLimits) (J : List Entry) (m : Machine) (plates : ℕ) (kept : Memory) (found : Findings) (e : Option Entry) (F : Option Following) (L : List Noted)
     → (is_failed J m ≡ false → (mo : Motion) → found.motion ≡ Some mo → is_some (ending J mo.axis mo.to) ≡ true)
     → (found.motion ≡ None → found.at_axis ≡ Pending) → (found.at_rest ≡ Arrived → ⊥) → found.at_axis ≡ axis_verdict F → found.at_rest ≡ rest L
     → IsRuled l J m plates (ruling_by J m kept found) e
@@ -366,7 +366,7 @@ has_ending J p m has healthy mo is =
     let own : OwnMotion J p m mo = subst (λ (o : Option Motion). IfSome o (OwnMotion J p m)) is (own_motion J p m) in
     has mo.axis mo.to own.going (ap (is_failed J) own.own ∙ healthy)
 
-pub calm_after : (l : Limits) (J : List Entry) (m : Machine) (p : Plan) (s : Mind) (r : Option Reading) (e : Option Entry) → HasEndings J → IsDecided l J m p s r e → Calm (mind_after J m p s r e)
+pub calm_after : (l : BookLimits) (J : List Entry) (m : Machine) (p : Plan) (s : Mind) (r : Option Reading) (e : Option Entry) → HasEndings J → IsDecided l J m p s r e → Calm (mind_after J m p s r e)
 unfolding ruling mind_after
 calm_after l J m p s r e has h =
     calm_points l J m p.plates s.memory (findings J m p s r) e (axis_noted J m p s.axis r) (rest_noted J m s.memory s.rest r)

@@ -16,7 +16,7 @@ use Rattle.cell_types.specs.declared.words.Entry.{Entry}
 use Rattle.cell_types.specs.declared.words.Entry.TheVariants.{Lamp, Admitted, Conveyed, Forged, Delivered, Declared, StopAsked, Quarantined, Repaired}
 use Rattle.cell_types.specs.Entries.{actor_of}
 use Rattle.cell_views.specs.Views.{plate_of, is_failed, is_asked, is_admitted}
-use Rattle.plate_book.specs.declared.limits.Limits.{Limits}
+use Rattle.plate_book.specs.declared.limits.BookLimits.{BookLimits}
 use Rattle.plate_book.specs.Rules.History.{History}
 use Rattle.cell_machines.specs.Useful.{is_useful, is_lamp}
 use Rattle.cell_machines.proofs.Own.{useful_own, plan_law}
@@ -111,7 +111,7 @@ of_ruling : (J : List Entry) (m : Machine) (p : Plan) (s : Mind) (r : Option Rea
 unfolding ruling
 of_ruling J m p s r = of_points J m s.memory (findings J m p s r)
 
-still_called : (l : Limits) (J : List Entry) (e : Entry) → is_move e ≡ false → is_called_for l J e ≡ true
+still_called : (l : BookLimits) (J : List Entry) (e : Entry) → is_move e ≡ false → is_called_for l J e ≡ true
 still_called l J e h = ap (λ b. if b then is_useful_for l J e (actor_of e) else true) h
 
 either : (b c : Bool) → (b ≡ true → c ≡ true) → (if b then c else true) ≡ true
@@ -123,12 +123,12 @@ no_lamp (Lamp b to) h = cc
 no_lamp _ h = refl
 
 -- a useful entry that is a move is useful with no plates planned
-useful_called : (l : Limits) (J : List Entry) (plates : ℕ) (m : Machine) (e : Entry) → is_useful l J plates m e ≡ true → is_called_for l J e ≡ true
+useful_called : (l : BookLimits) (J : List Entry) (plates : ℕ) (m : Machine) (e : Entry) → is_useful l J plates m e ≡ true → is_called_for l J e ≡ true
 useful_called l J plates m e h =
     either (is_move e) (is_useful_for l J e (actor_of e))
     (λ moves. ap (λ (a : Actor). is_useful_for l J e a) (useful_own l J plates m e h) ∙ (plan_law l J 0 plates m e (no_lamp e moves) ∙ h))
 
-of_ruled : (l : Limits) (J : List Entry) (m : Machine) (plates : ℕ) (k : Ruling) (e : Entry) → Still k → IsRuled l J m plates k (Some e) → is_called_for l J e ≡ true
+of_ruled : (l : BookLimits) (J : List Entry) (m : Machine) (plates : ℕ) (k : Ruling) (e : Entry) → Still k → IsRuled l J m plates k (Some e) → is_called_for l J e ≡ true
 of_ruled l J m plates Nothing e f h = cc
 of_ruled l J m plates PastLast e f h = absurd h
 of_ruled l J m plates Proposes e f h = useful_called l J plates m e h
@@ -138,17 +138,17 @@ of_ruled l J m plates (Books x) e f h = still_called l J e (subst (λ (o : Optio
     on_entry None = Unit {0}
     on_entry (Some y) = is_move y ≡ false
 
-pub decided_called : (l : Limits) (J : List Entry) (m : Machine) (p : Plan) (s : Mind) (r : Option Reading) (e : Entry) → IsDecided l J m p s r (Some e) → is_called_for l J e ≡ true
+pub decided_called : (l : BookLimits) (J : List Entry) (m : Machine) (p : Plan) (s : Mind) (r : Option Reading) (e : Entry) → IsDecided l J m p s r (Some e) → is_called_for l J e ≡ true
 decided_called l J m p s r e h = of_ruled l J m p.plates (ruling J m p s r) e (of_ruling J m p s r) h
 
 -- the same of a watch
-pub called_booked : (l : Limits) (J : List Entry) (m : Machine) (p : Plan) (w : Watch) (r : Option Reading) (o : Option Entry)
+pub called_booked : (l : BookLimits) (J : List Entry) (m : Machine) (p : Plan) (w : Watch) (r : Option Reading) (o : Option Entry)
     → ((s : Mind) → FitsMind w s → IsDecided l J m p s r o) → IfSome o (λ e. is_called_for l J e ≡ true)
 called_booked l J m p w r None h = tt
 called_booked l J m p w r (Some e) h = of_some w (is_called_for l J e) true (λ s fit. decided_called l J m p s r e (h s fit))
 
 -- the operator's entries are no moves
-pub his_called : (l : Limits) (J : List Entry) (e : Entry) → actor_of e ≡ actor.Operator → is_called_for l J e ≡ true
+pub his_called : (l : BookLimits) (J : List Entry) (e : Entry) → actor_of e ≡ actor.Operator → is_called_for l J e ≡ true
 his_called l J (StopAsked m) h = refl
 his_called l J (Quarantined k src) h = refl
 his_called l J (Repaired m) h = refl
@@ -163,12 +163,12 @@ split : (a b : Bool) → (a && b) ≡ true → (a ≡ true) × (b ≡ true)
 split true b e = (refl, e)
 split false b e = cc
 
-called-push : (l : Limits) (done es : List Entry) (e : Entry) → called_for_from l done es ≡ true → is_called_for l (done ++ es) e ≡ true → called_for_from l done (es ++ e ∷ []) ≡ true
+called-push : (l : BookLimits) (done es : List Entry) (e : Entry) → called_for_from l done es ≡ true → is_called_for l (done ++ es) e ≡ true → called_for_from l done (es ++ e ∷ []) ≡ true
 called-push l done [] e h t = both _ _ (ap (λ d. is_called_for l d e) (sym (append-nil done)) ∙ t) refl
 called-push l done (x ∷ es) e h t =
     let p = split (is_called_for l done x) (called_for_from l (done ++ x ∷ []) es) h in
     both _ _ p.0 (called-push l (done ++ x ∷ []) es e p.1 (ap (λ d. is_called_for l d e) (append_assoc done (x ∷ []) es) ∙ t))
 
-pub called_after : (l : Limits) (J : List Entry) (next : History) (o : Option Entry) → next ≡ record { limits = l; entries = J ++ option_to_list o } → all_called_for l J ≡ true → IfSome o (λ e. is_called_for l J e ≡ true) → all_called_for next.limits next.entries ≡ true
+pub called_after : (l : BookLimits) (J : List Entry) (next : History) (o : Option Entry) → next ≡ record { limits = l; entries = J ++ option_to_list o } → all_called_for l J ≡ true → IfSome o (λ e. is_called_for l J e ≡ true) → all_called_for next.limits next.entries ≡ true
 called_after l J next None is all h = ap (λ (k : History). all_called_for k.limits k.entries) is ∙ ap (all_called_for l) (append-nil J) ∙ all
 called_after l J next (Some e) is all h = ap (λ (k : History). all_called_for k.limits k.entries) is ∙ called-push l [] J e all h

@@ -10,7 +10,7 @@ use Rattle.cell_types.specs.declared.words.Command.TheVariants.{AllOff}
 use Rattle.cell_types.specs.declared.words.Entry.{Entry}
 use Rattle.cell_types.specs.Entries.{actor_of}
 use Rattle.cell_views.specs.Views.{count_of}
-use Rattle.plate_book.specs.declared.limits.Limits.{Limits}
+use Rattle.plate_book.specs.declared.limits.BookLimits.{BookLimits}
 use Rattle.plate_book.specs.Rules.Safety.{IsSafe}
 use Rattle.plate_book.specs.Rules.Carrying.{IsCarrying}
 use Rattle.cell_ledger.specs.Counts.{plus}
@@ -34,7 +34,7 @@ use Rattle.cell_turns.proofs.Schedules.{shares_more, plus_none}
 
 -- what a watch saw
 
-pub saw_after : (l : Limits) (J : List Entry) (m : Machine) (p : Plan) (r : Option Reading) (e : Option Entry) (w w' : Watch) → IsSafe J → IsCarrying J
+pub saw_after : (l : BookLimits) (J : List Entry) (m : Machine) (p : Plan) (r : Option Reading) (e : Option Entry) (w w' : Watch) → IsSafe J → IsCarrying J
     → ((s : Mind) → FitsMind w s → IsDecided l J m p s r e) → ((s : Mind) → FitsMind w s → FitsMind w' (mind_after J m p s r e))
     → (got : List (Option Reading)) → Saw m p got w → Saw m p (got ++ r ∷ []) w'
 saw_after l J m p r e w w' safe carrying decided fits got x = record {
@@ -44,12 +44,12 @@ saw_after l J m p r e w w' safe carrying decided fits got x = record {
   calm = calm_after l J m p x.mind r e (has_endings J safe carrying) (decided x.mind x.fits);
 }
 
-pub backed_at : (l : Limits) (J : List Entry) (m : Machine) (p : Plan) (r : Option Reading) (e : Option Entry) (w : Watch)
+pub backed_at : (l : BookLimits) (J : List Entry) (m : Machine) (p : Plan) (r : Option Reading) (e : Option Entry) (w : Watch)
     → ((s : Mind) → FitsMind w s → IsDecided l J m p s r e) → (got : List (Option Reading)) → Saw m p got w → IfSome e (Backed p (got ++ r ∷ []))
 backed_at l J m p r e w decided got x = decided_backed l J m p got x.mind r e x.traces x.calm (decided x.mind x.fits)
 
 -- a turn, as the code has it
-pub served : (l : Limits) (J : List Entry) (m : Machine) (p : Plan) (r : Option Reading) (e : Option Entry) (es es' : List Entry) (h h' : Held) (w w' : Watch) → IsSafe J → IsCarrying J
+pub served : (l : BookLimits) (J : List Entry) (m : Machine) (p : Plan) (r : Option Reading) (e : Option Entry) (es es' : List Entry) (h h' : Held) (w w' : Watch) → IsSafe J → IsCarrying J
     → es' ≡ es ++ option_to_list e → h' ≡ held h.parts (plus h.counts (count_of (option_to_list e))) → IfSome e (λ x. actor_of x ≡ actor.Machine m)
     → ((s : Mind) → FitsMind w s → IsDecided l J m p s r e) → ((s : Mind) → FitsMind w s → FitsMind w' (mind_after J m p s r e))
     → IfSome e (λ x. is_command_fault x ≡ has_failed_command w) → has_failed_command w' ≡ (is_none e && has_failed_command w)

@@ -6,7 +6,7 @@ use Rattle.cell_types.specs.declared.words.Actor.TheVariants as actor
 use Rattle.cell_types.specs.declared.words.Entry.{Entry}
 use Rattle.cell_types.specs.declared.words.Totals.{Totals}
 use Rattle.cell_views.specs.Views.{count_of}
-use Rattle.plate_book.specs.declared.limits.Limits.{Limits}
+use Rattle.plate_book.specs.declared.limits.BookLimits.{BookLimits}
 use Rattle.plate_book.specs.Rules.Legal.{legal}
 use Rattle.plate_book.specs.Rules.Safety.{IsSafe}
 use Rattle.cell_ledger.specs.Counts.{nothing, plus}
@@ -41,7 +41,7 @@ sum_counts [] = nothing
 sum_counts (w ∷ ws) = plus w.1 (sum_counts ws)
 
 -- a journal that is legal, safe and useful where a machine set out, its totals, and what each worker did
-pub record IsReport (l : Limits) (J : List Entry) (totals : Totals) (ws : List (List Entry × Totals)) : Type 0 where
+pub record IsReport (l : BookLimits) (J : List Entry) (totals : Totals) (ws : List (List Entry × Totals)) : Type 0 where
   pub legal : legal l J ≡ true
   pub safe : IsSafe J
   pub useful : all_called_for l J ≡ true

@@ -17,7 +17,7 @@ use Rattle.cell_turns.specs.Sent.{is_command_fault, fails_before, sent_for, comm
 use Rattle.cell_turns.specs.Minds.{has_failed_command}
 use Rattle.cell_turns.specs.Turns.{IsExcused}
 use Rattle.cell_turns.specs.declared.turns.TurnError.TheVariants.{Refused}
-use Rattle.plate_book.specs.declared.limits.Limits.{Limits}
+use Rattle.plate_book.specs.declared.limits.BookLimits.{BookLimits}
 use Rattle.plate_book.specs.declared.refusal.Refusal.{Refusal}
 use Rattle.cell_workers.specs.declared.ends.End.{End}
 use Rattle.cell_workers.specs.Evidence.{Backed, Backs}
@@ -35,7 +35,7 @@ pub record Served (m : Machine) (p : Plan) (r : Option Reading) (e : Option Entr
   pub backed : (got : List (Option Reading)) → Saw m p got w → IfSome e (Backed p (got ++ r ∷ []))
 
 -- the journal takes no further entry, or no further plate has a number, and what the machine would do at this reading wants it
-abbrev pub IsFullFor : Limits → List Entry → Machine → Plan → Option Reading → Watch → Type 0
+abbrev pub IsFullFor : BookLimits → List Entry → Machine → Plan → Option Reading → Watch → Type 0
 IsFullFor l J m p r w = (why : Refusal) × IsExcused l J m p r w (Refused why)
 
 -- the entries are the actor's, and the shares grew from `start` by what they count

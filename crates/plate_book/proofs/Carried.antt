@@ -12,12 +12,12 @@ use Rattle.cell_types.specs.declared.words.AxisState.{AxisState}
 use Rattle.cell_types.specs.declared.words.Entry.{Entry}
 use Rattle.cell_types.specs.Same.{same_machine, same_station, same_axis}
 use Rattle.cell_types.specs.Cell.{machine_of_axis, machine_of_station, press_axis}
-use Rattle.cell_types.specs.After.{State, opening, after, without, with_plate, is_axis_of, step}
-use Rattle.cell_views.specs.Told.{Cell}
+use Rattle.cell_types.specs.After.{Snapshot, opening, after, without, with_plate, is_axis_of, step}
+use Rattle.cell_views.specs.Situations.{Situation}
 use Rattle.cell_views.specs.Views.{place_of, is_occupied}
-use Rattle.plate_book.specs.declared.limits.Limits.{Limits}
+use Rattle.plate_book.specs.declared.limits.BookLimits.{BookLimits}
 use Rattle.plate_book.specs.Rules.First.{tests, started_tests, any_visited, station_empty, other_plate_at}
-use Rattle.plate_book.specs.Rules.ToldBy.{told_by}
+use Rattle.plate_book.specs.Rules.SituationIn.{situation_in}
 use Rattle.plate_book.specs.Rules.Legal.{legal}
 use Rattle.plate_book.specs.Rules.Carrying.{carries_from, IsCarrying}
 use Rattle.plate_book.proofs.Safe.Facts.{axis_same, machine_same, pose_same, not_false, Passed, passed_last, axes_of, rest, occupied, no_other, plate_at}
@@ -28,10 +28,10 @@ use Rattle.plate_book.proofs.Safe.Views.{after_snoc}
 use Rattle.plate_book.proofs.Safe.Bridge.{good_cell, good_passed, good_when_legal, along, marks_of}
 
 -- a station isn't empty
-abbrev Full : State → Station → Type 0
+abbrev Full : Snapshot → Station → Type 0
 Full s t = is_some (s.plate t) ≡ true
 
-abbrev Carried : State → Type 0
+abbrev Carried : Snapshot → Type 0
 Carried s = (a : Axis) (q : Pose) (t : Station) → s.going a ≡ Some q → carries_from a q ≡ Some t → s.failed (machine_of_axis a) ≡ false → Full s t
 
 -- the station is its machine's, and no arm's, nor where plates are gripped or delivered but at a press that goes to Top
@@ -42,10 +42,10 @@ carry_apart : (a : Axis) (q : Pose) (t : Station) → carries_from a q ≡ Some 
 carry_apart a q t e = ((λ i. grind (arith, pose_same)), (λ i. grind (arith, pose_same)), (λ i. grind (arith, pose_same)), (λ i. grind (arith, pose_same)))
 
 -- a motion that starts with a plate finds it there
-started_full : (s : State) (a : Axis) (q : Pose) (t : Station) → Passed (started_tests (told_by s) a q) → carries_from a q ≡ Some t → Full s t
+started_full : (s : Snapshot) (a : Axis) (q : Pose) (t : Station) → Passed (started_tests (situation_in s) a q) → carries_from a q ≡ Some t → Full s t
 started_full s a q t e f = grind (arith, pose_same)
 
-begun_full : (s : State) (a y : Axis) (to q : Pose) (t : Station) (b : Bool) → same_axis a y ≡ b → (carries_from a to ≡ Some t → Full s t) → (s.going y ≡ Some q → Full s t) → cond b (Some to) (s.going y) ≡ Some q → carries_from y q ≡ Some t → Full s t
+begun_full : (s : Snapshot) (a y : Axis) (to q : Pose) (t : Station) (b : Bool) → same_axis a y ≡ b → (carries_from a to ≡ Some t → Full s t) → (s.going y ≡ Some q → Full s t) → cond b (Some to) (s.going y) ≡ Some q → carries_from y q ≡ Some t → Full s t
 begun_full s a y to q t b e f g p r = grind (arith, axis_same)
 
 -- an axis that rests goes nowhere
@@ -77,24 +77,24 @@ comes_full plate k s t n e = go (same_station s t)
     go false = stays_full plate k t n e
 
 -- the plate of one station is at no other
-elsewhere : (s : State) (place : ℕ → Place) (marks : ℕ → ℕ) (k : ℕ) (src t : Station) → Inv s place marks → s.plate src ≡ Some k → t ≢ src → s.plate t ≢ Some k
+elsewhere : (s : Snapshot) (place : ℕ → Place) (marks : ℕ → ℕ) (k : ℕ) (src t : Station) → Inv s place marks → s.plate src ≡ Some k → t ≢ src → s.plate t ≢ Some k
 elsewhere s place marks k src t v e n d =
     let p : place k ≡ Place.At src = v.plates.there src k e in
     let q : place k ≡ Place.At t = v.plates.there t k d in
     let same : t ≡ src = cc in n same
 
 -- an arm that reaches a press finds it at rest
-at_rest : (s : State) (a : Axis) (p q : Pose) → axes_of s a ≡ rest p → s.going a ≡ Some q → ⊥
+at_rest : (s : Snapshot) (a : Axis) (p q : Pose) → axes_of s a ≡ rest p → s.going a ≡ Some q → ⊥
 at_rest s a p q e g = let n : s.going a ≡ None = ap (λ (t : AxisState). t.going) e in cc
 
-carried_started : (s : State) (a : Axis) (to : Pose) → Passed (started_tests (told_by s) a to) → Carried s → Carried (step (Entry.Started a to) s)
+carried_started : (s : Snapshot) (a : Axis) (to : Pose) → Passed (started_tests (situation_in s) a to) → Carried s → Carried (step (Entry.Started a to) s)
 carried_started s a to h c y q t g e f = begun_full s a y to q t (same_axis a y) refl (started_full s a to t h) (λ i. c y q t i e f) g e
 
 -- a belt's motion carries from the station where its plate comes from
 conveyed_apart : (a y : Axis) (q : Pose) (src t : Station) (b : Bool) → same_axis a y ≡ b → machine_of_axis a ≡ machine_of_station src → (o : Option Pose) → (if b then None else o) ≡ Some q → carries_from y q ≡ Some t → t ≢ src
 conveyed_apart a y q src t b e m o g f = grind (arith, pose_same)
 
-carried_conveyed : (l : Limits) (s : State) (place : ℕ → Place) (marks : ℕ → ℕ) (a : Axis) (k : ℕ) (dest src : Station) → Inv s place marks → s.plate src ≡ Some k → machine_of_axis a ≡ machine_of_station src → Carried s → Carried (step (Entry.Conveyed a k dest) s)
+carried_conveyed : (l : BookLimits) (s : Snapshot) (place : ℕ → Place) (marks : ℕ → ℕ) (a : Axis) (k : ℕ) (dest src : Station) → Inv s place marks → s.plate src ≡ Some k → machine_of_axis a ≡ machine_of_station src → Carried s → Carried (step (Entry.Conveyed a k dest) s)
 carried_conveyed l s place marks a k dest src v i m c y q t g e f =
     comes_full s.plate k dest t
     (elsewhere s place marks k src t v i (conveyed_apart a y q src t (same_axis a y) refl m (s.going y) g e))
@@ -107,21 +107,21 @@ press_one_of a q e = grind (arith, pose_same)
 press_two_of : (a : Axis) (q : Pose) → carries_from a q ≡ Some Station.Press2 → a ≡ Axis.PressTwo
 press_two_of a q e = grind (arith, pose_same)
 
-not_press_one : (s : State) (a : Axis) (p q : Pose) (t : Station) → axes_of s Axis.PressOne ≡ rest p → s.going a ≡ Some q → carries_from a q ≡ Some t → t ≢ Station.Press1
+not_press_one : (s : Snapshot) (a : Axis) (p q : Pose) (t : Station) → axes_of s Axis.PressOne ≡ rest p → s.going a ≡ Some q → carries_from a q ≡ Some t → t ≢ Station.Press1
 not_press_one s a p q t r g e n =
     let i : carries_from a q ≡ Some Station.Press1 = e ∙ ap (λ (x : Station). Some x) n in
     let y : a ≡ Axis.PressOne = press_one_of a q i in
     let h : s.going Axis.PressOne ≡ Some q = rw y at g in
     at_rest s Axis.PressOne p q r h
 
-not_press_two : (s : State) (a : Axis) (p q : Pose) (t : Station) → axes_of s Axis.PressTwo ≡ rest p → s.going a ≡ Some q → carries_from a q ≡ Some t → t ≢ Station.Press2
+not_press_two : (s : Snapshot) (a : Axis) (p q : Pose) (t : Station) → axes_of s Axis.PressTwo ≡ rest p → s.going a ≡ Some q → carries_from a q ≡ Some t → t ≢ Station.Press2
 not_press_two s a p q t r g e n =
     let i : carries_from a q ≡ Some Station.Press2 = e ∙ ap (λ (x : Station). Some x) n in
     let y : a ≡ Axis.PressTwo = press_two_of a q i in
     let h : s.going Axis.PressTwo ≡ Some q = rw y at g in
     at_rest s Axis.PressTwo p q r h
 
-carried_gripped : (l : Limits) (s : State) (place : ℕ → Place) (marks : ℕ → ℕ) (x : Arm) (k : ℕ) (src : Station) → Inv s place marks → Passed (tests l (told_by s) (Entry.Gripped x k src)) → Carried s → Carried (step (Entry.Gripped x k src) s)
+carried_gripped : (l : BookLimits) (s : Snapshot) (place : ℕ → Place) (marks : ℕ → ℕ) (x : Arm) (k : ℕ) (src : Station) → Inv s place marks → Passed (tests l (situation_in s) (Entry.Gripped x k src)) → Carried s → Carried (step (Entry.Gripped x k src) s)
 carried_gripped l s place marks Arm.Arm1 k Station.Table v h c a q t g e f =
     let w = hands s Arm.Arm1 Station.Table Station.Table Station.Arm1 k v.motion.arm_one h.1.1 in
     comes_full s.plate k Station.Arm1 t (elsewhere s place marks k Station.Table t v w.full (carry_apart a q t e).0) (c a q t g e f)
@@ -135,7 +135,7 @@ carried_gripped l s place marks Arm.Arm2 k Station.Press2 v h c a q t g e f =
     comes_full s.plate k Station.Arm2 t (elsewhere s place marks k Station.Press2 t v w.full (not_press_two s a Pose.Bottom q t r g e)) (c a q t g e f)
 carried_gripped l s place marks _ k _ v h c a q t g e f = let n = h.1.1.0 in cc
 
-carried_dropped : (l : Limits) (s : State) (place : ℕ → Place) (marks : ℕ → ℕ) (x : Arm) (k : ℕ) (dest : Station) → Inv s place marks → Passed (tests l (told_by s) (Entry.Dropped x k dest)) → Carried s → Carried (step (Entry.Dropped x k dest) s)
+carried_dropped : (l : BookLimits) (s : Snapshot) (place : ℕ → Place) (marks : ℕ → ℕ) (x : Arm) (k : ℕ) (dest : Station) → Inv s place marks → Passed (tests l (situation_in s) (Entry.Dropped x k dest)) → Carried s → Carried (step (Entry.Dropped x k dest) s)
 carried_dropped l s place marks Arm.Arm1 k Station.Press1 v h c a q t g e f =
     let w = hands s Arm.Arm1 Station.Press1 Station.Arm1 Station.Press1 k v.motion.arm_one h.1.1 in
     comes_full s.plate k Station.Press1 t (elsewhere s place marks k Station.Arm1 t v w.full (carry_apart a q t e).1) (c a q t g e f)
@@ -147,21 +147,21 @@ carried_dropped l s place marks Arm.Arm2 k Station.DepIn v h c a q t g e f =
     comes_full s.plate k Station.DepIn t (elsewhere s place marks k Station.Arm2 t v w.full (carry_apart a q t e).2) (c a q t g e f)
 carried_dropped l s place marks _ k _ v h c a q t g e f = let n = h.1.1.0 in cc
 
-carried_delivered : (l : Limits) (s : State) (place : ℕ → Place) (marks : ℕ → ℕ) (k : ℕ) → Inv s place marks → Passed (tests l (told_by s) (Entry.Delivered k)) → Carried s → Carried (step (Entry.Delivered k) s)
+carried_delivered : (l : BookLimits) (s : Snapshot) (place : ℕ → Place) (marks : ℕ → ℕ) (k : ℕ) → Inv s place marks → Passed (tests l (situation_in s) (Entry.Delivered k)) → Carried s → Carried (step (Entry.Delivered k) s)
 carried_delivered l s place marks k v h c a q t g e f =
     let lit = v.lights.deposit (green (s.lamp Belt.Deposit) h.1.1.1.0) in
     let i = no_other s Station.DepEnd lit.plate_there k lit.there h.1.1.0 in
     stays_full s.plate k t (elsewhere s place marks k Station.DepEnd t v i (carry_apart a q t e).3) (c a q t g e f)
 
-failed_not : (s : State) (a : Axis) (q : Pose) (src t : Station) → s.failed (machine_of_station src) ≡ true → carries_from a q ≡ Some t → s.failed (machine_of_axis a) ≡ false → t ≢ src
+failed_not : (s : Snapshot) (a : Axis) (q : Pose) (src t : Station) → s.failed (machine_of_station src) ≡ true → carries_from a q ≡ Some t → s.failed (machine_of_axis a) ≡ false → t ≢ src
 failed_not s a q src t bad e f n =
     let own : machine_of_axis a ≡ machine_of_station t = carry_own a q t e in
     let at : machine_of_axis a ≡ machine_of_station src = own ∙ ap machine_of_station n in
     let wrong : s.failed (machine_of_station src) ≡ false = rw at at f in cc
 
-carried_quarantined : (l : Limits) (s : State) (place : ℕ → Place) (marks : ℕ → ℕ) (k : ℕ) (src : Station) → Inv s place marks → Passed (tests l (told_by s) (Entry.Quarantined k src)) → Carried s → Carried (step (Entry.Quarantined k src) s)
+carried_quarantined : (l : BookLimits) (s : Snapshot) (place : ℕ → Place) (marks : ℕ → ℕ) (k : ℕ) (src : Station) → Inv s place marks → Passed (tests l (situation_in s) (Entry.Quarantined k src)) → Carried s → Carried (step (Entry.Quarantined k src) s)
 carried_quarantined l s place marks k src v h c a q t g e f =
-    let w = passed_last (any_visited (told_by s) (machine_of_station src)) (station_empty (told_by s) src ∷ other_plate_at (told_by s) src k ∷ []) h.1.1 in
+    let w = passed_last (any_visited (situation_in s) (machine_of_station src)) (station_empty (situation_in s) src ∷ other_plate_at (situation_in s) src k ∷ []) h.1.1 in
     let bad : s.failed (machine_of_station src) ≡ true = not_false (s.failed (machine_of_station src)) h.1.0 in
     let o = occupied s src w.0 in
     let i = no_other s src o.0 k o.1 w.1.0 in
@@ -170,7 +170,7 @@ carried_quarantined l s place marks k src v h c a q t g e f =
 repaired_healthy : (x m : Machine) (o : Option Pose) (q : Pose) (fx : Bool) → (if same_machine x m then None else o) ≡ Some q → (if same_machine m x then false else fx) ≡ false → fx ≡ false
 repaired_healthy x m o q fx g f = grind (arith, machine_same, nat_tests)
 
-carried_step : (l : Limits) (s : State) (place : ℕ → Place) (marks : ℕ → ℕ) (e : Entry) → Inv s place marks → Passed (tests l (told_by s) e) → Carried s → Carried (step e s)
+carried_step : (l : BookLimits) (s : Snapshot) (place : ℕ → Place) (marks : ℕ → ℕ) (e : Entry) → Inv s place marks → Passed (tests l (situation_in s) e) → Carried s → Carried (step e s)
 carried_step l s place marks (Entry.Lamp b to) v h c = c
 carried_step l s place marks (Entry.Admitted k) v h c = λ a q t g e f.
     let n : k ≡ s.admitted + 1 = eqb-true k (s.admitted + 1) (not_false (k == s.admitted + 1) h.1.1.1.0) in
@@ -194,12 +194,12 @@ carried_step l s place marks (Entry.Quarantined k src) v h c = carried_quarantin
 carried_step l s place marks (Entry.Repaired m) v h c = λ a q t g e f.
     c a q t (still_goes (s.going a) q (same_machine (machine_of_axis a) m) g) e (repaired_healthy (machine_of_axis a) m (s.going a) q (s.failed (machine_of_axis a)) g f)
 
-carried : (l : Limits) (J : List Entry) → legal l J ≡ true → Carried (after J)
+carried : (l : BookLimits) (J : List Entry) → legal l J ≡ true → Carried (after J)
 carried l J h = along l (λ K. Carried (after K)) (λ a q t g e f. cc)
     (λ K e w c a. subst Carried (sym (after_snoc opening K e)) (carried_step l (after K) (place_of K) (marks_of K) e w.safe (good_passed l K e w a) c)) J h
 
-pub carrying_when_legal : (l : Limits) (J : List Entry) → legal l J ≡ true → IsCarrying J
+pub carrying_when_legal : (l : BookLimits) (J : List Entry) → legal l J ≡ true → IsCarrying J
 carrying_when_legal l J h a q t g e f =
     let w = good_when_legal l J h in
-    let o : is_occupied J t ≡ is_some ((after J).plate t) = ap (λ (c : Cell). c.occupied t) (good_cell J w) in
+    let o : is_occupied J t ≡ is_some ((after J).plate t) = ap (λ (c : Situation). c.occupied t) (good_cell J w) in
     o ∙ carried l J h a q t (sym (w.agrees.going a) ∙ g) e (sym (w.agrees.failed (machine_of_axis a)) ∙ f)

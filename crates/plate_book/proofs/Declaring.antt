@@ -10,8 +10,8 @@ use Rattle.cell_types.specs.declared.words.Entry.{Entry}
 use Rattle.cell_types.specs.declared.words.Entry.TheVariants.{Lamp, Admitted, Claimed, Yielded, Started, Arrived, Conveyed, Forged, Gripped, Dropped, Delivered, Declared, StopAsked, Quarantined, Repaired}
 use Rattle.cell_types.specs.Same.{same_machine}
 use Rattle.cell_views.specs.Views.{fails, is_failed, is_quarantined}
-use Rattle.cell_views.specs.Told.{cell_of}
-use Rattle.plate_book.specs.declared.limits.Limits.{Limits}
+use Rattle.cell_views.specs.Situations.{situation_of}
+use Rattle.plate_book.specs.declared.limits.BookLimits.{BookLimits}
 use Rattle.plate_book.specs.Rules.First.{first, first_true, tests}
 use Rattle.plate_book.specs.Rules.Legal.{legal, DeclaresHealthy, first_of}
 use Rattle.plate_book.proofs.Safe.Facts.{none_refused, is_none_tells}
@@ -46,7 +46,7 @@ some_left f Machine.Press2 e = rw e (omega (arith, bit (f Machine.Feed), bit (f 
 some_left f Machine.Deposit e = rw e (omega (arith, bit (f Machine.Feed), bit (f Machine.Table), bit (f Machine.Robot), bit (f Machine.Press1), bit (f Machine.Press2)))
 
 -- a legal journal is longer than its limit by at most the machines that failed
-abbrev IsSpared : Limits → List Entry → Type 0
+abbrev IsSpared : BookLimits → List Entry → Type 0
 IsSpared l J = length J ≤ l.entries + machines_that (is_failed J)
 
 declared_fails : (J : List Entry) (m : Machine) (cause : Cause) (n : Machine) → is_failed (J ++ Declared m cause ∷ []) n ≡ (if same_machine m n then true else is_failed J n)
@@ -59,34 +59,34 @@ declared_fails J m cause n = view_snoc (fails n) false J (Declared m cause) ∙ 
 longer : (J : List Entry) (e : Entry) (n k : ℕ) → length J < n → length (J ++ e ∷ []) ≤ n + k
 longer J e n k h = omega (arith, length-append J (e ∷ []))
 
-spared_step : (l : Limits) (J : List Entry) (e : Entry) → IsSpared l J → first l (cell_of J) e ≡ None → IsSpared l (J ++ e ∷ [])
+spared_step : (l : BookLimits) (J : List Entry) (e : Entry) → IsSpared l J → first l (situation_of J) e ≡ None → IsSpared l (J ++ e ∷ [])
 spared_step l J (Declared m cause) s h =
-    let p = none_refused (tests l (cell_of J) (Declared m cause)) h in
+    let p = none_refused (tests l (situation_of J) (Declared m cause)) h in
     let more : machines_that (is_failed (J ++ Declared m cause ∷ [])) ≡ machines_that (is_failed J) + 1 = one_more (is_failed J) (is_failed (J ++ Declared m cause ∷ [])) m p.1.0 (declared_fails J m cause) in
     let longer_by : length (J ++ Declared m cause ∷ []) ≡ length J + 1 = length-append J (Declared m cause ∷ []) in
     rw (more, longer_by) (omega arith)
-spared_step l J (Lamp b to) s h = longer J (Lamp b to) l.entries _ (full_not _ _ (none_refused (tests l (cell_of J) (Lamp b to)) h).0)
-spared_step l J (Admitted k) s h = longer J (Admitted k) l.entries _ (full_not _ _ (none_refused (tests l (cell_of J) (Admitted k)) h).0)
-spared_step l J (Claimed m y) s h = longer J (Claimed m y) l.entries _ (full_not _ _ (none_refused (tests l (cell_of J) (Claimed m y)) h).0)
-spared_step l J (Yielded m y) s h = longer J (Yielded m y) l.entries _ (full_not _ _ (none_refused (tests l (cell_of J) (Yielded m y)) h).0)
-spared_step l J (Started b to) s h = longer J (Started b to) l.entries _ (full_not _ _ (none_refused (tests l (cell_of J) (Started b to)) h).0)
-spared_step l J (Arrived b p) s h = longer J (Arrived b p) l.entries _ (full_not _ _ (none_refused (tests l (cell_of J) (Arrived b p)) h).0)
-spared_step l J (Conveyed b k dest) s h = longer J (Conveyed b k dest) l.entries _ (full_not _ _ (none_refused (tests l (cell_of J) (Conveyed b k dest)) h).0)
-spared_step l J (Forged m k) s h = longer J (Forged m k) l.entries _ (full_not _ _ (none_refused (tests l (cell_of J) (Forged m k)) h).0)
-spared_step l J (Gripped x k src) s h = longer J (Gripped x k src) l.entries _ (full_not _ _ (none_refused (tests l (cell_of J) (Gripped x k src)) h).0)
-spared_step l J (Dropped x k dest) s h = longer J (Dropped x k dest) l.entries _ (full_not _ _ (none_refused (tests l (cell_of J) (Dropped x k dest)) h).0)
-spared_step l J (Delivered k) s h = longer J (Delivered k) l.entries _ (full_not _ _ (none_refused (tests l (cell_of J) (Delivered k)) h).0)
-spared_step l J (StopAsked m) s h = longer J (StopAsked m) l.entries _ (full_not _ _ (none_refused (tests l (cell_of J) (StopAsked m)) h).0)
-spared_step l J (Quarantined k src) s h = longer J (Quarantined k src) l.entries _ (full_not _ _ (none_refused (tests l (cell_of J) (Quarantined k src)) h).0)
-spared_step l J (Repaired m) s h = longer J (Repaired m) l.entries _ (full_not _ _ (none_refused (tests l (cell_of J) (Repaired m)) h).0)
+spared_step l J (Lamp b to) s h = longer J (Lamp b to) l.entries _ (full_not _ _ (none_refused (tests l (situation_of J) (Lamp b to)) h).0)
+spared_step l J (Admitted k) s h = longer J (Admitted k) l.entries _ (full_not _ _ (none_refused (tests l (situation_of J) (Admitted k)) h).0)
+spared_step l J (Claimed m y) s h = longer J (Claimed m y) l.entries _ (full_not _ _ (none_refused (tests l (situation_of J) (Claimed m y)) h).0)
+spared_step l J (Yielded m y) s h = longer J (Yielded m y) l.entries _ (full_not _ _ (none_refused (tests l (situation_of J) (Yielded m y)) h).0)
+spared_step l J (Started b to) s h = longer J (Started b to) l.entries _ (full_not _ _ (none_refused (tests l (situation_of J) (Started b to)) h).0)
+spared_step l J (Arrived b p) s h = longer J (Arrived b p) l.entries _ (full_not _ _ (none_refused (tests l (situation_of J) (Arrived b p)) h).0)
+spared_step l J (Conveyed b k dest) s h = longer J (Conveyed b k dest) l.entries _ (full_not _ _ (none_refused (tests l (situation_of J) (Conveyed b k dest)) h).0)
+spared_step l J (Forged m k) s h = longer J (Forged m k) l.entries _ (full_not _ _ (none_refused (tests l (situation_of J) (Forged m k)) h).0)
+spared_step l J (Gripped x k src) s h = longer J (Gripped x k src) l.entries _ (full_not _ _ (none_refused (tests l (situation_of J) (Gripped x k src)) h).0)
+spared_step l J (Dropped x k dest) s h = longer J (Dropped x k dest) l.entries _ (full_not _ _ (none_refused (tests l (situation_of J) (Dropped x k dest)) h).0)
+spared_step l J (Delivered k) s h = longer J (Delivered k) l.entries _ (full_not _ _ (none_refused (tests l (situation_of J) (Delivered k)) h).0)
+spared_step l J (StopAsked m) s h = longer J (StopAsked m) l.entries _ (full_not _ _ (none_refused (tests l (situation_of J) (StopAsked m)) h).0)
+spared_step l J (Quarantined k src) s h = longer J (Quarantined k src) l.entries _ (full_not _ _ (none_refused (tests l (situation_of J) (Quarantined k src)) h).0)
+spared_step l J (Repaired m) s h = longer J (Repaired m) l.entries _ (full_not _ _ (none_refused (tests l (situation_of J) (Repaired m)) h).0)
 
-spared : (l : Limits) (J : List Entry) → legal l J ≡ true → IsSpared l J
-spared l = along l (IsSpared l) (omega arith) (λ J e g s a. spared_step l J e s (is_none_tells (first l (cell_of J) e) a))
+spared : (l : BookLimits) (J : List Entry) → legal l J ≡ true → IsSpared l J
+spared l = along l (IsSpared l) (omega arith) (λ J e g s a. spared_step l J e s (is_none_tells (first l (situation_of J) e) a))
 
 not_le : (n m : ℕ) → m < n → nat_le n m ≡ false
 not_le n m h = grind (arith, nat_tests)
 
-pub healthy_is_declared : (l : Limits) (J : List Entry) (m : Machine) (cause : Cause) → legal l J ≡ true → is_failed J m ≡ false → first_of l J (Declared m cause) ≡ None
+pub healthy_is_declared : (l : BookLimits) (J : List Entry) (m : Machine) (cause : Cause) → legal l J ≡ true → is_failed J m ≡ false → first_of l J (Declared m cause) ≡ None
 unfolding first_true
 healthy_is_declared l J m cause h f =
     let s : length J ≤ l.entries + machines_that (is_failed J) = spared l J h in
@@ -94,7 +94,7 @@ healthy_is_declared l J m cause h f =
     let room : nat_le (l.entries + 6) (length J) ≡ false = not_le (l.entries + 6) (length J) (omega (arith, s, few)) in
     rw (room, f) refl
 
-pub declaring_is_allowed : (l : Limits) (J : List Entry) (e : Entry) → legal l J ≡ true → DeclaresHealthy J e → first_of l J e ≡ None
+pub declaring_is_allowed : (l : BookLimits) (J : List Entry) (e : Entry) → legal l J ≡ true → DeclaresHealthy J e → first_of l J e ≡ None
 declaring_is_allowed l J (Declared m cause) h f = healthy_is_declared l J m cause h f
 declaring_is_allowed l J _ h f = absurd f
 

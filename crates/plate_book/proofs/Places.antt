@@ -11,9 +11,9 @@ use Rattle.cell_types.specs.declared.cell.BeltMotion.{BeltMotion}
 use Rattle.cell_types.specs.Cell.{motion_to}
 use Rattle.cell_types.specs.After.{after}
 use Rattle.cell_views.specs.Last.{when}
-use Rattle.cell_views.specs.Told.{cell_of}
+use Rattle.cell_views.specs.Situations.{situation_of}
 use Rattle.cell_views.specs.Views.{Placing, placing, puts, place_of, source, start_of, is_admitted}
-use Rattle.plate_book.specs.declared.limits.Limits.{Limits}
+use Rattle.plate_book.specs.declared.limits.BookLimits.{BookLimits}
 use Rattle.plate_book.specs.Rules.First.{first, tests}
 use Rattle.plate_book.specs.Rules.Legal.{allowed, legal}
 use Rattle.plate_book.proofs.Safe.Facts.{none_refused, is_none_tells}
@@ -25,19 +25,19 @@ pub full_not : (n m : ℕ) → nat_le n m ≡ false → m < n
 full_not n m h = grind (arith, nat_tests)
 
 -- no more plates are admitted than the limit says
-limit_step : (l : Limits) (J : List Entry) (e : Entry) → count_by is_admitted J ≤ l.plates → first l (cell_of J) e ≡ None → (if is_admitted e then count_by is_admitted J + 1 else count_by is_admitted J) ≤ l.plates
-limit_step l J (Admitted k) n h = let p : count_by is_admitted J < l.plates = full_not _ _ (none_refused (tests l (cell_of J) (Admitted k)) h).1.0 in omega arith
+limit_step : (l : BookLimits) (J : List Entry) (e : Entry) → count_by is_admitted J ≤ l.plates → first l (situation_of J) e ≡ None → (if is_admitted e then count_by is_admitted J + 1 else count_by is_admitted J) ≤ l.plates
+limit_step l J (Admitted k) n h = let p : count_by is_admitted J < l.plates = full_not _ _ (none_refused (tests l (situation_of J) (Admitted k)) h).1.0 in omega arith
 limit_step l J _ n h = n
 
-pub admitted_law : (l : Limits) (J : List Entry) → legal l J ≡ true → count_by is_admitted J ≤ l.plates
+pub admitted_law : (l : BookLimits) (J : List Entry) → legal l J ≡ true → count_by is_admitted J ≤ l.plates
 admitted_law l = along l (λ J. count_by is_admitted J ≤ l.plates) (omega arith)
-    (λ J e g n a. rw (count_snoc is_admitted J e) (limit_step l J e n (is_none_tells (first l (cell_of J) e) a)))
+    (λ J e g n a. rw (count_snoc is_admitted J e) (limit_step l J e n (is_none_tells (first l (situation_of J) e) a)))
 
 -- a plate that is somewhere is one of those that the limit allows
 split : (k n : ℕ) → ((k ≡ 0) ⊎ (n + 1 ≤ k) → ⊥) → (1 ≤ k) × (k ≤ n)
 split k n h = grind arith
 
-pub somewhere_small : (l : Limits) (J : List Entry) (k : ℕ) → legal l J ≡ true → place_of J k ≢ Place.Nowhere → (1 ≤ k) × (k ≤ l.plates)
+pub somewhere_small : (l : BookLimits) (J : List Entry) (k : ℕ) → legal l J ≡ true → place_of J k ≢ Place.Nowhere → (1 ≤ k) × (k ≤ l.plates)
 somewhere_small l J k h n =
     let g = good_when_legal l J h in
     let r = split k (after J).admitted (λ o. n (g.safe.plates.outside k o)) in
@@ -76,7 +76,7 @@ put_case (Some p) k v x n e = go (p.plate == k) refl
     go false t = e
 
 -- a plate stays where no entry takes one from
-pub stays : (l : Limits) (J : List Entry) (e : Entry) (k : ℕ) (v : Place) → Good J → allowed l J e ≡ true → source e ≢ v → place_of J k ≡ v → place_of (J ++ e ∷ []) k ≡ v
+pub stays : (l : BookLimits) (J : List Entry) (e : Entry) (k : ℕ) (v : Place) → Good J → allowed l J e ≡ true → source e ≢ v → place_of J k ≡ v → place_of (J ++ e ∷ []) k ≡ v
 stays l J e k v g a n h =
     let s = safe_entry l J e g a in
     rw (view_snoc (puts k) Place.Nowhere J e)

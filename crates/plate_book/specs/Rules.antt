@@ -10,5 +10,5 @@ pub mod Invariants
 pub mod Listed
 pub mod Claims
 pub mod Reads
-pub mod ToldBy
+pub mod SituationIn
 pub mod Bridged

@@ -1,10 +1,10 @@
 //! The tests, each with its refusal, in the words of the table.
 ghost use Rattle.std.specs.Prelude.{◌≡◌};
-ghost use Rattle.plate_book.specs.Records.Recorded.{told};
+ghost use Rattle.plate_book.specs.Records.Recorded.{recorded};
 ghost use Rattle.plate_book.specs.Rules.First.{not_at_rest, not_resting_at, cannot_go, not_going, zone_taken, not_holder, station_empty, station_full, plate_not_at, other_plate_at, lamp_red, lamp_already, visited, still_there, journal_full, plate_limit, machine_failed, machine_healthy, owner_failed, visits_failed, no_neighbour, wrong_number, ends_by_arrival, no_arrival};
 
 use crate::registers::Registers;
-use crate::{Limits, Refusal};
+use crate::{BookLimits, Refusal};
 use cell_types::{
     Axis, Belt, Colour, Machine, PlateId, Pose, Station, Zone, is_pose_of, machine_of_station,
     owner, visitor,
@@ -21,14 +21,14 @@ fn ends_by_arrival(axis: Axis, pose: Pose) -> bool
 
 impl Registers {
     pub fn wrong_number(&self, plate: PlateId) -> (bool, Refusal)
-        ensures { result ≡ wrong_number (told self.now) plate }
+        ensures { result ≡ wrong_number (recorded self.now) plate }
     {
         let next = u64::from(self.admitted()) + 1;
         (u64::from(plate.number()) != next, Refusal::WrongPlate)
     }
 
     pub fn no_arrival(&self, axis: Axis, pose: Pose) -> (bool, Refusal)
-        ensures { result ≡ no_arrival (told self.now) axis pose }
+        ensures { result ≡ no_arrival (recorded self.now) axis pose }
     {
         (
             !(self.is_going(axis, pose) && ends_by_arrival(axis, pose)),
@@ -36,50 +36,50 @@ impl Registers {
         )
     }
 
-    pub fn journal_full(&self, limits: Limits) -> (bool, Refusal)
-        ensures { result ≡ journal_full limits (told self.now) }
+    pub fn journal_full(&self, limits: BookLimits) -> (bool, Refusal)
+        ensures { result ≡ journal_full limits (recorded self.now) }
     {
         (limits.entries <= self.entries(), Refusal::JournalFull)
     }
 
-    pub fn plate_limit(&self, limits: Limits) -> (bool, Refusal)
-        ensures { result ≡ plate_limit limits (told self.now) }
+    pub fn plate_limit(&self, limits: BookLimits) -> (bool, Refusal)
+        ensures { result ≡ plate_limit limits (recorded self.now) }
     {
         (limits.plates <= self.admitted(), Refusal::PlateLimit)
     }
 
     pub fn machine_failed(&self, machine: Machine) -> (bool, Refusal)
-        ensures { result ≡ machine_failed (told self.now) machine }
+        ensures { result ≡ machine_failed (recorded self.now) machine }
     {
         (self.is_failed(machine), Refusal::MachineFailed(machine))
     }
 
     pub fn machine_healthy(&self, machine: Machine) -> (bool, Refusal)
-        ensures { result ≡ machine_healthy (told self.now) machine }
+        ensures { result ≡ machine_healthy (recorded self.now) machine }
     {
         (!self.is_failed(machine), Refusal::MachineHealthy(machine))
     }
 
     pub fn owner_failed(&self, machine: Machine) -> (bool, Refusal)
-        ensures { result ≡ owner_failed (told self.now) machine }
+        ensures { result ≡ owner_failed (recorded self.now) machine }
     {
         (self.is_failed(machine), Refusal::OwnerFailed(machine))
     }
 
     pub fn not_at_rest(&self, axis: Axis) -> (bool, Refusal)
-        ensures { result ≡ not_at_rest (told self.now) axis }
+        ensures { result ≡ not_at_rest (recorded self.now) axis }
     {
         (self.is_moving(axis), Refusal::WrongPose(axis))
     }
 
     pub fn not_resting_at(&self, axis: Axis, pose: Pose) -> (bool, Refusal)
-        ensures { result ≡ not_resting_at (told self.now) axis pose }
+        ensures { result ≡ not_resting_at (recorded self.now) axis pose }
     {
         (!self.rests_at(axis, pose), Refusal::WrongPose(axis))
     }
 
     pub fn cannot_go(&self, axis: Axis, to: Pose) -> (bool, Refusal)
-        ensures { result ≡ cannot_go (told self.now) axis to }
+        ensures { result ≡ cannot_go (recorded self.now) axis to }
     {
         let is_there = self.at(axis) == to;
         (
@@ -89,61 +89,61 @@ impl Registers {
     }
 
     pub fn not_going(&self, axis: Axis, to: Pose) -> (bool, Refusal)
-        ensures { result ≡ not_going (told self.now) axis to }
+        ensures { result ≡ not_going (recorded self.now) axis to }
     {
         (!self.is_going(axis, to), Refusal::WrongPose(axis))
     }
 
     pub fn zone_taken(&self, zone: Zone) -> (bool, Refusal)
-        ensures { result ≡ zone_taken (told self.now) zone }
+        ensures { result ≡ zone_taken (recorded self.now) zone }
     {
         (self.is_held(zone), Refusal::ZoneTaken(zone))
     }
 
     pub fn not_holder(&self, machine: Machine, zone: Zone) -> (bool, Refusal)
-        ensures { result ≡ not_holder (told self.now) machine zone }
+        ensures { result ≡ not_holder (recorded self.now) machine zone }
     {
         (!self.is_held_by(machine, zone), Refusal::NotHolder(zone))
     }
 
     pub fn station_empty(&self, station: Station) -> (bool, Refusal)
-        ensures { result ≡ station_empty (told self.now) station }
+        ensures { result ≡ station_empty (recorded self.now) station }
     {
         (!self.is_occupied(station), Refusal::StationEmpty(station))
     }
 
     pub fn station_full(&self, station: Station) -> (bool, Refusal)
-        ensures { result ≡ station_full (told self.now) station }
+        ensures { result ≡ station_full (recorded self.now) station }
     {
         (self.is_occupied(station), Refusal::StationFull(station))
     }
 
     pub fn plate_not_at(&self, station: Station, plate: PlateId) -> (bool, Refusal)
-        ensures { result ≡ plate_not_at (told self.now) station plate }
+        ensures { result ≡ plate_not_at (recorded self.now) station plate }
     {
         (!self.holds(station, plate), Refusal::WrongPlate)
     }
 
     pub fn other_plate_at(&self, station: Station, plate: PlateId) -> (bool, Refusal)
-        ensures { result ≡ other_plate_at (told self.now) station plate }
+        ensures { result ≡ other_plate_at (recorded self.now) station plate }
     {
         (self.has_other(station, plate), Refusal::WrongPlate)
     }
 
     pub fn lamp_red(&self, belt: Belt) -> (bool, Refusal)
-        ensures { result ≡ lamp_red (told self.now) belt }
+        ensures { result ≡ lamp_red (recorded self.now) belt }
     {
         (self.lamp(belt) == Colour::Red, Refusal::LampRed(belt))
     }
 
     pub fn lamp_already(&self, belt: Belt, colour: Colour) -> (bool, Refusal)
-        ensures { result ≡ lamp_already (told self.now) belt colour }
+        ensures { result ≡ lamp_already (recorded self.now) belt colour }
     {
         (self.lamp(belt) == colour, Refusal::LampAlready(belt))
     }
 
     pub fn visited(&self, machine: Machine, zone: Zone) -> (bool, Refusal)
-        ensures { result ≡ visited (told self.now) machine zone }
+        ensures { result ≡ visited (recorded self.now) machine zone }
     {
         (
             owner(zone) == machine && self.is_held_by(visitor(zone), zone),
@@ -152,7 +152,7 @@ impl Registers {
     }
 
     pub fn still_there(&self, machine: Machine, station: Station) -> (bool, Refusal)
-        ensures { result ≡ still_there (told self.now) machine station }
+        ensures { result ≡ still_there (recorded self.now) machine station }
     {
         (
             machine_of_station(station) == machine && self.is_occupied(station),
@@ -161,7 +161,7 @@ impl Registers {
     }
 
     pub fn visits_failed(&self, machine: Machine, zone: Zone) -> (bool, Refusal)
-        ensures { result ≡ visits_failed (told self.now) machine zone }
+        ensures { result ≡ visits_failed (recorded self.now) machine zone }
     {
         (
             machine == visitor(zone) && self.is_failed(owner(zone)),

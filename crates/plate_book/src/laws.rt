@@ -7,66 +7,66 @@ ghost use Rattle.cell_types.specs.declared.words.Cause.{Cause};
 ghost use Rattle.cell_types.specs.declared.words.Entry.{Entry};
 ghost use Rattle.cell_types.specs.declared.words.Entry.TheVariants.{Declared};
 ghost use Rattle.cell_views.specs.Views.{is_failed};
-ghost use Rattle.cell_views.specs.Told.{Cell};
-ghost use Rattle.plate_book.specs.declared.limits.Limits.{Limits};
+ghost use Rattle.cell_views.specs.Situations.{Situation};
+ghost use Rattle.plate_book.specs.declared.limits.BookLimits.{BookLimits};
 ghost use Rattle.plate_book.specs.declared.refusal.Refusal.{Refusal};
 ghost use Rattle.plate_book.specs.Rules.First.{first, tests};
 ghost use Rattle.plate_book.specs.Rules.Numbers.{refusal_number, ascends_from};
 ghost use Rattle.plate_book.specs.Rules.Legal.{first_of, legal};
 ghost use Rattle.plate_book.specs.Rules.Safety.{IsSafe};
 ghost use Rattle.plate_book.specs.Rules.Invariants.{IsKept};
-ghost use Rattle.plate_book.specs.Rules.Bridged.{IsTold};
+ghost use Rattle.plate_book.specs.Rules.Bridged.{TellsWhatIsLeft};
 ghost use Rattle.plate_book.specs.Rules.Carrying.{IsCarrying};
 
 /// What a legal journal tells is what its entries' effects leave.
 #[tactic(auto, using(crate::proofs::Safe::Told::told_when_legal))]
 pub fn effects_are_what_is_told()
-    ensures { (l : Limits) (J : List Entry) → legal l J ≡ true → IsTold J }
+    ensures { (l : BookLimits) (J : List Entry) → legal l J ≡ true → TellsWhatIsLeft J }
 {}
 
 /// Each legal journal is safe.
 #[tactic(auto, using(crate::proofs::Safe::Safety::safe_when_legal))]
 pub fn legal_is_safe()
-    ensures { (l : Limits) (J : List Entry) → legal l J ≡ true → IsSafe J }
+    ensures { (l : BookLimits) (J : List Entry) → legal l J ≡ true → IsSafe J }
 {}
 
 /// Each legal journal keeps the working invariants: who holds which zone while a machine moves, where an arm may be out,
 /// how often a plate was forged, and that a failed machine that nobody visits is left alone.
 #[tactic(auto, using(crate::proofs::Safe::KeptProofs::kept_when_legal))]
 pub fn legal_is_kept()
-    ensures { (l : Limits) (J : List Entry) → legal l J ≡ true → IsKept J }
+    ensures { (l : BookLimits) (J : List Entry) → legal l J ≡ true → IsKept J }
 {}
 
 /// Where an axis of a healthy machine goes with a motion that carries a plate, the plate is there: a belt's at the first
 /// station of its motion, and that of a press on its way to Top.
 pub fn healthy_motions_carry()
-    ensures { (l : Limits) (J : List Entry) → legal l J ≡ true → IsCarrying J }
+    ensures { (l : BookLimits) (J : List Entry) → legal l J ≡ true → IsCarrying J }
 {}
 
 /// The first part of a legal journal is legal.
 pub fn first_part_is_legal()
-    ensures { (l : Limits) (P R : List Entry) → legal l (P ++ R) ≡ true → legal l P ≡ true }
+    ensures { (l : BookLimits) (P R : List Entry) → legal l (P ++ R) ≡ true → legal l P ≡ true }
 {}
 
 /// A legal journal has at most six entries beyond its limit, as many as there are machines.
 #[tactic(auto, using(crate::proofs::Tellings::length_law))]
 pub fn legal_is_short()
-    ensures { (l : Limits) (J : List Entry) → legal l J ≡ true → length J ≤ l.entries + 6 }
+    ensures { (l : BookLimits) (J : List Entry) → legal l J ≡ true → length J ≤ l.entries + 6 }
 {}
 
 /// A healthy machine can always be declared failed, at a full journal too.
 pub fn healthy_is_declared()
-    ensures { (l : Limits) (J : List Entry) (m : Machine) (cause : Cause) → legal l J ≡ true → is_failed J m ≡ false → first_of l J (Declared m cause) ≡ None }
+    ensures { (l : BookLimits) (J : List Entry) (m : Machine) (cause : Cause) → legal l J ≡ true → is_failed J m ≡ false → first_of l J (Declared m cause) ≡ None }
 {}
 
 /// The tests of an entry stand in the order of their refusals' numbers.
 #[tactic(auto, using(crate::proofs::Order::tests_ascend))]
 pub fn tests_are_in_order()
-    ensures { (l : Limits) (c : Cell) (e : Entry) → ascends_from 1 (tests l c e) ≡ true }
+    ensures { (l : BookLimits) (c : Situation) (e : Entry) → ascends_from 1 (tests l c e) ≡ true }
 {}
 
 /// The refusal of an entry has the least number of all whose test holds.
 #[tactic(auto, using(crate::proofs::Order::first_is_least))]
 pub fn first_refusal_is_the_least()
-    ensures { (l : Limits) (c : Cell) (e : Entry) (r : Refusal) → first l c e ≡ Some r → list_all (λ t. not t.0 || nat_le (refusal_number r) (refusal_number t.1)) (tests l c e) ≡ true }
+    ensures { (l : BookLimits) (c : Situation) (e : Entry) (r : Refusal) → first l c e ≡ Some r → list_all (λ t. not t.0 || nat_le (refusal_number r) (refusal_number t.1)) (tests l c e) ≡ true }
 {}

@@ -17,7 +17,7 @@ mod rules;
 mod visits;
 
 pub use book::Book;
-pub use limits::Limits;
+pub use limits::BookLimits;
 pub use open_error::OpenError;
 pub use records::Records;
 pub use refusal::Refusal;

@@ -1,7 +1,7 @@
 //! The tests of entries that start a motion.
 ghost use Rattle.std.specs.Prelude.{◌≡◌, Some};
 ghost use Rattle.cell_types.specs.Cell.{axis_of_arm, faced_of};
-ghost use Rattle.plate_book.specs.Records.Recorded.{told};
+ghost use Rattle.plate_book.specs.Records.Recorded.{recorded};
 ghost use Rattle.plate_book.specs.Rules.First.{first_true, feed_belt_tests, deposit_belt_tests, press_tests, lamp_tests, arm_tests, outward_tests, faces, started_tests, all_resting};
 
 use crate::Refusal;
@@ -15,7 +15,7 @@ use cell_types::{
 #[tactic(auto, unfolding(crate::specs::Rules::First::first_true))]
 impl Registers {
     pub fn lamp_tests(&self, belt: Belt, colour: Colour) -> Option<Refusal>
-        ensures { result ≡ first_true (lamp_tests (told self.now) belt colour) }
+        ensures { result ≡ first_true (lamp_tests (recorded self.now) belt colour) }
     {
         match (belt, colour) {
             (Belt::Feed, Colour::Green) => first_true(&[
@@ -34,7 +34,7 @@ impl Registers {
     }
 
     pub fn feed_belt_tests(&self, to: Pose) -> Option<Refusal>
-        ensures { result ≡ first_true (feed_belt_tests (told self.now) to) }
+        ensures { result ≡ first_true (feed_belt_tests (recorded self.now) to) }
     {
         match to {
             Pose::ToEnd => first_true(&[
@@ -56,7 +56,7 @@ impl Registers {
     }
 
     pub fn press_tests(&self, press: Press, to: Pose) -> Option<Refusal>
-        ensures { result ≡ first_true (press_tests (told self.now) press.machine press.axis press.zone press.station to) }
+        ensures { result ≡ first_true (press_tests (recorded self.now) press.machine press.axis press.zone press.station to) }
     {
         let axis = press.axis;
         match to {
@@ -79,7 +79,7 @@ impl Registers {
     }
 
     pub fn deposit_belt_tests(&self, to: Pose) -> Option<Refusal>
-        ensures { result ≡ first_true (deposit_belt_tests (told self.now) to) }
+        ensures { result ≡ first_true (deposit_belt_tests (recorded self.now) to) }
     {
         match to {
             Pose::ToEnd => first_true(&[
@@ -94,7 +94,7 @@ impl Registers {
 
     /// The first of these axes that doesn't rest at its pose.
     fn not_all_resting(&self, rests: &[(Axis, Pose)]) -> Option<Refusal>
-        ensures { result ≡ first_true (all_resting (told self.now) rests.now) }
+        ensures { result ≡ first_true (all_resting (recorded self.now) rests.now) }
     {
         for rest in rests {
             let test = self.not_resting_at(rest.0, rest.1);
@@ -107,7 +107,7 @@ impl Registers {
 
     /// The tests of an arm's way out to what it faces.
     fn out_to(&self, arm: Axis, facing: Facing) -> Option<Refusal>
-        ensures { result ≡ first_true (outward_tests (told self.now) arm (Some (faced_of facing))) }
+        ensures { result ≡ first_true (outward_tests (recorded self.now) arm (Some (faced_of facing))) }
     {
         let owner_failed = first_true(&[self.owner_failed(facing.owner)]);
         let before = self.not_all_resting(facing.before);
@@ -118,7 +118,7 @@ impl Registers {
     }
 
     pub fn outward_tests(&self, arm: Arm) -> Option<Refusal>
-        ensures { result ≡ first_true (outward_tests (told self.now) (axis_of_arm arm) (faces (told self.now) arm)) }
+        ensures { result ≡ first_true (outward_tests (recorded self.now) (axis_of_arm arm) (faces (recorded self.now) arm)) }
     {
         match self.facing(arm) {
             Some(facing) => self.out_to(axis_of_arm(arm), facing),
@@ -127,7 +127,7 @@ impl Registers {
     }
 
     pub fn arm_tests(&self, arm: Arm, to: Pose) -> Option<Refusal>
-        ensures { result ≡ first_true (arm_tests (told self.now) arm to) }
+        ensures { result ≡ first_true (arm_tests (recorded self.now) arm to) }
     {
         match to {
             Pose::Out => self.outward_tests(arm),
@@ -137,7 +137,7 @@ impl Registers {
     }
 
     pub fn started_tests(&self, axis: Axis, to: Pose) -> Option<Refusal>
-        ensures { result ≡ first_true (started_tests (told self.now) axis to) }
+        ensures { result ≡ first_true (started_tests (recorded self.now) axis to) }
     {
         match axis {
             Axis::FeedBelt => self.feed_belt_tests(to),

@@ -1,6 +1,6 @@
 //! The tests of the other entries, and of every entry.
 ghost use Rattle.std.specs.Prelude.{◌≡◌, ◌+◌, ◌^◌, ◌<◌, ◌≤◌, ◌∷◌, [], ◌++◌, map, option_map};
-ghost use Rattle.plate_book.specs.Records.Recorded.{told};
+ghost use Rattle.plate_book.specs.Records.Recorded.{recorded};
 ghost use Rattle.cell_types.specs.Cell.{motion_to, machine_of_station, station_of_arm, faced_of, grips_at, drops_at};
 ghost use Rattle.cell_types.specs.declared.words.Entry.TheVariants.{Admitted, Quarantined, Repaired};
 ghost use Rattle.plate_book.specs.Rules.First.{first_true, claimed_tests, parked_tests, conveyed_tests, forged_tests, handing_tests, any_visited, any_still_there, first, is_faced, faces, journal_full, machine_failed, not_holder, neighbour_tests, not_at_rest};
@@ -8,7 +8,7 @@ ghost use Rattle.plate_book.specs.Rules.First.{first_true, claimed_tests, parked
 use crate::checks::first_true;
 use crate::conditions::no_neighbour;
 use crate::registers::Registers;
-use crate::{Limits, Refusal};
+use crate::{BookLimits, Refusal};
 use cell_types::{
     Arm, Axis, Belt, Entry, Facing, Machine, PlateId, Pose, Station, ZONES, Zone, axes_of,
     axis_of_arm, drops_at, faced, grips_at, machine_of_axis, machine_of_belt, machine_of_station,
@@ -18,7 +18,7 @@ use cell_types::{
 #[tactic(auto, unfolding(crate::specs::Rules::First::first_true))]
 impl Registers {
     pub fn claimed_tests(&self, machine: Machine, zone: Zone) -> Option<Refusal>
-        ensures { result ≡ first_true (claimed_tests (told self.now) machine zone) }
+        ensures { result ≡ first_true (claimed_tests (recorded self.now) machine zone) }
     {
         first_true(&[
             self.visits_failed(machine, zone),
@@ -29,7 +29,7 @@ impl Registers {
 
     /// The first of these axes that isn't at rest.
     fn not_all_at_rest(&self, axes: &[Axis]) -> Option<Refusal>
-        ensures { result ≡ first_true (map (not_at_rest (told self.now)) axes.now) }
+        ensures { result ≡ first_true (map (not_at_rest (recorded self.now)) axes.now) }
     {
         for axis in axes {
             let test = self.not_at_rest(*axis);
@@ -41,7 +41,7 @@ impl Registers {
     }
 
     pub fn parked_tests(&self, machine: Machine) -> Option<Refusal>
-        ensures { result ≡ first_true (parked_tests (told self.now) machine) }
+        ensures { result ≡ first_true (parked_tests (recorded self.now) machine) }
     {
         match machine {
             Machine::Robot => first_true(&[
@@ -53,7 +53,7 @@ impl Registers {
     }
 
     pub fn conveyed_tests(&self, axis: Axis, plate: PlateId, dest: Station) -> Option<Refusal>
-        ensures { result ≡ first_true (conveyed_tests (told self.now) axis plate (motion_to axis dest)) }
+        ensures { result ≡ first_true (conveyed_tests (recorded self.now) axis plate (motion_to axis dest)) }
     {
         match motion_to(axis, dest) {
             Some(motion) => first_true(&[
@@ -65,7 +65,7 @@ impl Registers {
     }
 
     pub fn forged_tests(&self, machine: Machine, plate: PlateId) -> Option<Refusal>
-        ensures { result ≡ first_true (forged_tests (told self.now) machine plate) }
+        ensures { result ≡ first_true (forged_tests (recorded self.now) machine plate) }
     {
         match press_of(machine) {
             Some(press) => first_true(&[
@@ -78,7 +78,7 @@ impl Registers {
 
     /// What an arm faces while the turn is at rest.
     pub fn facing(&self, arm: Arm) -> Option<Facing>
-        ensures { option_map faced_of result ≡ faces (told self.now) arm }
+        ensures { option_map faced_of result ≡ faces (recorded self.now) arm }
     {
         if self.is_moving(Axis::RobotTurn) {
             None
@@ -89,7 +89,7 @@ impl Registers {
 
     /// Whether the turn is at rest where this arm faces the station.
     fn is_facing(&self, arm: Arm, station: Station) -> bool
-        ensures { result ≡ is_faced station (faces (told self.now) arm) }
+        ensures { result ≡ is_faced station (faces (recorded self.now) arm) }
     {
         match self.facing(arm) {
             Some(facing) => facing.station == station,
@@ -106,7 +106,7 @@ impl Registers {
         to: Station,
         plate: PlateId,
     ) -> Option<Refusal>
-        ensures { result ≡ first_true (handing_tests (told self.now) arm at from to plate) }
+        ensures { result ≡ first_true (handing_tests (recorded self.now) arm at from to plate) }
     {
         first_true(&[
             self.owner_failed(machine_of_station(at)),
@@ -123,7 +123,7 @@ impl Registers {
 
     #[tactic(auto, unfolding(crate::specs::Rules::First::first_true, crate::specs::Rules::First::any_visited))]
     fn any_visited(&self, machine: Machine) -> Option<Refusal>
-        ensures { result ≡ first_true (any_visited (told self.now) machine) }
+        ensures { result ≡ first_true (any_visited (recorded self.now) machine) }
     {
         for zone in ZONES {
             let test = self.visited(machine, zone);
@@ -136,7 +136,7 @@ impl Registers {
 
     #[tactic(auto, unfolding(crate::specs::Rules::First::any_still_there))]
     fn any_still_there(&self, machine: Machine) -> Option<Refusal>
-        ensures { result ≡ first_true (any_still_there (told self.now) machine) }
+        ensures { result ≡ first_true (any_still_there (recorded self.now) machine) }
     {
         first_true(&[
             self.still_there(machine, Station::FeedIn),
@@ -152,14 +152,14 @@ impl Registers {
     }
 
     /// The tests of every entry of a machine.
-    fn machine_tests(&self, limits: Limits, machine: Machine) -> Option<Refusal>
-        ensures { result ≡ first_true (journal_full limits (told self.now) ∷ machine_failed (told self.now) machine ∷ []) }
+    fn machine_tests(&self, limits: BookLimits, machine: Machine) -> Option<Refusal>
+        ensures { result ≡ first_true (journal_full limits (recorded self.now) ∷ machine_failed (recorded self.now) machine ∷ []) }
     {
         first_true(&[self.journal_full(limits), self.machine_failed(machine)])
     }
 
-    fn admitted_tests(&self, limits: Limits, plate: PlateId) -> Option<Refusal>
-        ensures { result ≡ first limits (told self.now) (Admitted plate) }
+    fn admitted_tests(&self, limits: BookLimits, plate: PlateId) -> Option<Refusal>
+        ensures { result ≡ first limits (recorded self.now) (Admitted plate) }
     {
         first_true(&[
             self.journal_full(limits),
@@ -171,7 +171,7 @@ impl Registers {
     }
 
     fn gripped_tests(&self, arm: Arm, plate: PlateId, src: Station) -> Option<Refusal>
-        ensures { result ≡ first_true (neighbour_tests (grips_at arm src) (handing_tests (told self.now) arm src src (station_of_arm arm) plate)) }
+        ensures { result ≡ first_true (neighbour_tests (grips_at arm src) (handing_tests (recorded self.now) arm src src (station_of_arm arm) plate)) }
     {
         if grips_at(arm, src) {
             self.handing_tests(arm, src, src, station_of_arm(arm), plate)
@@ -181,7 +181,7 @@ impl Registers {
     }
 
     fn dropped_tests(&self, arm: Arm, plate: PlateId, dest: Station) -> Option<Refusal>
-        ensures { result ≡ first_true (neighbour_tests (drops_at arm dest) (handing_tests (told self.now) arm dest (station_of_arm arm) dest plate)) }
+        ensures { result ≡ first_true (neighbour_tests (drops_at arm dest) (handing_tests (recorded self.now) arm dest (station_of_arm arm) dest plate)) }
     {
         if drops_at(arm, dest) {
             self.handing_tests(arm, dest, station_of_arm(arm), dest, plate)
@@ -194,9 +194,9 @@ impl Registers {
 #[tactic(auto, using(crate::proofs::Appended::first_true_append))]
 impl Registers {
     /// Why an entry isn't allowed now.
-    pub fn refusal(&self, limits: Limits, entry: Entry) -> Option<Refusal>
+    pub fn refusal(&self, limits: BookLimits, entry: Entry) -> Option<Refusal>
         requires { limits.entries ≤ 1000000 }
-        ensures { result ≡ first limits (told self.now) entry }
+        ensures { result ≡ first limits (recorded self.now) entry }
     {
         match entry {
             Entry::Lamp { belt, colour } => self
@@ -236,7 +236,7 @@ impl Registers {
                 self.lamp_red(Belt::Deposit),
             ]),
             Entry::Declared { machine, .. } => first_true(&[
-                self.journal_full(Limits {
+                self.journal_full(BookLimits {
                     entries: limits.entries + 6,
                     plates: limits.plates,
                 }),
@@ -253,14 +253,14 @@ impl Registers {
     }
 
     fn yielded_tests(&self, machine: Machine, zone: Zone) -> Option<Refusal>
-        ensures { result ≡ first_true (parked_tests (told self.now) machine ++ not_holder (told self.now) machine zone ∷ []) }
+        ensures { result ≡ first_true (parked_tests (recorded self.now) machine ++ not_holder (recorded self.now) machine zone ∷ []) }
     {
         self.parked_tests(machine)
             .or(first_true(&[self.not_holder(machine, zone)]))
     }
 
-    fn quarantined_tests(&self, limits: Limits, plate: PlateId, src: Station) -> Option<Refusal>
-        ensures { result ≡ first limits (told self.now) (Quarantined plate src) }
+    fn quarantined_tests(&self, limits: BookLimits, plate: PlateId, src: Station) -> Option<Refusal>
+        ensures { result ≡ first limits (recorded self.now) (Quarantined plate src) }
     {
         let machine = machine_of_station(src);
         first_true(&[self.journal_full(limits), self.machine_healthy(machine)])
@@ -268,8 +268,8 @@ impl Registers {
             .or(first_true(&[self.station_empty(src), self.other_plate_at(src, plate)]))
     }
 
-    fn repaired_tests(&self, limits: Limits, machine: Machine) -> Option<Refusal>
-        ensures { result ≡ first limits (told self.now) (Repaired machine) }
+    fn repaired_tests(&self, limits: BookLimits, machine: Machine) -> Option<Refusal>
+        ensures { result ≡ first limits (recorded self.now) (Repaired machine) }
     {
         first_true(&[self.journal_full(limits), self.machine_healthy(machine)])
             .or(self.any_visited(machine))

@@ -11,8 +11,8 @@ use Rattle.cell_types.specs.declared.words.AxisState.{AxisState}
 use Rattle.cell_types.specs.Same.{same_machine, same_station, same_axis, same_pose, same_zone, same_belt, same_colour, machine_number, station_number, axis_number, pose_number, zone_number, belt_number, colour_number}
 use Rattle.plate_book.specs.declared.refusal.Refusal.{Refusal}
 use Rattle.plate_book.specs.Rules.First.{first_true, is_pose, rests_at}
-use Rattle.cell_types.specs.After.{is_machine, State, is_plate}
-use Rattle.plate_book.specs.Rules.ToldBy.{told_by}
+use Rattle.cell_types.specs.After.{is_machine, Snapshot, is_plate}
+use Rattle.plate_book.specs.Rules.SituationIn.{situation_in}
 
 -- words with one number are one word
 all_machine : List Machine
@@ -154,7 +154,7 @@ is_pose_tells p (Some q) h = ap Some (pose_same q p h)
 abbrev pub Axes : Type 0
 Axes = Axis → AxisState
 
-abbrev pub axes_of : State → Axes
+abbrev pub axes_of : Snapshot → Axes
 axes_of s a = record { at = s.at a; going = s.going a }
 
 abbrev pub rest : Pose → AxisState
@@ -187,29 +187,29 @@ passed_first [] ys h = tt
 passed_first (x ∷ xs) ys h = (h.0, passed_first xs ys h.1)
 
 -- the tests of a state, passed
-pub resting : (s : State) (a : Axis) (p : Pose) → not (rests_at (told_by s) a p) ≡ false → axes_of s a ≡ rest p
+pub resting : (s : Snapshot) (a : Axis) (p : Pose) → not (rests_at (situation_in s) a p) ≡ false → axes_of s a ≡ rest p
 resting s a p h =
-    let e = and_both (is_none (s.going a)) (same_pose (s.at a) p) (not_false (rests_at (told_by s) a p) h) in
+    let e = and_both (is_none (s.going a)) (same_pose (s.at a) p) (not_false (rests_at (situation_in s) a p) h) in
     let g = is_none_tells (s.going a) e.0 in
     let q = pose_same (s.at a) p e.1 in
     λ i. record { at = q i; going = g i }
 
-pub still : (s : State) (a : Axis) → is_some (s.going a) ≡ false → s.going a ≡ None
+pub still : (s : Snapshot) (a : Axis) → is_some (s.going a) ≡ false → s.going a ≡ None
 still s a h = not_some_tells (s.going a) h
 
-pub held : (s : State) (m : Machine) (z : Zone) → not (is_machine m (s.holder z)) ≡ false → s.holder z ≡ Some m
+pub held : (s : Snapshot) (m : Machine) (z : Zone) → not (is_machine m (s.holder z)) ≡ false → s.holder z ≡ Some m
 held s m z h = is_machine_tells m (s.holder z) (not_false (is_machine m (s.holder z)) h)
 
-pub occupied : (s : State) (t : Station) → not (is_some (s.plate t)) ≡ false → (k : ℕ) × (s.plate t ≡ Some k)
+pub occupied : (s : Snapshot) (t : Station) → not (is_some (s.plate t)) ≡ false → (k : ℕ) × (s.plate t ≡ Some k)
 occupied s t h = is_some_tells (s.plate t) (not_false (is_some (s.plate t)) h)
 
-pub free : (s : State) (t : Station) → is_some (s.plate t) ≡ false → s.plate t ≡ None
+pub free : (s : Snapshot) (t : Station) → is_some (s.plate t) ≡ false → s.plate t ≡ None
 free s t h = not_some_tells (s.plate t) h
 
-pub plate_at : (s : State) (t : Station) (k : ℕ) → not (is_plate k (s.plate t)) ≡ false → s.plate t ≡ Some k
+pub plate_at : (s : Snapshot) (t : Station) (k : ℕ) → not (is_plate k (s.plate t)) ≡ false → s.plate t ≡ Some k
 plate_at s t k h = is_plate_tells k (s.plate t) (not_false (is_plate k (s.plate t)) h)
 
-pub no_other : (s : State) (t : Station) (j k : ℕ) → s.plate t ≡ Some j → (is_some (s.plate t) && not (is_plate k (s.plate t))) ≡ false → s.plate t ≡ Some k
+pub no_other : (s : Snapshot) (t : Station) (j k : ℕ) → s.plate t ≡ Some j → (is_some (s.plate t) && not (is_plate k (s.plate t))) ≡ false → s.plate t ≡ Some k
 no_other s t j k e h =
     let g : not (is_plate k (Some j)) ≡ false = rw e at h in
     let i = eqb-true j k (not_false (j == k) g) in

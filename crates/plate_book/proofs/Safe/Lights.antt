@@ -10,10 +10,10 @@ use Rattle.cell_types.specs.declared.words.Place.{Place}
 use Rattle.cell_types.specs.declared.words.Entry.{Entry}
 use Rattle.cell_types.specs.Same.{same_machine, same_station, same_axis, same_belt}
 use Rattle.cell_types.specs.Cell.{machine_of_belt}
-use Rattle.plate_book.specs.declared.limits.Limits.{Limits}
+use Rattle.plate_book.specs.declared.limits.BookLimits.{BookLimits}
 use Rattle.plate_book.specs.Rules.First.{started_tests, tests}
-use Rattle.cell_types.specs.After.{State, with_at, without, with_plate}
-use Rattle.plate_book.specs.Rules.ToldBy.{told_by}
+use Rattle.cell_types.specs.After.{Snapshot, with_at, without, with_plate}
+use Rattle.plate_book.specs.Rules.SituationIn.{situation_in}
 use Rattle.plate_book.proofs.Safe.Facts.{pose_same, Axes, axes_of, rest, Passed}
 use Rattle.plate_book.proofs.Safe.Motion.{MotionSafe, begun, homed, fits}
 use Rattle.plate_book.proofs.Safe.Plates.{without_is}
@@ -33,10 +33,10 @@ pub record LightsSafe (ax : Axes) (plate : Station → Option ℕ) (failed : Mac
   pub deposit : lamp Belt.Deposit ≡ Colour.Green → DepositLit plate failed
 
 -- a still belt rests at Rest
-pub feed_rests : (s : State) → fits Axis.FeedBelt (axes_of s Axis.FeedBelt) ≡ true → s.going Axis.FeedBelt ≡ None → axes_of s Axis.FeedBelt ≡ rest Pose.Rest
+pub feed_rests : (s : Snapshot) → fits Axis.FeedBelt (axes_of s Axis.FeedBelt) ≡ true → s.going Axis.FeedBelt ≡ None → axes_of s Axis.FeedBelt ≡ rest Pose.Rest
 feed_rests s e f = grind (arith, pose_same)
 
-pub lights_lamp : (s : State) (b : Belt) (to : Colour) → MotionSafe (axes_of s) s.holder → LightsSafe (axes_of s) s.plate s.failed s.lamp → (l : Limits) → Passed (tests l (told_by s) (Entry.Lamp b to)) → LightsSafe (axes_of s) s.plate s.failed (with_at (same_belt b) to s.lamp)
+pub lights_lamp : (s : Snapshot) (b : Belt) (to : Colour) → MotionSafe (axes_of s) s.holder → LightsSafe (axes_of s) s.plate s.failed s.lamp → (l : BookLimits) → Passed (tests l (situation_in s) (Entry.Lamp b to)) → LightsSafe (axes_of s) s.plate s.failed (with_at (same_belt b) to s.lamp)
 lights_lamp s b to e f l g = grind (arith, pose_same)
 
 -- plates that come and go
@@ -52,10 +52,10 @@ deposit_without plate failed place k there n o =
     }
 
 -- an axis starts: FeedBelt does so with a plate
-feed_started : (s : State) (a : Axis) (to : Pose) → Passed (started_tests (told_by s) a to) → FeedLit (axes_of s) s.plate → FeedLit (begun (axes_of s) a to) s.plate
+feed_started : (s : Snapshot) (a : Axis) (to : Pose) → Passed (started_tests (situation_in s) a to) → FeedLit (axes_of s) s.plate → FeedLit (begun (axes_of s) a to) s.plate
 feed_started s a to e f = grind (arith, pose_same)
 
-pub lights_started : (s : State) (a : Axis) (to : Pose) → Passed (started_tests (told_by s) a to) → LightsSafe (axes_of s) s.plate s.failed s.lamp → LightsSafe (begun (axes_of s) a to) s.plate s.failed s.lamp
+pub lights_started : (s : Snapshot) (a : Axis) (to : Pose) → Passed (started_tests (situation_in s) a to) → LightsSafe (axes_of s) s.plate s.failed s.lamp → LightsSafe (begun (axes_of s) a to) s.plate s.failed s.lamp
 lights_started s a to h o = record { feed = λ g. feed_started s a to h (o.feed g); deposit = o.deposit }
 
 -- an axis comes to rest

@@ -11,8 +11,8 @@ use Rattle.cell_types.specs.declared.words.AxisState.{AxisState}
 use Rattle.cell_types.specs.Same.{same_machine, same_axis, same_pose, same_zone}
 use Rattle.cell_types.specs.Cell.{machine_of_axis, home, poses, owner, visitor, axis_of_arm, faced}
 use Rattle.plate_book.specs.Rules.First.{any_visited, parked_tests, outward_tests, arm_tests, press_tests, started_tests}
-use Rattle.cell_types.specs.After.{is_machine, State, with_at}
-use Rattle.plate_book.specs.Rules.ToldBy.{told_by}
+use Rattle.cell_types.specs.After.{is_machine, Snapshot, with_at}
+use Rattle.plate_book.specs.Rules.SituationIn.{situation_in}
 use Rattle.plate_book.proofs.Safe.Facts.{pose_same, and_both, and_true, Axes, axes_of, rest, going_to, Passed, resting, still, held}
 
 -- where an arm may stand out: the six rows of arm and turn pose
@@ -238,10 +238,10 @@ yield_feed : (ax : Axes) (h : Holders) (z : Zone) (w : Machine) → w ≢ Machin
 yield_feed ax h z w e f g = grind (arith, pose_same)
 
 -- the axes of a machine that gives a zone back stand
-parked_still : (s : State) (a : Axis) (z : Zone) → Passed (parked_tests (told_by s) (machine_of_axis a)) → runs_in a z ≡ true → s.going a ≡ None
+parked_still : (s : Snapshot) (a : Axis) (z : Zone) → Passed (parked_tests (situation_in s) (machine_of_axis a)) → runs_in a z ≡ true → s.going a ≡ None
 parked_still s a z e f = grind (arith, pose_same)
 
-yield_owned : (s : State) (z : Zone) (w : Machine) → Passed (parked_tests (told_by s) w) → s.holder z ≡ Some w → Owned (axes_of s) s.holder → Owned (axes_of s) (with_at (same_zone z) None s.holder)
+yield_owned : (s : Snapshot) (z : Zone) (w : Machine) → Passed (parked_tests (situation_in s) w) → s.holder z ≡ Some w → Owned (axes_of s) s.holder → Owned (axes_of s) (with_at (same_zone z) None s.holder)
 yield_owned x0 x1 x2 x3 x4 x5 x6 x7 x8 x9 x10 = grind (arith, pose_same)
 
 -- a machine that isn't at either end of the two rules
@@ -255,7 +255,7 @@ yield_owner ax h z w nr nf m e o =
       fitting = m.fitting;
     }
 
-pub motion_yielded : (s : State) (z : Zone) (w : Machine) → MotionSafe (axes_of s) s.holder → Passed (parked_tests (told_by s) w) → s.holder z ≡ Some w → MotionSafe (axes_of s) (with_at (same_zone z) None s.holder)
+pub motion_yielded : (s : Snapshot) (z : Zone) (w : Machine) → MotionSafe (axes_of s) s.holder → Passed (parked_tests (situation_in s) w) → s.holder z ≡ Some w → MotionSafe (axes_of s) (with_at (same_zone z) None s.holder)
 motion_yielded s z Machine.Feed m t e =
     record {
       owned = yield_owned s z Machine.Feed t e m.owned;
@@ -340,35 +340,35 @@ deposit_away : (ax : Axes) (h : Holders) → h Zone.Z5 ≡ Some Machine.Deposit 
 deposit_away ax h e x f = grind (arith, pose_same)
 
 -- the tests of a press say that it goes round, and that it holds its zone
-pub record PressStarts (s : State) (m : Machine) (a : Axis) (z : Zone) (to : Pose) : Type 0 where
+pub record PressStarts (s : Snapshot) (m : Machine) (a : Axis) (z : Zone) (to : Pose) : Type 0 where
   pub goes : press_goes (s.at a) to ≡ true
   pub zone : s.holder z ≡ Some m
   pub still : s.going a ≡ None
 
-press_starts_from : (s : State) (m : Machine) (a : Axis) (z : Zone) (from to : Pose) → press_goes from to ≡ true → axes_of s a ≡ rest from → s.holder z ≡ Some m → PressStarts s m a z to
+press_starts_from : (s : Snapshot) (m : Machine) (a : Axis) (z : Zone) (from to : Pose) → press_goes from to ≡ true → axes_of s a ≡ rest from → s.holder z ≡ Some m → PressStarts s m a z to
 unfolding is_machine
 press_starts_from s m a z from to e f g = grind (arith, pose_same)
 
-pub press_starts : (s : State) (m : Machine) (a : Axis) (z : Zone) (t : Station) (to : Pose) → Passed (press_tests (told_by s) m a z t to) → PressStarts s m a z to
+pub press_starts : (s : Snapshot) (m : Machine) (a : Axis) (z : Zone) (t : Station) (to : Pose) → Passed (press_tests (situation_in s) m a z t to) → PressStarts s m a z to
 unfolding is_machine
 press_starts s m a z t to e = grind (arith, pose_same)
 
 -- An arm goes out: where it stands, and that it is in.
-pub record GoesOut (s : State) (arm : Arm) : Type 0 where
+pub record GoesOut (s : Snapshot) (arm : Arm) : Type 0 where
   pub spot : Spot
   pub own : spot_arm spot ≡ arm
   pub faced : Facing (axes_of s) s.holder spot
   pub in_before : axes_of s (axis_of_arm arm) ≡ rest Pose.In
 
-out_row : (s : State) (arm : Arm) (p : Pose) → axes_of s Axis.RobotTurn ≡ rest p → Passed (outward_tests (told_by s) (axis_of_arm arm) (faced arm p)) → GoesOut s arm
+out_row : (s : Snapshot) (arm : Arm) (p : Pose) → axes_of s Axis.RobotTurn ≡ rest p → Passed (outward_tests (situation_in s) (axis_of_arm arm) (faced arm p)) → GoesOut s arm
 unfolding is_machine
 out_row s arm p e f = grind (arith, pose_same)
 
-goes_out_case : (s : State) (arm : Arm) (o : Option Pose) → s.going Axis.RobotTurn ≡ o → Passed (outward_tests (told_by s) (axis_of_arm arm) (if is_some o then None else faced arm (s.at Axis.RobotTurn))) → GoesOut s arm
+goes_out_case : (s : Snapshot) (arm : Arm) (o : Option Pose) → s.going Axis.RobotTurn ≡ o → Passed (outward_tests (situation_in s) (axis_of_arm arm) (if is_some o then None else faced arm (s.at Axis.RobotTurn))) → GoesOut s arm
 unfolding is_machine
 goes_out_case s arm o e f = grind (arith, pose_same)
 
-pub goes_out : (s : State) (arm : Arm) → Passed (arm_tests (told_by s) arm Pose.Out) → GoesOut s arm
+pub goes_out : (s : Snapshot) (arm : Arm) → Passed (arm_tests (situation_in s) arm Pose.Out) → GoesOut s arm
 goes_out s arm h = goes_out_case s arm (s.going Axis.RobotTurn) refl h
 
 -- An arm goes out, or in: then the other is in.
@@ -410,15 +410,15 @@ stands ax h arm e f = grind (arith, pose_same)
 pub not_in : (s : AxisState) (p : Pose) → s ≡ rest p → p ≢ Pose.In → s ≢ rest Pose.In
 not_in s p e n i = let a : p ≡ Pose.In = ap (λ (t : AxisState). t.at) (sym e ∙ i) in n a
 
-pub at_is : (s : State) (a : Axis) (p : Pose) → axes_of s a ≡ rest p → s.at a ≡ p
+pub at_is : (s : Snapshot) (a : Axis) (p : Pose) → axes_of s a ≡ rest p → s.at a ≡ p
 at_is s a p e = ap (λ (t : AxisState). t.at) e
 
 -- which motion of an arm the tests let through
-pub arm_may_go : (s : State) (arm : Arm) (to : Pose) → Passed (arm_tests (told_by s) arm to) → may_go (axis_of_arm arm) (axes_of s (axis_of_arm arm)).at to ≡ true
+pub arm_may_go : (s : Snapshot) (arm : Arm) (to : Pose) → Passed (arm_tests (situation_in s) arm to) → may_go (axis_of_arm arm) (axes_of s (axis_of_arm arm)).at to ≡ true
 unfolding is_machine
 arm_may_go s arm to e = grind (arith, pose_same)
 
-pub arm_stands : (s : State) (arm : Arm) (to : Pose) → ArmSafe (axes_of s) s.holder arm → Passed (arm_tests (told_by s) arm to) → Stands (axes_of s) s.holder arm
+pub arm_stands : (s : Snapshot) (arm : Arm) (to : Pose) → ArmSafe (axes_of s) s.holder arm → Passed (arm_tests (situation_in s) arm to) → Stands (axes_of s) s.holder arm
 unfolding is_machine
 arm_stands s arm to e f = grind (arith, pose_same)
 
@@ -426,7 +426,7 @@ arm_stands s arm to e f = grind (arith, pose_same)
 pub may_start : (g u v : Bool) → (g || (not u || v)) ≡ false → (u && not v) ≡ true
 may_start g u v e = grind (arith, pose_same)
 
-pub motion_started : (s : State) (a : Axis) (to : Pose) → MotionSafe (axes_of s) s.holder → Passed (started_tests (told_by s) a to) → MotionSafe (begun (axes_of s) a to) s.holder
+pub motion_started : (s : Snapshot) (a : Axis) (to : Pose) → MotionSafe (axes_of s) s.holder → Passed (started_tests (situation_in s) a to) → MotionSafe (begun (axes_of s) a to) s.holder
 motion_started s Axis.FeedBelt Pose.ToEnd m h =
     start_other (axes_of s) s.holder Axis.FeedBelt Pose.ToEnd m refl (λ x f. feed_away x) refl refl (λ z r. cc) (λ t. cc)
 motion_started s Axis.FeedBelt Pose.ToTable m h =
@@ -497,16 +497,16 @@ pub visited_not : (m : Machine) (o : Option Machine) (z : Zone) → (same_machin
 unfolding is_machine
 visited_not m o z e f g p = grind (arith, pose_same)
 
-facing_repaired : (s : State) (m : Machine) (x : Spot) → same_machine Machine.Robot m ≡ false → Passed (any_visited (told_by s) m) → Facing (axes_of s) s.holder x → Facing (homed (axes_of s) m) (freed s.holder m) x
+facing_repaired : (s : Snapshot) (m : Machine) (x : Spot) → same_machine Machine.Robot m ≡ false → Passed (any_visited (situation_in s) m) → Facing (axes_of s) s.holder x → Facing (homed (axes_of s) m) (freed s.holder m) x
 unfolding any_visited is_machine
 facing_repaired s m x e f g = grind (arith, pose_same)
 
-arm_repaired : (s : State) (m : Machine) (arm : Arm) → same_machine Machine.Robot m ≡ false → Passed (any_visited (told_by s) m) → ArmSafe (axes_of s) s.holder arm → ArmSafe (homed (axes_of s) m) (freed s.holder m) arm
+arm_repaired : (s : Snapshot) (m : Machine) (arm : Arm) → same_machine Machine.Robot m ≡ false → Passed (any_visited (situation_in s) m) → ArmSafe (axes_of s) s.holder arm → ArmSafe (homed (axes_of s) m) (freed s.holder m) arm
 arm_repaired s m Arm.Arm1 n h (inside e) = inside (rw n e)
 arm_repaired s m Arm.Arm2 n h (inside e) = inside (rw n e)
 arm_repaired s m arm n h (facing x e f) = facing x e (facing_repaired s m x n h f)
 
-waits_repaired : (s : State) (m : Machine) → same_machine Machine.Feed m ≡ false → same_machine Machine.Table m ≡ false → TableWaits (axes_of s) s.holder → TableWaits (homed (axes_of s) m) (freed s.holder m)
+waits_repaired : (s : Snapshot) (m : Machine) → same_machine Machine.Feed m ≡ false → same_machine Machine.Table m ≡ false → TableWaits (axes_of s) s.holder → TableWaits (homed (axes_of s) m) (freed s.holder m)
 unfolding is_machine
 waits_repaired s m e f g = grind (arith, pose_same)
 
@@ -517,7 +517,7 @@ homed_owned_case ax h m y q z b e f g = grind (arith, pose_same)
 homed_owned : (ax : Axes) (h : Holders) (m : Machine) → Owned ax h → Owned (homed ax m) (freed h m)
 homed_owned ax h m o y q z g r = homed_owned_case ax h m y q z (same_machine (machine_of_axis y) m) refl (λ d. o y q z d r) g
 
-repaired_with : (s : State) (m : Machine) → MotionSafe (axes_of s) s.holder → Passed (any_visited (told_by s) m) → same_machine Machine.Robot m ≡ false → ((homed (axes_of s) m Axis.FeedBelt).going ≡ Some Pose.ToTable → TableWaits (homed (axes_of s) m) (freed s.holder m)) → MotionSafe (homed (axes_of s) m) (freed s.holder m)
+repaired_with : (s : Snapshot) (m : Machine) → MotionSafe (axes_of s) s.holder → Passed (any_visited (situation_in s) m) → same_machine Machine.Robot m ≡ false → ((homed (axes_of s) m Axis.FeedBelt).going ≡ Some Pose.ToTable → TableWaits (homed (axes_of s) m) (freed s.holder m)) → MotionSafe (homed (axes_of s) m) (freed s.holder m)
 repaired_with s m v h n feed =
     record {
       owned = homed_owned (axes_of s) s.holder m v.owned;
@@ -527,7 +527,7 @@ repaired_with s m v h n feed =
       fitting = λ a. homed_fits a ((axes_of s) a) (same_machine (machine_of_axis a) m) (v.fitting a);
     }
 
-pub motion_repaired : (s : State) (m : Machine) → MotionSafe (axes_of s) s.holder → Passed (any_visited (told_by s) m) → MotionSafe (homed (axes_of s) m) (freed s.holder m)
+pub motion_repaired : (s : Snapshot) (m : Machine) → MotionSafe (axes_of s) s.holder → Passed (any_visited (situation_in s) m) → MotionSafe (homed (axes_of s) m) (freed s.holder m)
 unfolding any_visited
 motion_repaired s Machine.Feed v h = repaired_with s Machine.Feed v h refl (λ t. cc)
 motion_repaired s Machine.Table v h =

@@ -8,8 +8,8 @@ use Rattle.cell_types.specs.declared.words.Place.{Place}
 use Rattle.cell_types.specs.Same.{same_machine, same_station, same_axis, same_pose, station_number}
 use Rattle.cell_types.specs.Cell.{machine_of_axis, machine_of_station, home}
 use Rattle.plate_book.specs.Rules.First.{any_still_there, started_tests, ends_by_arrival}
-use Rattle.cell_types.specs.After.{State, with_at, is_plate, without, with_plate}
-use Rattle.plate_book.specs.Rules.ToldBy.{told_by}
+use Rattle.cell_types.specs.After.{Snapshot, with_at, is_plate, without, with_plate}
+use Rattle.plate_book.specs.Rules.SituationIn.{situation_in}
 use Rattle.std.specs.Prelude.{unwrap_or}
 use Rattle.std.proofs.lemmas.Bool.{cases_eq}
 use Rattle.cell_views.specs.Last.{when}
@@ -191,7 +191,7 @@ plates_begun ax a to plate place marks n o w =
     (λ y q t g e. begun_clear ax plate a y to q t (same_axis a y) refl (w t) (λ d. o.clear y q t d e) g e)
 
 -- where a motion ends is empty when it starts
-pub start_clear : (s : State) (a : Axis) (to : Pose) (t : Station) → Passed (started_tests (told_by s) a to) → ends a to ≡ Some t → s.plate t ≡ None
+pub start_clear : (s : Snapshot) (a : Axis) (to : Pose) (t : Station) → Passed (started_tests (situation_in s) a to) → ends a to ≡ Some t → s.plate t ≡ None
 start_clear s a to t e f = grind (arith, pose_same)
 
 -- an axis comes to rest
@@ -224,10 +224,10 @@ plates_homed ax m plate place marks n o f =
     (λ y q t g e. homed_clear ax plate y q t (same_machine (machine_of_axis y) m) (λ d. o.clear y q t d e) g)
 
 -- what the tests say of the stations of a machine
-still_case : (s : State) (t : Station) (b : Bool) → (b && is_some (s.plate t)) ≡ false → b ≡ true → s.plate t ≡ None
+still_case : (s : Snapshot) (t : Station) (b : Bool) → (b && is_some (s.plate t)) ≡ false → b ≡ true → s.plate t ≡ None
 still_case s t b e f = grind (arith, pose_same)
 
-pub emptied : (s : State) (m : Machine) → Passed (any_still_there (told_by s) m) → (t : Station) → same_machine (machine_of_station t) m ≡ true → s.plate t ≡ None
+pub emptied : (s : Snapshot) (m : Machine) → Passed (any_still_there (situation_in s) m) → (t : Station) → same_machine (machine_of_station t) m ≡ true → s.plate t ≡ None
 unfolding any_still_there
 emptied s m e t f = grind (arith, pose_same)
 

@@ -12,10 +12,10 @@ use Rattle.cell_types.specs.declared.words.AxisState.{AxisState}
 use Rattle.cell_types.specs.declared.words.Entry.{Entry}
 use Rattle.cell_types.specs.Same.{same_pose, pose_number}
 use Rattle.cell_types.specs.Cell.{machine_of_station, poses, axis_of_arm, Faced, faced}
-use Rattle.plate_book.specs.declared.limits.Limits.{Limits}
+use Rattle.plate_book.specs.declared.limits.BookLimits.{BookLimits}
 use Rattle.plate_book.specs.Rules.First.{any_visited, station_empty, other_plate_at, arm_tests, started_tests, tests}
-use Rattle.cell_types.specs.After.{is_machine, State, after}
-use Rattle.plate_book.specs.Rules.ToldBy.{told_by}
+use Rattle.cell_types.specs.After.{is_machine, Snapshot, after}
+use Rattle.plate_book.specs.Rules.SituationIn.{situation_in}
 use Rattle.std.specs.List.{Contains}
 use Rattle.std.proofs.Common.{subst}
 use Rattle.cell_views.specs.Views.{Placing, placing, place_of, source, at_of}
@@ -28,13 +28,13 @@ use Rattle.plate_book.proofs.Safe.Step.{Inv, hands, green}
 use Rattle.plate_book.proofs.Safe.Bridge.{Good, Agrees, good_passed, good_prefix, marks_of}
 
 -- from the state to what is told
-pub rests_at_from : (P : List Entry) (s : State) (a : Axis) (p : Pose) → Agrees P s → axes_of s a ≡ rest p → RestsAt P a p
+pub rests_at_from : (P : List Entry) (s : Snapshot) (a : Axis) (p : Pose) → Agrees P s → axes_of s a ≡ rest p → RestsAt P a p
 rests_at_from P s a p e f = grind (arith, pose_same)
 
-pub rests_from : (P : List Entry) (s : State) (a : Axis) (p : Pose) → Agrees P s → axes_of s a ≡ rest p → Rests P a
+pub rests_from : (P : List Entry) (s : Snapshot) (a : Axis) (p : Pose) → Agrees P s → axes_of s a ≡ rest p → Rests P a
 rests_from P s a p g e = g.going a ∙ ap (λ (t : AxisState). t.going) e
 
-empty_from : (P : List Entry) (s : State) (t : Station) → Inv s (place_of P) (marks_of P) → s.plate t ≡ None → IsEmpty P t
+empty_from : (P : List Entry) (s : Snapshot) (t : Station) → Inv s (place_of P) (marks_of P) → s.plate t ≡ None → IsEmpty P t
 empty_from P s t v e k d = let f = v.plates.here t k d in cc
 
 -- an arm that is inside stands at a spot
@@ -42,38 +42,38 @@ abbrev pub owner_told : Option Faced → Machine
 owner_told None = Machine.Feed
 owner_told (Some f) = f.owner
 
-pub record Within (s : State) (m : Machine) : Type 0 where
+pub record Within (s : Snapshot) (m : Machine) : Type 0 where
   pub spot : Spot
   pub owned : owner_told (faced (spot_arm spot) (spot_pose spot)) ≡ m
   pub faced_there : Facing (axes_of s) s.holder spot
 
-within_arm : (P : List Entry) (s : State) (m : Machine) (x : Arm) → Agrees P s → ArmSafe (axes_of s) s.holder x → IsInside P m x → Within s m
+within_arm : (P : List Entry) (s : Snapshot) (m : Machine) (x : Arm) → Agrees P s → ArmSafe (axes_of s) s.holder x → IsInside P m x → Within s m
 within_arm P s m x e f g = grind (arith, pose_same)
 
-pub arm_safe : (s : State) (x : Arm) → MotionSafe (axes_of s) s.holder → ArmSafe (axes_of s) s.holder x
+pub arm_safe : (s : Snapshot) (x : Arm) → MotionSafe (axes_of s) s.holder → ArmSafe (axes_of s) s.holder x
 arm_safe s Arm.Arm1 m = m.arm_one
 arm_safe s Arm.Arm2 m = m.arm_two
 
-within : (P : List Entry) (s : State) (m : Machine) (x : Arm) → Agrees P s → MotionSafe (axes_of s) s.holder → IsInside P m x → Within s m
+within : (P : List Entry) (s : Snapshot) (m : Machine) (x : Arm) → Agrees P s → MotionSafe (axes_of s) s.holder → IsInside P m x → Within s m
 within P s m x g v i = within_arm P s m x g (arm_safe s x v) i
 
 -- which axes rest there
-press_one_rests : (s : State) (y : Spot) → owner_told (faced (spot_arm y) (spot_pose y)) ≡ Machine.Press1 → Facing (axes_of s) s.holder y → s.going Axis.PressOne ≡ None
+press_one_rests : (s : Snapshot) (y : Spot) → owner_told (faced (spot_arm y) (spot_pose y)) ≡ Machine.Press1 → Facing (axes_of s) s.holder y → s.going Axis.PressOne ≡ None
 press_one_rests s y e f = grind (arith, pose_same)
 
-press_two_rests : (s : State) (y : Spot) → owner_told (faced (spot_arm y) (spot_pose y)) ≡ Machine.Press2 → Facing (axes_of s) s.holder y → s.going Axis.PressTwo ≡ None
+press_two_rests : (s : Snapshot) (y : Spot) → owner_told (faced (spot_arm y) (spot_pose y)) ≡ Machine.Press2 → Facing (axes_of s) s.holder y → s.going Axis.PressTwo ≡ None
 press_two_rests s y e f = grind (arith, pose_same)
 
-lift_rests : (s : State) (y : Spot) → owner_told (faced (spot_arm y) (spot_pose y)) ≡ Machine.Table → Facing (axes_of s) s.holder y → s.going Axis.TableLift ≡ None
+lift_rests : (s : Snapshot) (y : Spot) → owner_told (faced (spot_arm y) (spot_pose y)) ≡ Machine.Table → Facing (axes_of s) s.holder y → s.going Axis.TableLift ≡ None
 lift_rests s y e f = grind (arith, pose_same)
 
-table_turn_rests : (s : State) (y : Spot) → owner_told (faced (spot_arm y) (spot_pose y)) ≡ Machine.Table → Facing (axes_of s) s.holder y → s.going Axis.TableTurn ≡ None
+table_turn_rests : (s : Snapshot) (y : Spot) → owner_told (faced (spot_arm y) (spot_pose y)) ≡ Machine.Table → Facing (axes_of s) s.holder y → s.going Axis.TableTurn ≡ None
 table_turn_rests s y e f = grind (arith, pose_same)
 
-deposit_rests : (s : State) (y : Spot) → owner_told (faced (spot_arm y) (spot_pose y)) ≡ Machine.Deposit → Facing (axes_of s) s.holder y → s.going Axis.DepositBelt ≡ None
+deposit_rests : (s : Snapshot) (y : Spot) → owner_told (faced (spot_arm y) (spot_pose y)) ≡ Machine.Deposit → Facing (axes_of s) s.holder y → s.going Axis.DepositBelt ≡ None
 deposit_rests s y e f = grind (arith, pose_same)
 
-arm_in : (s : State) (x : Arm) (p : Pose) → ArmSafe (axes_of s) s.holder x → s.going Axis.RobotTurn ≡ Some p → axes_of s (axis_of_arm x) ≡ rest Pose.In
+arm_in : (s : Snapshot) (x : Arm) (p : Pose) → ArmSafe (axes_of s) s.holder x → s.going Axis.RobotTurn ≡ Some p → axes_of s (axis_of_arm x) ≡ rest Pose.In
 arm_in s x p e f = grind (arith, pose_same)
 
 -- plates
@@ -128,7 +128,7 @@ goes_told None = Place.Nowhere
 goes_told (Some p) = p.goes
 
 -- where the plate comes from
-source_is : (l : Limits) (P : List Entry) (e : Entry) → Good P → Passed (tests l (told_by (after P)) e) → (p : Placing) → placing e ≡ Some p → place_of P (plate_told (placing e)) ≡ source e
+source_is : (l : BookLimits) (P : List Entry) (e : Entry) → Good P → Passed (tests l (situation_in (after P)) e) → (p : Placing) → placing e ≡ Some p → place_of P (plate_told (placing e)) ≡ source e
 source_is l P (Entry.Admitted k) w h p i =
     let e : k ≡ (after P).admitted + 1 = eqb-true k ((after P).admitted + 1) (not_false (k == (after P).admitted + 1) h.1.1.1.0) in
     w.safe.plates.outside k (inr (omega arith))
@@ -156,13 +156,13 @@ source_is l P (Entry.Delivered k) w h p i =
     w.safe.plates.there Station.DepEnd k (no_other s Station.DepEnd lit.plate_there k lit.there h.1.1.0)
 source_is l P (Entry.Quarantined k src) w h p i =
     let s = after P in
-    let t = passed_last (any_visited (told_by s) (machine_of_station src)) (station_empty (told_by s) src ∷ other_plate_at (told_by s) src k ∷ []) h.1.1 in
+    let t = passed_last (any_visited (situation_in s) (machine_of_station src)) (station_empty (situation_in s) src ∷ other_plate_at (situation_in s) src k ∷ []) h.1.1 in
     let o = occupied s src t.0 in
     w.safe.plates.there src k (no_other s src o.0 k o.1 t.1.0)
 source_is l P _ w h p i = cc
 
 -- no plate comes to a press but by a drop, and to no failed one
-press_is : (l : Limits) (P : List Entry) (e : Entry) → Good P → Passed (tests l (told_by (after P)) e) → (p : Placing) → placing e ≡ Some p → IsPressDrop P e (goes_told (placing e))
+press_is : (l : BookLimits) (P : List Entry) (e : Entry) → Good P → Passed (tests l (situation_in (after P)) e) → (p : Placing) → placing e ≡ Some p → IsPressDrop P e (goes_told (placing e))
 press_is l P (Entry.Admitted k) w h p i = tt
 press_is l P (Entry.Conveyed Axis.FeedBelt k Station.FeedEnd) w h p i = tt
 press_is l P (Entry.Conveyed Axis.FeedBelt k Station.Table) w h p i = tt
@@ -181,30 +181,30 @@ press_is l P (Entry.Quarantined k src) w h p i = tt
 press_is l P _ w h p i = cc
 
 -- where an arm drops
-drop_is : (l : Limits) (P : List Entry) (x : Arm) (k : ℕ) (dest : Station) → Good P → Passed (tests l (told_by (after P)) (Entry.Dropped x k dest)) → IsSafeDrop P dest
+drop_is : (l : BookLimits) (P : List Entry) (x : Arm) (k : ℕ) (dest : Station) → Good P → Passed (tests l (situation_in (after P)) (Entry.Dropped x k dest)) → IsSafeDrop P dest
 drop_is l P x k dest e f = grind (arith, pose_same)
 
 -- a motion begins at rest, to another pose
-moving_is : (P : List Entry) (s : State) (a : Axis) (to : Pose) → Agrees P s → (has_pose a to && not (same_pose (s.at a) to)) ≡ true → Contains (poses a) to × (to ≢ at_of P a)
+moving_is : (P : List Entry) (s : Snapshot) (a : Axis) (to : Pose) → Agrees P s → (has_pose a to && not (same_pose (s.at a) to)) ≡ true → Contains (poses a) to × (to ≢ at_of P a)
 moving_is P s a to g h =
     let b = and_both (has_pose a to) (not (same_pose (s.at a) to)) h in
     (any_contains to (poses a) b.0, λ d. let e : to ≡ s.at a = d ∙ g.at a in let f = eq-eqb (pose_number (s.at a)) (pose_number to) (ap pose_number (sym e)) in cc)
 
-arm_pose : (P : List Entry) (s : State) (a : Axis) (p to : Pose) → Agrees P s → axes_of s a ≡ rest p → same_pose p to ≡ false → to ≢ at_of P a
+arm_pose : (P : List Entry) (s : Snapshot) (a : Axis) (p to : Pose) → Agrees P s → axes_of s a ≡ rest p → same_pose p to ≡ false → to ≢ at_of P a
 arm_pose x0 x1 x2 x3 x4 x5 x6 x7 x8 = grind (arith, pose_same)
 
-one_moves : (P : List Entry) (s : State) (to : Pose) → Agrees P s → Passed (arm_tests (told_by s) Arm.Arm1 to) → Rests P Axis.ArmOne × (Contains (poses Axis.ArmOne) to × (to ≢ at_of P Axis.ArmOne))
+one_moves : (P : List Entry) (s : Snapshot) (to : Pose) → Agrees P s → Passed (arm_tests (situation_in s) Arm.Arm1 to) → Rests P Axis.ArmOne × (Contains (poses Axis.ArmOne) to × (to ≢ at_of P Axis.ArmOne))
 unfolding is_machine
 one_moves P s to e f = grind (arith, pose_same)
 
-two_moves : (P : List Entry) (s : State) (to : Pose) → Agrees P s → Passed (arm_tests (told_by s) Arm.Arm2 to) → Rests P Axis.ArmTwo × (Contains (poses Axis.ArmTwo) to × (to ≢ at_of P Axis.ArmTwo))
+two_moves : (P : List Entry) (s : Snapshot) (to : Pose) → Agrees P s → Passed (arm_tests (situation_in s) Arm.Arm2 to) → Rests P Axis.ArmTwo × (Contains (poses Axis.ArmTwo) to × (to ≢ at_of P Axis.ArmTwo))
 unfolding is_machine
 two_moves P s to e f = grind (arith, pose_same)
 
-full_told : (P : List Entry) (s : State) (t : Station) → Inv s (place_of P) (marks_of P) → not (is_some (s.plate t)) ≡ false → IsOccupied P t
+full_told : (P : List Entry) (s : Snapshot) (t : Station) → Inv s (place_of P) (marks_of P) → not (is_some (s.plate t)) ≡ false → IsOccupied P t
 full_told P s t v h = let o = occupied s t h in (o.0, v.plates.there t o.0 o.1)
 
-started_is : (P : List Entry) (a : Axis) (to : Pose) → Good P → Passed (started_tests (told_by (after P)) a to) → Rests P a × IsSafeMove P a to
+started_is : (P : List Entry) (a : Axis) (to : Pose) → Good P → Passed (started_tests (situation_in (after P)) a to) → Rests P a × IsSafeMove P a to
 started_is P Axis.FeedBelt Pose.ToEnd w h = (w.agrees.going Axis.FeedBelt ∙ still (after P) Axis.FeedBelt h.0, tt)
 started_is P Axis.FeedBelt Pose.ToTable w h = (w.agrees.going Axis.FeedBelt ∙ still (after P) Axis.FeedBelt h.1.0, tt)
 started_is P Axis.FeedBelt _ w h = let e = h.0 in (cc, cc)
@@ -237,7 +237,7 @@ started_is P Axis.PressTwo _ w h = let e = h.0 in (cc, cc)
 started_is P Axis.DepositBelt Pose.ToEnd w h = (w.agrees.going Axis.DepositBelt ∙ still (after P) Axis.DepositBelt h.0, tt)
 started_is P Axis.DepositBelt _ w h = let e = h.0 in (cc, cc)
 
-kind_is : (l : Limits) (P : List Entry) (e : Entry) → Good P → Passed (tests l (told_by (after P)) e) → SafeKind P e
+kind_is : (l : BookLimits) (P : List Entry) (e : Entry) → Good P → Passed (tests l (situation_in (after P)) e) → SafeKind P e
 kind_is l P (Entry.Dropped x k dest) w h = drop_is l P x k dest w h
 kind_is l P (Entry.Admitted k) w h =
     let s = after P in
@@ -247,7 +247,7 @@ kind_is l P (Entry.Admitted k) w h =
 kind_is l P (Entry.Started a to) w h = started_is P a to w h.1.1
 kind_is l P _ w h = tt
 
-pub safe_entry : (l : Limits) (P : List Entry) (e : Entry) → Good P → allowed l P e ≡ true → SafeEntry P e
+pub safe_entry : (l : BookLimits) (P : List Entry) (e : Entry) → Good P → allowed l P e ≡ true → SafeEntry P e
 safe_entry l P e w a =
     let h = good_passed l P e w a in
     record {
@@ -257,7 +257,7 @@ safe_entry l P e w a =
     }
 
 -- The law.
-pub safe_when_legal : (l : Limits) (J : List Entry) → legal l J ≡ true → IsSafe J
+pub safe_when_legal : (l : BookLimits) (J : List Entry) → legal l J ≡ true → IsSafe J
 safe_when_legal l J h =
     record {
       states = λ P R e. safe_state P (good_prefix l P R (rw e h)).good;

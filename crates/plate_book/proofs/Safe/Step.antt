@@ -13,10 +13,10 @@ use Rattle.cell_types.specs.declared.words.AxisState.{AxisState}
 use Rattle.cell_types.specs.declared.words.Entry.{Entry}
 use Rattle.cell_types.specs.Same.{same_machine, same_station, same_axis, same_colour}
 use Rattle.cell_types.specs.Cell.{machine_of_axis, machine_of_station, home, axis_of_arm, station_of_arm, faced}
-use Rattle.plate_book.specs.declared.limits.Limits.{Limits}
+use Rattle.plate_book.specs.declared.limits.BookLimits.{BookLimits}
 use Rattle.plate_book.specs.Rules.First.{is_pose, is_faced, not_holder, any_visited, any_still_there, parked_tests, ends_by_arrival, handing_tests, station_empty, other_plate_at, tests}
-use Rattle.cell_types.specs.After.{State, with_at, with_plate, step}
-use Rattle.plate_book.specs.Rules.ToldBy.{told_by}
+use Rattle.cell_types.specs.After.{Snapshot, with_at, with_plate, step}
+use Rattle.plate_book.specs.Rules.SituationIn.{situation_in}
 use Rattle.std.specs.Prelude.{unwrap_or}
 use Rattle.std.proofs.Common.{subst}
 use Rattle.cell_views.specs.Views.{puts}
@@ -31,7 +31,7 @@ pub record Safe (ax : Axes) (holder : Holders) (plate : Station → Option ℕ) 
   pub plates : PlatesSafe ax plate place marks n
   pub lights : LightsSafe ax plate failed lamp
 
-abbrev pub Inv : State → (ℕ → Place) → (ℕ → ℕ) → Type 0
+abbrev pub Inv : Snapshot → (ℕ → Place) → (ℕ → ℕ) → Type 0
 Inv s place marks = Safe (axes_of s) s.holder s.plate place marks s.admitted s.failed s.lamp
 
 -- where plates are, and how often they were forged, after an entry
@@ -42,48 +42,48 @@ abbrev pub then_marks : Entry → (ℕ → ℕ) → ℕ → ℕ
 then_marks e marks k = if is_forged_as k e then marks k + 1 else marks k
 
 -- the axes after an entry
-started_at : (s : State) (a y : Axis) (to : Pose) (b : Bool) → same_axis a y ≡ b → (let r : AxisState = record { at = s.at y; going = cond b (Some to) (s.going y) } in r) ≡ cond b (going_to (s.at a) to) (axes_of s y)
+started_at : (s : Snapshot) (a y : Axis) (to : Pose) (b : Bool) → same_axis a y ≡ b → (let r : AxisState = record { at = s.at y; going = cond b (Some to) (s.going y) } in r) ≡ cond b (going_to (s.at a) to) (axes_of s y)
 started_at s a y to b e = grind (arith, pose_same)
 
-pub axes_started : (s : State) (a : Axis) (to : Pose) → axes_of (step (Entry.Started a to) s) ≡ begun (axes_of s) a to
+pub axes_started : (s : Snapshot) (a : Axis) (to : Pose) → axes_of (step (Entry.Started a to) s) ≡ begun (axes_of s) a to
 axes_started s a to = λ i y. started_at s a y to (same_axis a y) refl i
 
-rested_at : (s : State) (y : Axis) (p : Pose) (b : Bool) → (let r : AxisState = record { at = cond b p (s.at y); going = cond b None (s.going y) } in r) ≡ cond b (rest p) (axes_of s y)
+rested_at : (s : Snapshot) (y : Axis) (p : Pose) (b : Bool) → (let r : AxisState = record { at = cond b p (s.at y); going = cond b None (s.going y) } in r) ≡ cond b (rest p) (axes_of s y)
 rested_at s y p b = grind (arith, pose_same)
 
-pub axes_arrived : (s : State) (a : Axis) (p : Pose) → axes_of (step (Entry.Arrived a p) s) ≡ with_at (same_axis a) (rest p) (axes_of s)
+pub axes_arrived : (s : Snapshot) (a : Axis) (p : Pose) → axes_of (step (Entry.Arrived a p) s) ≡ with_at (same_axis a) (rest p) (axes_of s)
 axes_arrived s a p = λ i y. rested_at s y p (same_axis a y) i
 
-pub axes_conveyed : (s : State) (a : Axis) (k : ℕ) (dest : Station) → axes_of (step (Entry.Conveyed a k dest) s) ≡ with_at (same_axis a) (rest Pose.Rest) (axes_of s)
+pub axes_conveyed : (s : Snapshot) (a : Axis) (k : ℕ) (dest : Station) → axes_of (step (Entry.Conveyed a k dest) s) ≡ with_at (same_axis a) (rest Pose.Rest) (axes_of s)
 axes_conveyed s a k dest = λ i y. rested_at s y Pose.Rest (same_axis a y) i
 
-pub axes_forged_one : (s : State) (k : ℕ) → axes_of (step (Entry.Forged Machine.Press1 k) s) ≡ with_at (same_axis Axis.PressOne) (rest Pose.Top) (axes_of s)
+pub axes_forged_one : (s : Snapshot) (k : ℕ) → axes_of (step (Entry.Forged Machine.Press1 k) s) ≡ with_at (same_axis Axis.PressOne) (rest Pose.Top) (axes_of s)
 axes_forged_one s k = λ i y. rested_at s y Pose.Top (same_axis Axis.PressOne y) i
 
-pub axes_forged_two : (s : State) (k : ℕ) → axes_of (step (Entry.Forged Machine.Press2 k) s) ≡ with_at (same_axis Axis.PressTwo) (rest Pose.Top) (axes_of s)
+pub axes_forged_two : (s : Snapshot) (k : ℕ) → axes_of (step (Entry.Forged Machine.Press2 k) s) ≡ with_at (same_axis Axis.PressTwo) (rest Pose.Top) (axes_of s)
 axes_forged_two s k = λ i y. rested_at s y Pose.Top (same_axis Axis.PressTwo y) i
 
-homed_at : (s : State) (y : Axis) (b : Bool) → (let r : AxisState = record { at = cond b (home y) (s.at y); going = cond b None (s.going y) } in r) ≡ cond b (rest (home y)) (axes_of s y)
+homed_at : (s : Snapshot) (y : Axis) (b : Bool) → (let r : AxisState = record { at = cond b (home y) (s.at y); going = cond b None (s.going y) } in r) ≡ cond b (rest (home y)) (axes_of s y)
 homed_at s y b = grind (arith, pose_same)
 
-pub axes_repaired : (s : State) (m : Machine) → axes_of (step (Entry.Repaired m) s) ≡ homed (axes_of s) m
+pub axes_repaired : (s : Snapshot) (m : Machine) → axes_of (step (Entry.Repaired m) s) ≡ homed (axes_of s) m
 axes_repaired s m = λ i y. homed_at s y (same_machine (machine_of_axis y) m) i
 
 -- the invariant over other axes
-abbrev SafeWith : State → (ℕ → Place) → (ℕ → ℕ) → Axes → Type 0
+abbrev SafeWith : Snapshot → (ℕ → Place) → (ℕ → ℕ) → Axes → Type 0
 SafeWith t place marks ax = Safe ax t.holder t.plate place marks t.admitted t.failed t.lamp
 
-with_axes : (t : State) (place : ℕ → Place) (marks : ℕ → ℕ) (ax : Axes) → axes_of t ≡ ax → SafeWith t place marks ax → Inv t place marks
+with_axes : (t : Snapshot) (place : ℕ → Place) (marks : ℕ → ℕ) (ax : Axes) → axes_of t ≡ ax → SafeWith t place marks ax → Inv t place marks
 with_axes t place marks ax e h = subst (λ (x : Axes). SafeWith t place marks x) (sym e) h
 
-step_lamp : (l : Limits) (s : State) (place : ℕ → Place) (marks : ℕ → ℕ) (b : Belt) (to : Colour) → Inv s place marks → Passed (tests l (told_by s) (Entry.Lamp b to)) → Inv (step (Entry.Lamp b to) s) place marks
+step_lamp : (l : BookLimits) (s : Snapshot) (place : ℕ → Place) (marks : ℕ → ℕ) (b : Belt) (to : Colour) → Inv s place marks → Passed (tests l (situation_in s) (Entry.Lamp b to)) → Inv (step (Entry.Lamp b to) s) place marks
 step_lamp l s place marks b to e f = grind (arith, pose_same)
 
 pub green : (c : Colour) → same_colour c Colour.Red ≡ false → c ≡ Colour.Green
 green c e = grind (arith, pose_same)
 
 -- a plate that is nowhere is a new one
-step_admitted : (l : Limits) (s : State) (place : ℕ → Place) (marks : ℕ → ℕ) (k : ℕ) → Inv s place marks → Passed (tests l (told_by s) (Entry.Admitted k)) → Inv (step (Entry.Admitted k) s) (placed_at k (Place.At Station.FeedIn) place) marks
+step_admitted : (l : BookLimits) (s : Snapshot) (place : ℕ → Place) (marks : ℕ → ℕ) (k : ℕ) → Inv s place marks → Passed (tests l (situation_in s) (Entry.Admitted k)) → Inv (step (Entry.Admitted k) s) (placed_at k (Place.At Station.FeedIn) place) marks
 step_admitted l s place marks k v h =
     let e : k ≡ s.admitted + 1 = eqb-true k (s.admitted + 1) (not_false (k == s.admitted + 1) h.1.1.1.0) in
     let g : s.lamp Belt.Feed ≡ Colour.Green = green (s.lamp Belt.Feed) h.1.1.1.1.0 in
@@ -100,21 +100,21 @@ step_admitted l s place marks k v h =
       };
     }
 
-step_claimed : (l : Limits) (s : State) (place : ℕ → Place) (marks : ℕ → ℕ) (m : Machine) (z : Zone) → Inv s place marks → Passed (tests l (told_by s) (Entry.Claimed m z)) → Inv (step (Entry.Claimed m z) s) place marks
+step_claimed : (l : BookLimits) (s : Snapshot) (place : ℕ → Place) (marks : ℕ → ℕ) (m : Machine) (z : Zone) → Inv s place marks → Passed (tests l (situation_in s) (Entry.Claimed m z)) → Inv (step (Entry.Claimed m z) s) place marks
 step_claimed l s place marks m z v h =
     record { motion = motion_claimed (axes_of s) s.holder z (Some m) v.motion (not_some_tells (s.holder z) h.1.1.1.0); plates = v.plates; lights = v.lights }
 
-step_yielded : (l : Limits) (s : State) (place : ℕ → Place) (marks : ℕ → ℕ) (m : Machine) (z : Zone) → Inv s place marks → Passed (tests l (told_by s) (Entry.Yielded m z)) → Inv (step (Entry.Yielded m z) s) place marks
+step_yielded : (l : BookLimits) (s : Snapshot) (place : ℕ → Place) (marks : ℕ → ℕ) (m : Machine) (z : Zone) → Inv s place marks → Passed (tests l (situation_in s) (Entry.Yielded m z)) → Inv (step (Entry.Yielded m z) s) place marks
 step_yielded l s place marks m z v h =
-    let parked = passed_first (parked_tests (told_by s) m) (not_holder (told_by s) m z ∷ []) h.1.1 in
-    let holds = passed_last (parked_tests (told_by s) m) (not_holder (told_by s) m z ∷ []) h.1.1 in
+    let parked = passed_first (parked_tests (situation_in s) m) (not_holder (situation_in s) m z ∷ []) h.1.1 in
+    let holds = passed_last (parked_tests (situation_in s) m) (not_holder (situation_in s) m z ∷ []) h.1.1 in
     record {
       motion = motion_yielded s z m v.motion parked (held s m z holds.0);
       plates = v.plates;
       lights = v.lights;
     }
 
-step_started : (l : Limits) (s : State) (place : ℕ → Place) (marks : ℕ → ℕ) (a : Axis) (to : Pose) → Inv s place marks → Passed (tests l (told_by s) (Entry.Started a to)) → Inv (step (Entry.Started a to) s) place marks
+step_started : (l : BookLimits) (s : Snapshot) (place : ℕ → Place) (marks : ℕ → ℕ) (a : Axis) (to : Pose) → Inv s place marks → Passed (tests l (situation_in s) (Entry.Started a to)) → Inv (step (Entry.Started a to) s) place marks
 step_started l s place marks a to v h =
     with_axes (step (Entry.Started a to) s) place marks (begun (axes_of s) a to) (axes_started s a to)
     (record {
@@ -124,13 +124,13 @@ step_started l s place marks a to v h =
     })
 
 -- what an axis does that is going
-going_fits : (s : State) (a : Axis) (p : Pose) → fits a (axes_of s a) ≡ true → s.going a ≡ Some p → may_go a (s.at a) p ≡ true
+going_fits : (s : Snapshot) (a : Axis) (p : Pose) → fits a (axes_of s a) ≡ true → s.going a ≡ Some p → may_go a (s.at a) p ≡ true
 going_fits s a p e f = grind (arith, pose_same)
 
 arrival_pose : (a : Axis) (q p : Pose) → ends_by_arrival a p ≡ true → may_go a q p ≡ true → has_pose a p ≡ true
 arrival_pose a q p e f = grind (arith, pose_same)
 
-step_arrived : (l : Limits) (s : State) (place : ℕ → Place) (marks : ℕ → ℕ) (a : Axis) (p : Pose) → Inv s place marks → Passed (tests l (told_by s) (Entry.Arrived a p)) → Inv (step (Entry.Arrived a p) s) place marks
+step_arrived : (l : BookLimits) (s : Snapshot) (place : ℕ → Place) (marks : ℕ → ℕ) (a : Axis) (p : Pose) → Inv s place marks → Passed (tests l (situation_in s) (Entry.Arrived a p)) → Inv (step (Entry.Arrived a p) s) place marks
 step_arrived l s place marks a p v h =
     let t = and_both (is_pose p (s.going a)) (ends_by_arrival a p) (not_false (is_pose p (s.going a) && ends_by_arrival a p) h.1.1.0) in
     let g = is_pose_tells p (s.going a) t.0 in
@@ -144,7 +144,7 @@ step_arrived l s place marks a p v h =
     })
 
 -- A plate moves between two stations where no motion ends.
-moves : (s : State) (place : ℕ → Place) (marks : ℕ → ℕ) (k : ℕ) (src dest : Station) → Inv s place marks → s.plate src ≡ Some k → s.plate dest ≡ None → stage (axes_of s) src ≡ stage (axes_of s) dest → (Ending (axes_of s) dest → ⊥) → PlatesSafe (axes_of s) (with_plate k dest s.plate) (placed_at k (Place.At dest) place) marks s.admitted
+moves : (s : Snapshot) (place : ℕ → Place) (marks : ℕ → ℕ) (k : ℕ) (src dest : Station) → Inv s place marks → s.plate src ≡ Some k → s.plate dest ≡ None → stage (axes_of s) src ≡ stage (axes_of s) dest → (Ending (axes_of s) dest → ⊥) → PlatesSafe (axes_of s) (with_plate k dest s.plate) (placed_at k (Place.At dest) place) marks s.admitted
 moves s place marks k src dest v e f g n =
     let p = v.plates.there src k e in
     let c : Counted (axes_of s) (Place.At src) (marks k) = rw p at (v.plates.counted k) in
@@ -152,7 +152,7 @@ moves s place marks k src dest v e f g n =
     (numbered place s.admitted k v.plates.outside (λ d. cc)) f (c ∙ g) (no_end (axes_of s) dest n)
 
 -- A belt that comes to rest has carried a plate.
-conveys : (s : State) (place : ℕ → Place) (marks : ℕ → ℕ) (a : Axis) (q : Pose) (k : ℕ) (src dest : Station) → Inv s place marks → s.going a ≡ Some q → ends a q ≡ Some dest → s.plate src ≡ Some k → has_pose a Pose.Rest ≡ true → ((t : Station) → stage (with_at (same_axis a) (rest Pose.Rest) (axes_of s)) t ≡ stage (axes_of s) t) → stage (axes_of s) src ≡ stage (axes_of s) dest → (Ending (with_at (same_axis a) (rest Pose.Rest) (axes_of s)) dest → ⊥) → LightsSafe (with_at (same_axis a) (rest Pose.Rest) (axes_of s)) (with_plate k dest s.plate) s.failed s.lamp → Inv (step (Entry.Conveyed a k dest) s) (placed_at k (Place.At dest) place) marks
+conveys : (s : Snapshot) (place : ℕ → Place) (marks : ℕ → ℕ) (a : Axis) (q : Pose) (k : ℕ) (src dest : Station) → Inv s place marks → s.going a ≡ Some q → ends a q ≡ Some dest → s.plate src ≡ Some k → has_pose a Pose.Rest ≡ true → ((t : Station) → stage (with_at (same_axis a) (rest Pose.Rest) (axes_of s)) t ≡ stage (axes_of s) t) → stage (axes_of s) src ≡ stage (axes_of s) dest → (Ending (with_at (same_axis a) (rest Pose.Rest) (axes_of s)) dest → ⊥) → LightsSafe (with_at (same_axis a) (rest Pose.Rest) (axes_of s)) (with_plate k dest s.plate) s.failed s.lamp → Inv (step (Entry.Conveyed a k dest) s) (placed_at k (Place.At dest) place) marks
 conveys s place marks a q k src dest v g t e r w c n o =
     let ax = with_at (same_axis a) (rest Pose.Rest) (axes_of s) in
     let p = v.plates.there src k e in
@@ -171,7 +171,7 @@ conveys s place marks a q k src dest v g t e r w c n o =
 feed_dark : (ax : Axes) (plate : Station → Option ℕ) (q : Pose) → (ax Axis.FeedBelt).going ≡ Some q → FeedLit ax plate → ⊥
 feed_dark ax plate q g o = let b : None ≡ Some q = ap (λ (t : AxisState). t.going) (sym o.belt) ∙ g in cc
 
-step_conveyed : (l : Limits) (s : State) (place : ℕ → Place) (marks : ℕ → ℕ) (a : Axis) (k : ℕ) (dest : Station) → Inv s place marks → Passed (tests l (told_by s) (Entry.Conveyed a k dest)) → Inv (step (Entry.Conveyed a k dest) s) (placed_at k (Place.At dest) place) marks
+step_conveyed : (l : BookLimits) (s : Snapshot) (place : ℕ → Place) (marks : ℕ → ℕ) (a : Axis) (k : ℕ) (dest : Station) → Inv s place marks → Passed (tests l (situation_in s) (Entry.Conveyed a k dest)) → Inv (step (Entry.Conveyed a k dest) s) (placed_at k (Place.At dest) place) marks
 step_conveyed l s place marks Axis.FeedBelt k Station.FeedEnd v h =
     let g = is_pose_tells Pose.ToEnd (s.going Axis.FeedBelt) (not_false _ h.1.1.0) in
     let e = plate_at s Station.FeedIn k h.1.1.1.0 in
@@ -200,7 +200,7 @@ step_conveyed l s place marks Axis.DepositBelt k Station.DepEnd v h =
 step_conveyed l s place marks _ k _ v h = let e = h.1.1.0 in cc
 
 -- A plate is forged.
-forges : (s : State) (place : ℕ → Place) (marks : ℕ → ℕ) (m : Machine) (a : Axis) (t : Station) (k : ℕ) → Inv s place marks → s.going a ≡ Some Pose.Top → s.plate t ≡ Some k → has_pose a Pose.Top ≡ true → axes_of (step (Entry.Forged m k) s) ≡ with_at (same_axis a) (rest Pose.Top) (axes_of s) → stage (axes_of s) t ≡ 0 → stage (with_at (same_axis a) (rest Pose.Top) (axes_of s)) t ≡ 1 → ((u : Station) → u ≢ t → stage (with_at (same_axis a) (rest Pose.Top) (axes_of s)) u ≡ stage (axes_of s) u) → Inv (step (Entry.Forged m k) s) place (forged_at k marks)
+forges : (s : Snapshot) (place : ℕ → Place) (marks : ℕ → ℕ) (m : Machine) (a : Axis) (t : Station) (k : ℕ) → Inv s place marks → s.going a ≡ Some Pose.Top → s.plate t ≡ Some k → has_pose a Pose.Top ≡ true → axes_of (step (Entry.Forged m k) s) ≡ with_at (same_axis a) (rest Pose.Top) (axes_of s) → stage (axes_of s) t ≡ 0 → stage (with_at (same_axis a) (rest Pose.Top) (axes_of s)) t ≡ 1 → ((u : Station) → u ≢ t → stage (with_at (same_axis a) (rest Pose.Top) (axes_of s)) u ≡ stage (axes_of s) u) → Inv (step (Entry.Forged m k) s) place (forged_at k marks)
 forges s place marks m a t k v g e r i z one w =
     let ax = with_at (same_axis a) (rest Pose.Top) (axes_of s) in
     with_axes (step (Entry.Forged m k) s) place (forged_at k marks) ax i
@@ -226,7 +226,7 @@ other_one ax u e = grind (arith, pose_same)
 other_two : (ax : Axes) (u : Station) → u ≢ Station.Press2 → stage (with_at (same_axis Axis.PressTwo) (rest Pose.Top) ax) u ≡ stage ax u
 other_two ax u e = grind (arith, pose_same)
 
-step_forged : (l : Limits) (s : State) (place : ℕ → Place) (marks : ℕ → ℕ) (m : Machine) (k : ℕ) → Inv s place marks → Passed (tests l (told_by s) (Entry.Forged m k)) → Inv (step (Entry.Forged m k) s) place (forged_at k marks)
+step_forged : (l : BookLimits) (s : Snapshot) (place : ℕ → Place) (marks : ℕ → ℕ) (m : Machine) (k : ℕ) → Inv s place marks → Passed (tests l (situation_in s) (Entry.Forged m k)) → Inv (step (Entry.Forged m k) s) place (forged_at k marks)
 step_forged l s place marks Machine.Press1 k v h =
     let g = is_pose_tells Pose.Top (s.going Axis.PressOne) (not_false _ h.1.1.0) in
     forges s place marks Machine.Press1 Axis.PressOne Station.Press1 k v g (plate_at s Station.Press1 k h.1.1.1.0) refl (axes_forged_one s k)
@@ -244,7 +244,7 @@ spot_same x y e f = grind (arith, pose_same)
 spot_faced : (x : Spot) (t : Station) → is_faced t (faced (spot_arm x) (spot_pose x)) ≡ true → spot_station x ≡ t
 spot_faced x t e = grind (arith, pose_same)
 
-pub record Hands (s : State) (arm : Arm) (at from to : Station) (k : ℕ) : Type 0 where
+pub record Hands (s : Snapshot) (arm : Arm) (at from to : Station) (k : ℕ) : Type 0 where
   pub stand : Stands (axes_of s) s.holder arm
   pub meets : spot_station stand.spot ≡ at
   pub healthy : s.failed (machine_of_station at) ≡ false
@@ -252,7 +252,7 @@ pub record Hands (s : State) (arm : Arm) (at from to : Station) (k : ℕ) : Type
   pub full : s.plate from ≡ Some k
   pub empty : s.plate to ≡ None
 
-pub hands : (s : State) (arm : Arm) (at from to : Station) (k : ℕ) → ArmSafe (axes_of s) s.holder arm → Passed (handing_tests (told_by s) arm at from to k) → Hands s arm at from to k
+pub hands : (s : Snapshot) (arm : Arm) (at from to : Station) (k : ℕ) → ArmSafe (axes_of s) s.holder arm → Passed (handing_tests (situation_in s) arm at from to k) → Hands s arm at from to k
 hands s arm at from to k v h =
     let o = resting s (axis_of_arm arm) Pose.Out h.1.1.0 in
     let y = stands (axes_of s) s.holder arm v (not_in (axes_of s (axis_of_arm arm)) Pose.Out o (λ e. cc)) in
@@ -272,14 +272,14 @@ hands s arm at from to k v h =
     }
 
 -- where the arm is
-pub at_spot : (s : State) (y : Spot) (from to : Station) (k : ℕ) → Hands s (spot_arm y) (spot_station y) from to k → Facing (axes_of s) s.holder y
+pub at_spot : (s : Snapshot) (y : Spot) (from to : Station) (k : ℕ) → Hands s (spot_arm y) (spot_station y) from to k → Facing (axes_of s) s.holder y
 at_spot s y from to k e = grind (arith, pose_same)
 
-not_at_end : (s : State) (place : ℕ → Place) (marks : ℕ → ℕ) (src : Station) (k : ℕ) → Inv s place marks → s.plate src ≡ Some k → src ≢ Station.DepEnd → place k ≢ Place.At Station.DepEnd
+not_at_end : (s : Snapshot) (place : ℕ → Place) (marks : ℕ → ℕ) (src : Station) (k : ℕ) → Inv s place marks → s.plate src ≡ Some k → src ≢ Station.DepEnd → place k ≢ Place.At Station.DepEnd
 not_at_end s place marks src k v e n d = let p = v.plates.there src k e in let i : src ≡ Station.DepEnd = cc in n i
 
 -- a plate is moved to a station of no light
-moved_to : (s : State) (place : ℕ → Place) (marks : ℕ → ℕ) (e : Entry) (k : ℕ) (src dest : Station) → Inv s place marks → s.plate src ≡ Some k → s.plate dest ≡ None → src ≢ Station.DepEnd → stage (axes_of s) src ≡ stage (axes_of s) dest → (Ending (axes_of s) dest → ⊥) → same_station dest Station.FeedIn ≡ false → same_station dest Station.FeedEnd ≡ false → same_station dest Station.DepEnd ≡ false → Safe (axes_of s) s.holder (with_plate k dest s.plate) (placed_at k (Place.At dest) place) marks s.admitted s.failed s.lamp
+moved_to : (s : Snapshot) (place : ℕ → Place) (marks : ℕ → ℕ) (e : Entry) (k : ℕ) (src dest : Station) → Inv s place marks → s.plate src ≡ Some k → s.plate dest ≡ None → src ≢ Station.DepEnd → stage (axes_of s) src ≡ stage (axes_of s) dest → (Ending (axes_of s) dest → ⊥) → same_station dest Station.FeedIn ≡ false → same_station dest Station.FeedEnd ≡ false → same_station dest Station.DepEnd ≡ false → Safe (axes_of s) s.holder (with_plate k dest s.plate) (placed_at k (Place.At dest) place) marks s.admitted s.failed s.lamp
 moved_to s place marks e k src dest v f t n c o d1 d2 d3 =
     record {
       motion = v.motion;
@@ -287,7 +287,7 @@ moved_to s place marks e k src dest v f t n c o d1 d2 d3 =
       lights = lights_placed (axes_of s) s.plate s.failed s.lamp place k dest d1 d2 d3 v.plates.there (not_at_end s place marks src k v f n) v.lights;
     }
 
-step_gripped : (l : Limits) (s : State) (place : ℕ → Place) (marks : ℕ → ℕ) (arm : Arm) (k : ℕ) (src : Station) → Inv s place marks → Passed (tests l (told_by s) (Entry.Gripped arm k src)) → Inv (step (Entry.Gripped arm k src) s) (placed_at k (Place.At (station_of_arm arm)) place) marks
+step_gripped : (l : BookLimits) (s : Snapshot) (place : ℕ → Place) (marks : ℕ → ℕ) (arm : Arm) (k : ℕ) (src : Station) → Inv s place marks → Passed (tests l (situation_in s) (Entry.Gripped arm k src)) → Inv (step (Entry.Gripped arm k src) s) (placed_at k (Place.At (station_of_arm arm)) place) marks
 step_gripped l s place marks Arm.Arm1 k Station.Table v h =
     let g = hands s Arm.Arm1 Station.Table Station.Table Station.Arm1 k v.motion.arm_one h.1.1 in
     moved_to s place marks (Entry.Gripped Arm.Arm1 k Station.Table) k Station.Table Station.Arm1 v g.full g.empty (λ e. cc) refl (λ d. d) refl refl refl
@@ -301,7 +301,7 @@ step_gripped l s place marks Arm.Arm2 k Station.Press2 v h =
     moved_to s place marks (Entry.Gripped Arm.Arm2 k Station.Press2) k Station.Press2 Station.Arm2 v g.full g.empty (λ e. cc) (rw r) (λ d. d) refl refl refl
 step_gripped l s place marks _ k _ v h = let e = h.1.1.0 in cc
 
-step_dropped : (l : Limits) (s : State) (place : ℕ → Place) (marks : ℕ → ℕ) (arm : Arm) (k : ℕ) (dest : Station) → Inv s place marks → Passed (tests l (told_by s) (Entry.Dropped arm k dest)) → Inv (step (Entry.Dropped arm k dest) s) (placed_at k (Place.At dest) place) marks
+step_dropped : (l : BookLimits) (s : Snapshot) (place : ℕ → Place) (marks : ℕ → ℕ) (arm : Arm) (k : ℕ) (dest : Station) → Inv s place marks → Passed (tests l (situation_in s) (Entry.Dropped arm k dest)) → Inv (step (Entry.Dropped arm k dest) s) (placed_at k (Place.At dest) place) marks
 step_dropped l s place marks Arm.Arm1 k Station.Press1 v h =
     let g = hands s Arm.Arm1 Station.Press1 Station.Arm1 Station.Press1 k v.motion.arm_one h.1.1 in
     let f = (at_spot s Load1 Station.Arm1 Station.Press1 k g).ready in
@@ -317,7 +317,7 @@ step_dropped l s place marks Arm.Arm2 k Station.DepIn v h =
     moved_to s place marks (Entry.Dropped Arm.Arm2 k Station.DepIn) k Station.Arm2 Station.DepIn v g.full g.empty (λ e. cc) refl (λ d. d) refl refl refl
 step_dropped l s place marks _ k _ v h = let e = h.1.1.0 in cc
 
-step_delivered : (l : Limits) (s : State) (place : ℕ → Place) (marks : ℕ → ℕ) (k : ℕ) → Inv s place marks → Passed (tests l (told_by s) (Entry.Delivered k)) → Inv (step (Entry.Delivered k) s) (placed_at k Place.Delivered place) marks
+step_delivered : (l : BookLimits) (s : Snapshot) (place : ℕ → Place) (marks : ℕ → ℕ) (k : ℕ) → Inv s place marks → Passed (tests l (situation_in s) (Entry.Delivered k)) → Inv (step (Entry.Delivered k) s) (placed_at k Place.Delivered place) marks
 step_delivered l s place marks k v h =
     let lit = v.lights.deposit (green (s.lamp Belt.Deposit) h.1.1.1.0) in
     let e = no_other s Station.DepEnd lit.plate_there k lit.there h.1.1.0 in
@@ -335,9 +335,9 @@ step_delivered l s place marks k v h =
 pub stage_low : (ax : Axes) (t : Station) → stage ax t ≤ 1
 stage_low ax t = grind (arith, pose_same)
 
-step_quarantined : (l : Limits) (s : State) (place : ℕ → Place) (marks : ℕ → ℕ) (k : ℕ) (src : Station) → Inv s place marks → Passed (tests l (told_by s) (Entry.Quarantined k src)) → Inv (step (Entry.Quarantined k src) s) (placed_at k Place.Quarantine place) marks
+step_quarantined : (l : BookLimits) (s : Snapshot) (place : ℕ → Place) (marks : ℕ → ℕ) (k : ℕ) (src : Station) → Inv s place marks → Passed (tests l (situation_in s) (Entry.Quarantined k src)) → Inv (step (Entry.Quarantined k src) s) (placed_at k Place.Quarantine place) marks
 step_quarantined l s place marks k src v h =
-    let t = passed_last (any_visited (told_by s) (machine_of_station src)) (station_empty (told_by s) src ∷ other_plate_at (told_by s) src k ∷ []) h.1.1 in
+    let t = passed_last (any_visited (situation_in s) (machine_of_station src)) (station_empty (situation_in s) src ∷ other_plate_at (situation_in s) src k ∷ []) h.1.1 in
     let bad : s.failed (machine_of_station src) ≡ true = not_false (s.failed (machine_of_station src)) h.1.0 in
     let o = occupied s src t.0 in
     let e = no_other s src o.0 k o.1 t.1.0 in
@@ -356,10 +356,10 @@ step_quarantined l s place marks k src v h =
       };
     }
 
-step_repaired : (l : Limits) (s : State) (place : ℕ → Place) (marks : ℕ → ℕ) (m : Machine) → Inv s place marks → Passed (tests l (told_by s) (Entry.Repaired m)) → Inv (step (Entry.Repaired m) s) place marks
+step_repaired : (l : BookLimits) (s : Snapshot) (place : ℕ → Place) (marks : ℕ → ℕ) (m : Machine) → Inv s place marks → Passed (tests l (situation_in s) (Entry.Repaired m)) → Inv (step (Entry.Repaired m) s) place marks
 step_repaired l s place marks m v h =
-    let a = passed_first (any_visited (told_by s) m) (any_still_there (told_by s) m) h.1.1 in
-    let b = passed_last (any_visited (told_by s) m) (any_still_there (told_by s) m) h.1.1 in
+    let a = passed_first (any_visited (situation_in s) m) (any_still_there (situation_in s) m) h.1.1 in
+    let b = passed_last (any_visited (situation_in s) m) (any_still_there (situation_in s) m) h.1.1 in
     with_axes (step (Entry.Repaired m) s) place marks (homed (axes_of s) m) (axes_repaired s m)
     (record {
       motion = motion_repaired s m v.motion a;
@@ -368,7 +368,7 @@ step_repaired l s place marks m v h =
     })
 
 -- Every entry that passes its tests keeps the invariant.
-pub inv_step : (l : Limits) (s : State) (place : ℕ → Place) (marks : ℕ → ℕ) (e : Entry) → Inv s place marks → Passed (tests l (told_by s) e) → Inv (step e s) (then_place e place) (then_marks e marks)
+pub inv_step : (l : BookLimits) (s : Snapshot) (place : ℕ → Place) (marks : ℕ → ℕ) (e : Entry) → Inv s place marks → Passed (tests l (situation_in s) e) → Inv (step e s) (then_place e place) (then_marks e marks)
 inv_step l s place marks (Entry.Lamp b to) v h = step_lamp l s place marks b to v h
 inv_step l s place marks (Entry.Admitted k) v h = step_admitted l s place marks k v h
 inv_step l s place marks (Entry.Claimed m z) v h = step_claimed l s place marks m z v h

@@ -22,8 +22,8 @@ use Rattle.cell_types.specs.Same.{same_machine, same_station, same_pose, same_co
 use Rattle.cell_types.specs.declared.cell.BeltMotion.{BeltMotion}
 use Rattle.cell_types.specs.Cell.{machine_of_axis, machine_of_station, machine_of_belt, is_pose_of, owner, visitor, axis_of_arm, station_of_arm, motion_to, Faced, faced, grips_at, drops_at}
 use Rattle.cell_types.specs.After.{is_machine}
-use Rattle.cell_views.specs.Told.{Cell}
-use Rattle.plate_book.specs.declared.limits.Limits.{Limits}
+use Rattle.cell_views.specs.Situations.{Situation}
+use Rattle.plate_book.specs.declared.limits.BookLimits.{BookLimits}
 use Rattle.plate_book.specs.declared.refusal.Refusal.{Refusal}
 use Rattle.plate_book.specs.declared.refusal.Refusal.TheVariants.{JournalFull, PlateLimit, MachineFailed, MachineHealthy, OwnerFailed, WrongPose, ZoneTaken, NotHolder, NotNeighbour, StationEmpty, StationFull, WrongPlate, LampRed, LampAlready, NoPress, AlreadyAsked, PlateStillThere}
 
@@ -42,11 +42,11 @@ abbrev pub is_pose : Pose → Option Pose → Bool
 is_pose p (Some q) = same_pose q p
 is_pose p None = false
 
-abbrev pub rests_at : Cell → Axis → Pose → Bool
+abbrev pub rests_at : Situation → Axis → Pose → Bool
 rests_at c a p = is_none (c.going a) && same_pose (c.at a) p
 
 -- what an arm faces while the turn is at rest
-abbrev pub faces : Cell → Arm → Option Faced
+abbrev pub faces : Situation → Arm → Option Faced
 faces c arm = if is_some (c.going axis.RobotTurn) then None else faced arm (c.at axis.RobotTurn)
 
 abbrev pub is_faced : Station → Option Faced → Bool
@@ -55,83 +55,83 @@ is_faced s None = false
 
 -- the tests, each with its refusal
 
-abbrev pub journal_full : Limits → Cell → Test
+abbrev pub journal_full : BookLimits → Situation → Test
 journal_full limits c = (nat_le limits.entries c.entries, JournalFull)
 
-abbrev pub plate_limit : Limits → Cell → Test
+abbrev pub plate_limit : BookLimits → Situation → Test
 plate_limit limits c = (nat_le limits.plates c.admitted, PlateLimit)
 
-abbrev pub machine_failed : Cell → Machine → Test
+abbrev pub machine_failed : Situation → Machine → Test
 machine_failed c m = (c.failed m, MachineFailed m)
 
-abbrev pub machine_healthy : Cell → Machine → Test
+abbrev pub machine_healthy : Situation → Machine → Test
 machine_healthy c m = (not (c.failed m), MachineHealthy m)
 
-abbrev pub owner_failed : Cell → Machine → Test
+abbrev pub owner_failed : Situation → Machine → Test
 owner_failed c m = (c.failed m, OwnerFailed m)
 
-abbrev pub not_at_rest : Cell → Axis → Test
+abbrev pub not_at_rest : Situation → Axis → Test
 not_at_rest c a = (is_some (c.going a), WrongPose a)
 
-abbrev pub not_resting_at : Cell → Axis → Pose → Test
+abbrev pub not_resting_at : Situation → Axis → Pose → Test
 not_resting_at c a p = (not (rests_at c a p), WrongPose a)
 
-abbrev pub all_resting : Cell → List (Axis × Pose) → List (Bool × Refusal)
+abbrev pub all_resting : Situation → List (Axis × Pose) → List (Bool × Refusal)
 all_resting c [] = []
 all_resting c (x ∷ xs) = not_resting_at c x.0 x.1 ∷ all_resting c xs
 
 -- the axis moves, has no such pose or is there already
-abbrev pub cannot_go : Cell → Axis → Pose → Test
+abbrev pub cannot_go : Situation → Axis → Pose → Test
 cannot_go c a to =
     (is_some (c.going a) || (not (is_pose_of a to) || same_pose (c.at a) to), WrongPose a)
 
-abbrev pub not_going : Cell → Axis → Pose → Test
+abbrev pub not_going : Situation → Axis → Pose → Test
 not_going c a to = (not (is_pose to (c.going a)), WrongPose a)
 
 abbrev pub no_such_motion : Axis → Test
 no_such_motion a = (true, WrongPose a)
 
-abbrev pub zone_taken : Cell → Zone → Test
+abbrev pub zone_taken : Situation → Zone → Test
 zone_taken c z = (is_some (c.holder z), ZoneTaken z)
 
-abbrev pub not_holder : Cell → Machine → Zone → Test
+abbrev pub not_holder : Situation → Machine → Zone → Test
 not_holder c m z = (not (is_machine m (c.holder z)), NotHolder z)
 
-abbrev pub station_empty : Cell → Station → Test
+abbrev pub station_empty : Situation → Station → Test
 station_empty c s = (not (c.occupied s), StationEmpty s)
 
-abbrev pub station_full : Cell → Station → Test
+abbrev pub station_full : Situation → Station → Test
 station_full c s = (c.occupied s, StationFull s)
 
-abbrev pub plate_not_at : Cell → Station → ℕ → Test
+abbrev pub plate_not_at : Situation → Station → ℕ → Test
 plate_not_at c s k = (not (c.holds s k), WrongPlate)
 
-abbrev pub other_plate_at : Cell → Station → ℕ → Test
+abbrev pub other_plate_at : Situation → Station → ℕ → Test
 other_plate_at c s k = (c.other s k, WrongPlate)
 
 -- k isn't the next plate's number
-abbrev pub wrong_number : Cell → ℕ → Test
+abbrev pub wrong_number : Situation → ℕ → Test
 wrong_number c k = (not (k == c.admitted + 1), WrongPlate)
 
-abbrev pub lamp_red : Cell → Belt → Test
+abbrev pub lamp_red : Situation → Belt → Test
 lamp_red c b = (same_colour (c.lamp b) colour.Red, LampRed b)
 
-abbrev pub lamp_already : Cell → Belt → Colour → Test
+abbrev pub lamp_already : Situation → Belt → Colour → Test
 lamp_already c b to = (same_colour (c.lamp b) to, LampAlready b)
 
 -- a zone of m is held by its visitor
-abbrev pub visited : Cell → Machine → Zone → Test
+abbrev pub visited : Situation → Machine → Zone → Test
 visited c m z = (same_machine (owner z) m && is_machine (visitor z) (c.holder z), ZoneTaken z)
 
-unfoldable pub any_visited : Cell → Machine → List (Bool × Refusal)
+unfoldable pub any_visited : Situation → Machine → List (Bool × Refusal)
 any_visited c m =
     visited c m zone.Z1 ∷ visited c m zone.Z2 ∷ visited c m zone.Z3 ∷ visited c m zone.Z4 ∷ visited c m zone.Z5 ∷ []
 
 -- a station of m has a plate
-abbrev pub still_there : Cell → Machine → Station → Test
+abbrev pub still_there : Situation → Machine → Station → Test
 still_there c m s = (same_machine (machine_of_station s) m && c.occupied s, PlateStillThere s)
 
-unfoldable pub any_still_there : Cell → Machine → List (Bool × Refusal)
+unfoldable pub any_still_there : Situation → Machine → List (Bool × Refusal)
 any_still_there c m =
     still_there c m station.FeedIn ∷ still_there c m station.FeedEnd ∷ still_there c m station.Table
     ∷ still_there c m station.Arm1 ∷ still_there c m station.Arm2 ∷ still_there c m station.Press1
@@ -139,7 +139,7 @@ any_still_there c m =
 
 -- the tests of each kind of entry, beyond those that all have
 
-abbrev pub lamp_tests : Cell → Belt → Colour → List (Bool × Refusal)
+abbrev pub lamp_tests : Situation → Belt → Colour → List (Bool × Refusal)
 lamp_tests c belt.Feed colour.Green =
     not_at_rest c axis.FeedBelt ∷ station_full c station.FeedIn ∷ station_full c station.FeedEnd
     ∷ lamp_already c belt.Feed colour.Green ∷ []
@@ -148,17 +148,17 @@ lamp_tests c belt.Deposit colour.Green =
 lamp_tests c b colour.Red = lamp_already c b colour.Red ∷ []
 
 -- m would visit a machine that failed
-abbrev pub visits_failed : Cell → Machine → Zone → Test
+abbrev pub visits_failed : Situation → Machine → Zone → Test
 visits_failed c m z = (same_machine m (visitor z) && c.failed (owner z), OwnerFailed (owner z))
 
 abbrev pub no_neighbour : Machine → Zone → Test
 no_neighbour m z = (not (same_machine m (owner z) || same_machine m (visitor z)), NotNeighbour)
 
-abbrev pub claimed_tests : Cell → Machine → Zone → List (Bool × Refusal)
+abbrev pub claimed_tests : Situation → Machine → Zone → List (Bool × Refusal)
 claimed_tests c m z = visits_failed c m z ∷ zone_taken c z ∷ no_neighbour m z ∷ []
 
 -- the axes that have to stand before a machine gives up a zone
-abbrev pub parked_tests : Cell → Machine → List (Bool × Refusal)
+abbrev pub parked_tests : Situation → Machine → List (Bool × Refusal)
 parked_tests c machine.Feed = not_at_rest c axis.FeedBelt ∷ []
 parked_tests c machine.Table = not_at_rest c axis.TableLift ∷ not_at_rest c axis.TableTurn ∷ []
 parked_tests c machine.Robot = not_resting_at c axis.ArmOne pose.In ∷ not_resting_at c axis.ArmTwo pose.In ∷ []
@@ -166,24 +166,24 @@ parked_tests c machine.Press1 = not_at_rest c axis.PressOne ∷ []
 parked_tests c machine.Press2 = not_at_rest c axis.PressTwo ∷ []
 parked_tests c machine.Deposit = not_at_rest c axis.DepositBelt ∷ []
 
-abbrev pub outward_tests : Cell → Axis → Option Faced → List (Bool × Refusal)
+abbrev pub outward_tests : Situation → Axis → Option Faced → List (Bool × Refusal)
 outward_tests c a None = (true, WrongPose axis.RobotTurn) ∷ []
 outward_tests c a (Some f) =
     owner_failed c f.owner
     ∷ (all_resting c f.before ++ not_resting_at c a pose.In ∷ all_resting c f.after ++ not_holder c machine.Robot f.zone ∷ [])
 
-abbrev pub arm_tests : Cell → Arm → Pose → List (Bool × Refusal)
+abbrev pub arm_tests : Situation → Arm → Pose → List (Bool × Refusal)
 arm_tests c arm pose.Out = outward_tests c (axis_of_arm arm) (faces c arm)
 arm_tests c arm pose.In = not_resting_at c (axis_of_arm arm) pose.Out ∷ []
 arm_tests c arm _ = no_such_motion (axis_of_arm arm) ∷ []
 
-abbrev pub press_tests : Cell → Machine → Axis → Zone → Station → Pose → List (Bool × Refusal)
+abbrev pub press_tests : Situation → Machine → Axis → Zone → Station → Pose → List (Bool × Refusal)
 press_tests c m a z s pose.Top = not_resting_at c a pose.Middle ∷ not_holder c m z ∷ station_empty c s ∷ []
 press_tests c m a z s pose.Bottom = not_resting_at c a pose.Top ∷ not_holder c m z ∷ []
 press_tests c m a z s pose.Middle = not_resting_at c a pose.Bottom ∷ not_holder c m z ∷ station_full c s ∷ []
 press_tests c m a z s _ = no_such_motion a ∷ []
 
-abbrev pub feed_belt_tests : Cell → Pose → List (Bool × Refusal)
+abbrev pub feed_belt_tests : Situation → Pose → List (Bool × Refusal)
 feed_belt_tests c pose.ToEnd =
     not_at_rest c axis.FeedBelt ∷ station_empty c station.FeedIn ∷ station_full c station.FeedEnd ∷ []
 feed_belt_tests c pose.ToTable =
@@ -192,13 +192,13 @@ feed_belt_tests c pose.ToTable =
     ∷ station_empty c station.FeedEnd ∷ station_full c station.Table ∷ []
 feed_belt_tests c _ = no_such_motion axis.FeedBelt ∷ []
 
-abbrev pub deposit_belt_tests : Cell → Pose → List (Bool × Refusal)
+abbrev pub deposit_belt_tests : Situation → Pose → List (Bool × Refusal)
 deposit_belt_tests c pose.ToEnd =
     not_at_rest c axis.DepositBelt ∷ not_holder c machine.Deposit zone.Z5
     ∷ station_empty c station.DepIn ∷ station_full c station.DepEnd ∷ []
 deposit_belt_tests c _ = no_such_motion axis.DepositBelt ∷ []
 
-abbrev pub started_tests : Cell → Axis → Pose → List (Bool × Refusal)
+abbrev pub started_tests : Situation → Axis → Pose → List (Bool × Refusal)
 started_tests c axis.FeedBelt to = feed_belt_tests c to
 started_tests c axis.TableLift to =
     cannot_go c axis.TableLift to ∷ not_at_rest c axis.TableTurn
@@ -222,20 +222,20 @@ ends_by_arrival axis.PressOne pose.Top = false
 ends_by_arrival axis.PressTwo pose.Top = false
 ends_by_arrival _ _ = true
 
-abbrev pub no_arrival : Cell → Axis → Pose → Test
+abbrev pub no_arrival : Situation → Axis → Pose → Test
 no_arrival c a p = (not (is_pose p (c.going a) && ends_by_arrival a p), WrongPose a)
 
-abbrev pub conveyed_tests : Cell → Axis → ℕ → Option BeltMotion → List (Bool × Refusal)
+abbrev pub conveyed_tests : Situation → Axis → ℕ → Option BeltMotion → List (Bool × Refusal)
 conveyed_tests c a k None = no_such_motion a ∷ []
 conveyed_tests c a k (Some m) = not_going c a m.to ∷ plate_not_at c m.from k ∷ []
 
-abbrev pub forged_tests : Cell → Machine → ℕ → List (Bool × Refusal)
+abbrev pub forged_tests : Situation → Machine → ℕ → List (Bool × Refusal)
 forged_tests c machine.Press1 k = not_going c axis.PressOne pose.Top ∷ plate_not_at c station.Press1 k ∷ []
 forged_tests c machine.Press2 k = not_going c axis.PressTwo pose.Top ∷ plate_not_at c station.Press2 k ∷ []
 forged_tests c _ k = (true, NoPress) ∷ []
 
 -- arm and station, and between them the tests of a grip or a drop, from one station to another
-abbrev pub handing_tests : Cell → Arm → Station → Station → Station → ℕ → List (Bool × Refusal)
+abbrev pub handing_tests : Situation → Arm → Station → Station → Station → ℕ → List (Bool × Refusal)
 handing_tests c arm at from to k =
     owner_failed c (machine_of_station at)
     ∷ (not (is_faced at (faces c arm)), WrongPose axis.RobotTurn)
@@ -246,7 +246,7 @@ abbrev pub neighbour_tests : Bool → List (Bool × Refusal) → List (Bool × R
 neighbour_tests true ts = ts
 neighbour_tests false ts = (true, NotNeighbour) ∷ []
 
-abbrev pub tests : Limits → Cell → Entry → List (Bool × Refusal)
+abbrev pub tests : BookLimits → Situation → Entry → List (Bool × Refusal)
 tests l c (Lamp b to) = journal_full l c ∷ machine_failed c (machine_of_belt b) ∷ lamp_tests c b to
 tests l c (Admitted k) =
     journal_full l c ∷ plate_limit l c ∷ machine_failed c machine.Feed
@@ -275,5 +275,5 @@ tests l c (Quarantined k src) =
 tests l c (Repaired m) = journal_full l c ∷ machine_healthy c m ∷ (any_visited c m ++ any_still_there c m)
 
 -- the refusal of an entry by a cell, if there is one
-abbrev pub first : Limits → Cell → Entry → Option Refusal
+abbrev pub first : BookLimits → Situation → Entry → Option Refusal
 first l c e = first_true (tests l c e)

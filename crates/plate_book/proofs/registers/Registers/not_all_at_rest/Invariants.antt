@@ -1,5 +1,5 @@
 use Rattle.std.proofs.Common.{◌≡◌, map, drop}
-use Rattle.plate_book.specs.Records.Recorded.{told}
+use Rattle.plate_book.specs.Records.Recorded.{recorded}
 use Rattle.plate_book.specs.Rules.First.{first_true, not_at_rest}
 use Rattle.plate_book.proofs.registers.Registers.not_all_at_rest.Given as goal
 

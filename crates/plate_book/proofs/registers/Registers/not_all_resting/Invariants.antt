@@ -1,5 +1,5 @@
 use Rattle.std.proofs.Common.{◌≡◌, drop}
-use Rattle.plate_book.specs.Records.Recorded.{told}
+use Rattle.plate_book.specs.Records.Recorded.{recorded}
 use Rattle.plate_book.specs.Rules.First.{first_true, all_resting}
 use Rattle.plate_book.proofs.registers.Registers.not_all_resting.Given as goal
 

@@ -1,11 +1,11 @@
 -- The cell as a state tells it
 use Rattle.std.specs.Prelude.{not, ◌&&◌, is_some}
-use Rattle.cell_types.specs.After.{State, is_plate}
-use Rattle.cell_views.specs.Told.{Cell}
+use Rattle.cell_types.specs.After.{Snapshot, is_plate}
+use Rattle.cell_views.specs.Situations.{Situation}
 
 -- the cell as a state tells it
-abbrev pub told_by : State → Cell
-told_by s =
+abbrev pub situation_in : Snapshot → Situation
+situation_in s =
     record {
       entries = s.entries;
       admitted = s.admitted;
