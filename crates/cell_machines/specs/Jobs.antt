@@ -1,5 +1,5 @@
 -- The robot's jobs, each named by the pose of the turn where it is done
-use Rattle.std.specs.Prelude.{Bool, true, false, not, ◌&&◌, ◌||◌}
+use Rattle.std.specs.Prelude.{Bool, false, not, ◌&&◌, ◌||◌, Option, Some, None, is_some}
 use Rattle.cell_types.specs.declared.words.Machine.{Machine}
 use Rattle.cell_types.specs.declared.words.Machine.TheVariants as machine
 use Rattle.cell_types.specs.declared.words.Station.{Station}
@@ -12,6 +12,7 @@ use Rattle.cell_types.specs.declared.words.Zone.{Zone}
 use Rattle.cell_types.specs.declared.words.Zone.TheVariants as zone
 use Rattle.cell_types.specs.declared.words.Arm.{Arm}
 use Rattle.cell_types.specs.declared.words.Arm.TheVariants as arm
+use Rattle.cell_types.specs.Cell.{Faced, faced}
 use Rattle.cell_types.specs.After.{is_machine}
 use Rattle.cell_views.specs.Situations.{Situation}
 use Rattle.plate_book.specs.Rules.First.{rests_at}
@@ -47,15 +48,14 @@ has_job c _ = false
 abbrev pub is_robots : Situation → Zone → Bool
 is_robots c z = is_machine machine.Robot (c.holder z)
 
+-- the robot holds the zone of what an arm faces
+abbrev pub holds_its_zone : Situation → Option Faced → Bool
+holds_its_zone c (Some f) = is_robots c f.zone
+holds_its_zone c None = false
+
 -- the robot holds the zone of the job at this pose
 unfoldable pub holds_zone_at : Situation → Pose → Bool
-holds_zone_at c pose.Table1 = is_robots c zone.Z2
-holds_zone_at c pose.P1Load = is_robots c zone.Z3
-holds_zone_at c pose.P1Unload = is_robots c zone.Z3
-holds_zone_at c pose.P2Load = is_robots c zone.Z4
-holds_zone_at c pose.P2Unload = is_robots c zone.Z4
-holds_zone_at c pose.Deposit2 = is_robots c zone.Z5
-holds_zone_at c _ = false
+holds_zone_at c p = holds_its_zone c (faced arm.Arm1 p) || holds_its_zone c (faced arm.Arm2 p)
 
 unfoldable pub has_job_in : Situation → Zone → Bool
 has_job_in c zone.Z1 = false
@@ -72,12 +72,6 @@ is_to_enter c zone.Z3 = (has_job c pose.P1Load && is_machine machine.Press1 (pre
 is_to_enter c zone.Z4 = (has_job c pose.P2Load && is_machine machine.Press2 (press_chosen c)) || has_job c pose.P2Unload
 is_to_enter c zone.Z5 = has_job c pose.Deposit2
 
--- the arm that works at a pose of the turn
+-- an arm works at the poses of the turn where it faces a station
 abbrev pub works_at : Arm → Pose → Bool
-works_at arm.Arm1 pose.Table1 = true
-works_at arm.Arm1 pose.P1Load = true
-works_at arm.Arm1 pose.P2Load = true
-works_at arm.Arm2 pose.P1Unload = true
-works_at arm.Arm2 pose.P2Unload = true
-works_at arm.Arm2 pose.Deposit2 = true
-works_at _ _ = false
+works_at x p = is_some (faced x p)

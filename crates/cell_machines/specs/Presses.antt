@@ -1,5 +1,5 @@
 -- What the presses want
-use Rattle.std.specs.Prelude.{Bool, false, not, ◌&&◌, ◌||◌}
+use Rattle.std.specs.Prelude.{Bool, false, not, ◌&&◌, ◌||◌, List, [], ◌∷◌}
 use Rattle.cell_types.specs.declared.words.Machine.TheVariants as machine
 use Rattle.cell_types.specs.declared.words.Station.{Station}
 use Rattle.cell_types.specs.declared.words.Station.TheVariants as station
@@ -9,6 +9,7 @@ use Rattle.cell_types.specs.declared.words.Pose.TheVariants as pose
 use Rattle.cell_types.specs.declared.words.Zone.TheVariants as zone
 use Rattle.cell_types.specs.declared.words.Entry.{Entry}
 use Rattle.cell_types.specs.declared.words.Entry.TheVariants.{Claimed, Yielded, Started}
+use Rattle.cell_types.specs.declared.cell.Press.{Press}
 use Rattle.cell_views.specs.Situations.{Situation}
 use Rattle.plate_book.specs.Rules.First.{rests_at}
 
@@ -43,3 +44,13 @@ press2_wants c (Started axis.PressTwo pose.Middle) = is_unloaded c axis.PressTwo
 press2_wants c (Started axis.PressTwo pose.Bottom) = rests_at c axis.PressTwo pose.Top
 press2_wants c (Yielded machine.Press2 zone.Z4) = is_done c axis.PressTwo station.Press2 || is_waiting c axis.PressTwo station.Press2
 press2_wants c _ = false
+
+-- what a press may ever want, each entry with whether it is wanted
+unfoldable pub press_rows : Situation → Press → List (Bool × Entry)
+press_rows c p =
+    (is_done c p.axis p.station || is_waiting c p.axis p.station, Yielded p.machine p.zone)
+    ∷ (is_loaded c p.axis p.station, Started p.axis pose.Top)
+    ∷ (rests_at c p.axis pose.Top, Started p.axis pose.Bottom)
+    ∷ (is_unloaded c p.axis p.station, Started p.axis pose.Middle)
+    ∷ (is_loaded c p.axis p.station || is_unloaded c p.axis p.station, Claimed p.machine p.zone)
+    ∷ []

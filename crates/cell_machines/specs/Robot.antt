@@ -12,7 +12,7 @@ use Rattle.cell_types.specs.declared.words.Arm.TheVariants as arm
 use Rattle.cell_types.specs.declared.words.Entry.{Entry}
 use Rattle.cell_types.specs.declared.words.Entry.TheVariants.{Claimed, Yielded, Started, Gripped, Dropped}
 use Rattle.cell_types.specs.Same.{same_pose}
-use Rattle.cell_types.specs.Cell.{station_of_arm, grips_at, drops_at}
+use Rattle.cell_types.specs.Cell.{station_of_arm, axis_of_arm, grips_at, drops_at}
 use Rattle.cell_types.specs.After.{is_plate}
 use Rattle.cell_views.specs.Situations.{Situation}
 use Rattle.plate_book.specs.declared.limits.BookLimits.{BookLimits}
@@ -22,8 +22,7 @@ use Rattle.cell_machines.specs.Room.{is_bookable}
 use Rattle.cell_machines.specs.Jobs.{has_job, has_job_in, is_to_enter, is_robots, holds_zone_at, works_at}
 
 unfoldable pub is_out : Situation → Arm → Bool
-is_out c arm.Arm1 = rests_at c axis.ArmOne pose.Out
-is_out c arm.Arm2 = rests_at c axis.ArmTwo pose.Out
+is_out c x = rests_at c (axis_of_arm x) pose.Out
 
 -- the arm is out at a station
 unfoldable pub is_out_at : Situation → Arm → Station → Bool

@@ -1,13 +1,14 @@
 //! The robot's jobs, each named by the pose of the turn where it is done.
 ghost use Rattle.std.specs.Prelude.{◌≡◌, not, ◌&&◌, ◌||◌};
+ghost use Rattle.cell_types.specs.Cell.{faced};
 ghost use Rattle.cell_types.specs.After.{is_machine};
 ghost use Rattle.cell_views.specs.Situations.{situation_of};
 ghost use Rattle.cell_policy.specs.Router.{press_chosen};
-ghost use Rattle.cell_machines.specs.Jobs.{is_to_fetch, is_to_load, is_to_unload, is_to_deposit, has_job, is_robots, holds_zone_at, has_job_in, is_to_enter, works_at};
+ghost use Rattle.cell_machines.specs.Jobs.{is_to_fetch, is_to_load, is_to_unload, is_to_deposit, has_job, is_robots, holds_its_zone, holds_zone_at, has_job_in, is_to_enter, works_at};
 
 use crate::presses::{is_done, is_waiting};
 use cell_policy::{choose_press, is_at_rest, is_held_by, is_occupied, rests_at};
-use cell_types::{Arm, Axis, Machine, Pose, Station, Zone};
+use cell_types::{Arm, Axis, Machine, PRESS1, PRESS2, Pose, Press, Station, Zone, faced};
 use plate_book::Book;
 
 fn is_to_fetch(book: &Book) -> bool
@@ -20,16 +21,19 @@ fn is_to_fetch(book: &Book) -> bool
         && is_occupied(book, Station::Table)
 }
 
-fn is_to_load(book: &Book, press: Machine, axis: Axis, station: Station) -> bool
-    ensures { result ≡ is_to_load (situation_of book.now.entries) press axis station }
+fn is_to_load(book: &Book, press: Press) -> bool
+    ensures { result ≡ is_to_load (situation_of book.now.entries) press.machine press.axis press.station }
 {
-    is_occupied(book, Station::Arm1) && !book.failed(press) && is_waiting(book, axis, station)
+    let healthy = !book.failed(press.machine);
+    is_occupied(book, Station::Arm1) && healthy && is_waiting(book, press.axis, press.station)
 }
 
-fn is_to_unload(book: &Book, press: Machine, axis: Axis, station: Station) -> bool
-    ensures { result ≡ is_to_unload (situation_of book.now.entries) press axis station }
+fn is_to_unload(book: &Book, press: Press) -> bool
+    ensures { result ≡ is_to_unload (situation_of book.now.entries) press.machine press.axis press.station }
 {
-    !is_occupied(book, Station::Arm2) && !book.failed(press) && is_done(book, axis, station)
+    !is_occupied(book, Station::Arm2)
+        && !book.failed(press.machine)
+        && is_done(book, press.axis, press.station)
 }
 
 fn is_to_deposit(book: &Book) -> bool
@@ -48,10 +52,10 @@ pub fn has_job(book: &Book, pose: Pose) -> bool
 {
     match pose {
         Pose::Table1 => is_to_fetch(book),
-        Pose::P1Load => is_to_load(book, Machine::Press1, Axis::PressOne, Station::Press1),
-        Pose::P1Unload => is_to_unload(book, Machine::Press1, Axis::PressOne, Station::Press1),
-        Pose::P2Load => is_to_load(book, Machine::Press2, Axis::PressTwo, Station::Press2),
-        Pose::P2Unload => is_to_unload(book, Machine::Press2, Axis::PressTwo, Station::Press2),
+        Pose::P1Load => is_to_load(book, PRESS1),
+        Pose::P1Unload => is_to_unload(book, PRESS1),
+        Pose::P2Load => is_to_load(book, PRESS2),
+        Pose::P2Unload => is_to_unload(book, PRESS2),
         Pose::Deposit2 => is_to_deposit(book),
         _ => false,
     }
@@ -64,18 +68,22 @@ pub fn is_robots(book: &Book, zone: Zone) -> bool
     is_held_by(book, Machine::Robot, zone)
 }
 
+/// Whether the robot holds the zone of what an arm faces at this pose of the turn.
+fn holds_its_zone(book: &Book, arm: Arm, pose: Pose) -> bool
+    ensures { result ≡ holds_its_zone (situation_of book.now.entries) (faced arm pose) }
+{
+    match faced(arm, pose) {
+        Some(facing) => is_robots(book, facing.zone),
+        None => false,
+    }
+}
+
 /// Whether the robot holds the zone of the job at this pose of the turn.
 #[tactic(auto, unfolding(crate::specs::Jobs::holds_zone_at))]
 pub fn holds_zone_at(book: &Book, pose: Pose) -> bool
     ensures { result ≡ holds_zone_at (situation_of book.now.entries) pose }
 {
-    match pose {
-        Pose::Table1 => is_robots(book, Zone::Z2),
-        Pose::P1Load | Pose::P1Unload => is_robots(book, Zone::Z3),
-        Pose::P2Load | Pose::P2Unload => is_robots(book, Zone::Z4),
-        Pose::Deposit2 => is_robots(book, Zone::Z5),
-        _ => false,
-    }
+    holds_its_zone(book, Arm::Arm1, pose) || holds_its_zone(book, Arm::Arm2, pose)
 }
 
 /// Whether there is a job in a zone.
@@ -123,12 +131,9 @@ pub fn is_to_enter(book: &Book, zone: Zone) -> bool
     }
 }
 
-/// Whether an arm works at this pose of the turn.
+/// Whether an arm works at this pose of the turn, where it faces a station.
 pub fn works_at(arm: Arm, pose: Pose) -> bool
     ensures { result ≡ works_at arm pose }
 {
-    match arm {
-        Arm::Arm1 => matches!(pose, Pose::Table1 | Pose::P1Load | Pose::P2Load),
-        Arm::Arm2 => matches!(pose, Pose::P1Unload | Pose::P2Unload | Pose::Deposit2),
-    }
+    faced(arm, pose).is_some()
 }

@@ -7,13 +7,13 @@ ghost use Rattle.cell_machines.specs.Useful.{is_useful};
 ghost use Rattle.cell_machines.specs.Candidates.{rows, first_bookable};
 
 use crate::belts::{propose_deposit, propose_feed};
-use crate::presses::{propose_press1, propose_press2};
+use crate::presses::propose_press;
 use crate::robot::{claim_to_unload, propose_robot};
 use crate::table::propose_table;
-use cell_types::{Entry, Machine};
+use cell_types::{Entry, Machine, PRESS1, PRESS2};
 use plate_book::Book;
 
-#[tactic(auto, unfolding(crate::specs::Candidates::rows))]
+#[tactic(auto, unfolding(crate::specs::Candidates::rows, crate::specs::Candidates::candidates, crate::specs::Presses::press_rows))]
 fn first_of_all(machine: Machine, book: &Book, plan: u32) -> Option<Entry>
     ensures { result ≡ first_bookable book.now.limits (situation_of book.now.entries) (rows book.now.limits (situation_of book.now.entries) plan machine) }
 {
@@ -21,8 +21,8 @@ fn first_of_all(machine: Machine, book: &Book, plan: u32) -> Option<Entry>
         Machine::Feed => propose_feed(book, plan),
         Machine::Table => propose_table(book, plan),
         Machine::Robot => propose_robot(book),
-        Machine::Press1 => propose_press1(book, plan),
-        Machine::Press2 => propose_press2(book, plan),
+        Machine::Press1 => propose_press(book, PRESS1),
+        Machine::Press2 => propose_press(book, PRESS2),
         Machine::Deposit => propose_deposit(book, plan),
     }
 }

@@ -17,7 +17,9 @@ use crate::entries::{claimed, started, yielded};
 use crate::jobs::{has_job, has_job_in, holds_zone_at, is_robots, is_to_enter, works_at};
 use crate::rows::first_bookable;
 use cell_policy::{is_at_rest, rests_at};
-use cell_types::{Arm, Axis, Entry, Machine, Pose, Station, Zone, station_of_arm};
+use cell_types::{
+    Arm, Axis, Entry, Machine, Pose, Station, Zone, axis_of_arm, faced, station_of_arm,
+};
 use plate_book::Book;
 
 /// Whether both arms are in and the turn is at rest.
@@ -57,26 +59,17 @@ fn is_facing(book: &Book, arm: Arm, station: Station) -> bool
     if turn.going.is_some() {
         return false;
     }
-    let faced = match (arm, turn.at) {
-        (Arm::Arm1, Pose::Table1) => Station::Table,
-        (Arm::Arm1, Pose::P1Load) => Station::Press1,
-        (Arm::Arm1, Pose::P2Load) => Station::Press2,
-        (Arm::Arm2, Pose::P1Unload) => Station::Press1,
-        (Arm::Arm2, Pose::P2Unload) => Station::Press2,
-        (Arm::Arm2, Pose::Deposit2) => Station::DepIn,
-        _ => return false,
-    };
-    faced == station
+    match faced(arm, turn.at) {
+        Some(facing) => facing.station == station,
+        None => false,
+    }
 }
 
 #[tactic(auto, unfolding(crate::specs::Robot::is_out))]
 fn is_out(book: &Book, arm: Arm) -> bool
     ensures { result ≡ is_out (situation_of book.now.entries) arm }
 {
-    match arm {
-        Arm::Arm1 => rests_at(book, Axis::ArmOne, Pose::Out),
-        Arm::Arm2 => rests_at(book, Axis::ArmTwo, Pose::Out),
-    }
+    rests_at(book, axis_of_arm(arm), Pose::Out)
 }
 
 #[tactic(auto, unfolding(crate::specs::Robot::is_out_at))]
