@@ -6,6 +6,7 @@ use cell_types::Axis::FeedBelt;
 use cell_types::Command::{AllOff, Lamp, Off, On};
 use cell_types::Machine::{Deposit, Feed, Table};
 use cell_types::{Belt, Colour, Pose, Station};
+use std::sync::Mutex;
 
 const NONE: [u8; 3] = [0, 0, 0];
 
@@ -78,13 +79,13 @@ const ENDS: [Step; 13] = [
 #[test]
 fn a_belt_shows_the_plate_that_it_carries(rt: HostRuntime) {
     let faults = script(&rt, rt.alloc(), "");
-    let mut world = World::new(2);
-    follow(&rt, &mut world, &faults, &LAID);
-    follow(&rt, &mut world, &faults, &CARRIED);
+    let world = Mutex::new(World::new(2));
+    follow(&rt, &world, &faults, &LAID);
+    follow(&rt, &world, &faults, &CARRIED);
     run(&rt, rt.alloc(), 2, "", &LAYING);
-    let mut other = World::new(1);
-    follow(&rt, &mut other, &faults, &LAID);
-    follow(&rt, &mut other, &faults, &ENDS);
+    let other = Mutex::new(World::new(1));
+    follow(&rt, &other, &faults, &LAID);
+    follow(&rt, &other, &faults, &ENDS);
 }
 
 // The plate is taken on its way, stopped or not, also where it has arrived.
@@ -154,9 +155,9 @@ fn the_operator_takes_out_what_a_belt_carried(rt: HostRuntime) {
         &ENDED,
         &AT_HOME,
     ] {
-        let mut world = World::new(2);
-        follow(&rt, &mut world, &faults, &LAID);
-        follow(&rt, &mut world, &faults, steps);
-        follow(&rt, &mut world, &faults, &NO_MORE);
+        let world = Mutex::new(World::new(2));
+        follow(&rt, &world, &faults, &LAID);
+        follow(&rt, &world, &faults, steps);
+        follow(&rt, &world, &faults, &NO_MORE);
     }
 }

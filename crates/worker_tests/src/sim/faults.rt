@@ -6,6 +6,7 @@ use cell_types::Axis::{FeedBelt, PressOne, TableLift, TableTurn};
 use cell_types::Command::{AllOff, Lamp, Off, On};
 use cell_types::Machine::{Feed, Press1, Table};
 use cell_types::{Belt, Colour, Pose};
+use std::sync::Mutex;
 
 const NONE: [u8; 3] = [0, 0, 0];
 
@@ -244,9 +245,9 @@ fn a_fault_shows_at_sensors(rt: HostRuntime) {
         ("feed_belt,2,both,\n", &BELT_TO_TABLE),
     ] {
         let faults = script(&rt, rt.alloc(), text);
-        let mut world = World::new(1);
-        follow(&rt, &mut world, &faults, &STARTED);
-        follow(&rt, &mut world, &faults, steps);
+        let world = Mutex::new(World::new(1));
+        follow(&rt, &world, &faults, &STARTED);
+        follow(&rt, &world, &faults, steps);
     }
     for (text, steps) in [
         ("feed_belt,1,keeps_old,\n", BARE_KEEPS_OLD.as_slice()),

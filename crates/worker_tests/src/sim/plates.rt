@@ -8,6 +8,7 @@ use cell_types::Axis::{
 use cell_types::Command::{AllOff, Lamp, MagnetOff, MagnetOn, Off, On};
 use cell_types::Machine::{Deposit, Feed, Press1, Robot, Table};
 use cell_types::{Arm, Belt, Colour, Pose, Station};
+use std::sync::Mutex;
 
 const NONE: [u8; 3] = [0, 0, 0];
 
@@ -96,7 +97,7 @@ const DELIVERED: [Step; 17] = [
 #[test]
 fn a_plate_goes_through_the_cell(rt: HostRuntime) {
     let faults = script(&rt, rt.alloc(), "");
-    let mut world = World::new(1);
+    let world = Mutex::new(World::new(1));
     for steps in [
         AT_TABLE.as_slice(),
         &ON_ARM_ONE,
@@ -104,7 +105,7 @@ fn a_plate_goes_through_the_cell(rt: HostRuntime) {
         &ON_DEPOSIT,
         &DELIVERED,
     ] {
-        follow(&rt, &mut world, &faults, steps);
+        follow(&rt, &world, &faults, steps);
     }
 }
 
@@ -158,10 +159,10 @@ fn magnets_hold_plates(rt: HostRuntime) {
         ("robot_turn,1,lose_plate,\n", &TURN_LOSES),
     ] {
         let faults = script(&rt, rt.alloc(), text);
-        let mut world = World::new(1);
-        follow(&rt, &mut world, &faults, &AT_TABLE);
-        follow(&rt, &mut world, &faults, &ON_ARM_ONE);
-        follow(&rt, &mut world, &faults, steps);
+        let world = Mutex::new(World::new(1));
+        follow(&rt, &world, &faults, &AT_TABLE);
+        follow(&rt, &world, &faults, &ON_ARM_ONE);
+        follow(&rt, &world, &faults, steps);
     }
 }
 
@@ -254,13 +255,13 @@ const OVER_A_FULL_STATION: [Step; 8] = [
 #[test]
 fn a_plate_that_is_laid_down_wrongly_counts(rt: HostRuntime) {
     let faults = script(&rt, rt.alloc(), "");
-    let mut world = World::new(2);
+    let world = Mutex::new(World::new(2));
     for steps in [
         AT_TABLE.as_slice(),
         &ON_ARM_ONE,
         &LAID_DOWN_WRONGLY,
         &OVER_A_FULL_STATION,
     ] {
-        follow(&rt, &mut world, &faults, steps);
+        follow(&rt, &world, &faults, steps);
     }
 }

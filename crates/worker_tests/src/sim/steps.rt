@@ -1,9 +1,11 @@
 //! Steps in a simulated cell, and what they have to show.
 use cell_diagnosis::Reading;
-use cell_sim::{FaultScript, World};
+use cell_sim::{FaultScript, SimOperator, SimPort, World};
+use cell_turns::{OperatorPort, Port, PortFault};
 use cell_types::{Command, Machine, Station};
 use std::alloc::Global;
 use std::process::Abort;
+use std::sync::{Mutex, Wait};
 
 /// One step in a world, or what is wanted of it.
 #[derive(Clone, Copy, Debug)]
@@ -34,47 +36,71 @@ pub(crate) fn script(rt: &impl Abort, alloc: Global, text: &str) -> FaultScript 
     }
 }
 
-fn read_on(world: &mut World, machine: Machine, readings: u32) {
+fn reading<R: Wait>(
+    rt: &R,
+    world: &Mutex<World>,
+    faults: &FaultScript,
+    machine: Machine,
+) -> Option<Reading> {
+    SimPort::new(rt, world, machine, faults).read()
+}
+
+// A command names its own part of the cell, so any port takes it.
+fn send<R: Wait>(
+    rt: &R,
+    world: &Mutex<World>,
+    faults: &FaultScript,
+    command: Command,
+) -> Result<(), PortFault> {
+    SimPort::new(rt, world, Machine::Feed, faults).command(command)
+}
+
+fn read_on<R: Wait>(
+    rt: &R,
+    world: &Mutex<World>,
+    faults: &FaultScript,
+    machine: Machine,
+    readings: u32,
+) {
     for _ in 0..readings {
-        let _ = world.read(machine);
+        let _ = reading(rt, world, faults, machine);
     }
 }
 
-fn is_met(world: &mut World, faults: &FaultScript, step: Step) -> bool {
+fn is_met<R: Wait>(rt: &R, world: &Mutex<World>, faults: &FaultScript, step: Step) -> bool {
     match step {
-        Step::Send(command) => world.command(command, faults).is_ok(),
-        Step::Refused(command) => world.command(command, faults).is_err(),
+        Step::Send(command) => send(rt, world, faults, command).is_ok(),
+        Step::Refused(command) => send(rt, world, faults, command).is_err(),
         Step::Shows(machine, switches, presence) => {
-            world.read(machine) == Some(Reading { switches, presence })
+            reading(rt, world, faults, machine) == Some(Reading { switches, presence })
         }
-        Step::Missing(machine) => world.read(machine).is_none(),
+        Step::Missing(machine) => reading(rt, world, faults, machine).is_none(),
         Step::Read(machine, readings) => {
-            read_on(world, machine, readings);
+            read_on(rt, world, faults, machine, readings);
             true
         }
-        Step::Remove(station) => {
-            world.remove(station);
-            true
-        }
-        Step::Home(machine) => {
-            world.home(machine);
-            true
-        }
-        Step::Collisions(count) => world.collisions() == count,
+        Step::Remove(station) => SimOperator::new(rt, world).remove(station).is_ok(),
+        Step::Home(machine) => SimOperator::new(rt, world).home(machine).is_ok(),
+        Step::Collisions(count) => world.lock(rt).collisions() == count,
     }
 }
 
 /// Takes steps, each of which has to be met.
-pub(crate) fn follow(rt: &impl Abort, world: &mut World, faults: &FaultScript, steps: &[Step]) {
+pub(crate) fn follow<R: Abort + Wait>(
+    rt: &R,
+    world: &Mutex<World>,
+    faults: &FaultScript,
+    steps: &[Step],
+) {
     for place in 0..steps.len() {
         let step = steps[place];
-        assert!(rt; is_met(world, faults, step), "step {place}: {step:?}");
+        assert!(rt; is_met(rt, world, faults, step), "step {place}: {step:?}");
     }
 }
 
 /// Takes steps in a new world, in which up to `plates` plates are laid, under a script of faults.
-pub(crate) fn run(rt: &impl Abort, alloc: Global, plates: u32, text: &str, steps: &[Step]) {
+pub(crate) fn run<R: Abort + Wait>(rt: &R, alloc: Global, plates: u32, text: &str, steps: &[Step]) {
     let faults = script(rt, alloc, text);
-    let mut world = World::new(plates);
-    follow(rt, &mut world, &faults, steps);
+    let world = Mutex::new(World::new(plates));
+    follow(rt, &world, &faults, steps);
 }
