@@ -1,6 +1,6 @@
 //! One axis as it is.
 use crate::motion::{Motion, Path};
-use crate::tables::switch_bit;
+use crate::switches::switch_bit;
 use cell_types::{Axis, Pose, home};
 
 /// An axis as it is: which pose it has, which motion it is in and how many commands have begun one. A belt has the pose

@@ -8,7 +8,7 @@ mod motion;
 mod port;
 mod read;
 mod script;
-mod tables;
+mod switches;
 mod world;
 
 pub use fault::{Fault, PlannedFault};

@@ -1,6 +1,6 @@
 //! The motion of one axis, and how it goes on from reading to reading.
 use crate::fault::Fault;
-use crate::tables::{all_switches, switch_bit};
+use crate::switches::{all_switches, switch_bit};
 use cell_types::{Axis, Pose, Station};
 
 /// Where a motion leads.

@@ -11,14 +11,12 @@ use crate::axis::AxisInWorld;
 use crate::fault::Fault;
 use crate::motion::{Motion, Path, Phase};
 use crate::script::FaultScript;
-use crate::tables::{
-    AXES, faced_station, is_pose_of, place_of_axis, place_of_station, stations_of_motion,
-};
 use cell_diagnosis::Reading;
 use cell_turns::PortFault;
 use cell_types::{
-    Arm, Axis, Belt, Colour, Command, Machine, Pose, STATIONS, Station, axis_of_arm, home,
-    machine_of_axis, machine_of_station, station_of_arm,
+    AXES, Arm, Axis, Belt, Colour, Command, Machine, Pose, STATIONS, Station, axis_number,
+    axis_of_arm, faced, home, is_pose_of, machine_of_axis, machine_of_station, motion_named,
+    station_number, station_of_arm,
 };
 
 /// A simulated cell: where its axes and plates are, which motions go on, its lights, and how often machines met.
@@ -68,23 +66,23 @@ impl World {
     }
 
     fn axis(&self, axis: Axis) -> AxisInWorld {
-        self.axes[place_of_axis(axis)]
+        self.axes[axis_number(axis)]
     }
 
     fn set_motion(&mut self, axis: Axis, motion: Option<Motion>) {
-        self.axes[place_of_axis(axis)].motion = motion;
+        self.axes[axis_number(axis)].motion = motion;
     }
 
     fn set_pose(&mut self, axis: Axis, pose: Pose) {
-        self.axes[place_of_axis(axis)].pose = pose;
+        self.axes[axis_number(axis)].pose = pose;
     }
 
     fn plate(&self, station: Station) -> Option<u32> {
-        self.plates[place_of_station(station)]
+        self.plates[station_number(station)]
     }
 
     fn set_plate(&mut self, station: Station, plate: Option<u32>) {
-        self.plates[place_of_station(station)] = plate;
+        self.plates[station_number(station)] = plate;
     }
 
     fn count_collision(&mut self) {
@@ -121,7 +119,7 @@ impl World {
     // A motion begins in place of the one before. A command that fails counts as a motion, and nothing else comes of it,
     // no collision either. One to a pose that the axis doesn't have begins no motion.
     fn start(&mut self, axis: Axis, to: Pose, faults: &FaultScript) -> Result<(), PortFault> {
-        let place = place_of_axis(axis);
+        let place = axis_number(axis);
         let number = self.axes[place].commands.saturating_add(1);
         self.axes[place].commands = number;
         let fault = faults.fault_of(axis, number);
@@ -139,9 +137,12 @@ impl World {
 
     // Where a command to move an axis leads.
     fn path(&self, axis: Axis, to: Pose) -> Option<Path> {
-        if let Some((from, to)) = stations_of_motion(axis, to) {
-            let plate = self.plate(from);
-            return Some(Path::Stations { from, to, plate });
+        if let Some(motion) = motion_named(axis, to) {
+            return Some(Path::Stations {
+                from: motion.from,
+                to: motion.dest,
+                plate: self.plate(motion.from),
+            });
         }
         if is_belt(axis) || !is_pose_of(axis, to) {
             return None;
@@ -167,7 +168,10 @@ impl World {
         if self.axis(axis_of_arm(arm)).pose != Pose::Out {
             return None;
         }
-        faced_station(arm, self.axis(Axis::RobotTurn).pose)
+        match faced(arm, self.axis(Axis::RobotTurn).pose) {
+            Some(facing) => Some(facing.station),
+            None => None,
+        }
     }
 
     // The motion of a belt ends. That of an axis with switches goes on.
