@@ -112,7 +112,7 @@ pub(crate) fn is_pose_of(axis: Axis, pose: Pose) -> bool
 
 /// The stations where a belt's motion begins and ends; `None` for anything else.
 pub(crate) fn stations_of_motion(axis: Axis, to: Pose) -> Option<(Station, Station)>
-    ensures { IfSome result (λ s. motion_to axis s.1 ≡ Some (record { to = to; from = s.0 })) }
+    ensures { IfSome result (λ s. motion_to axis s.1 ≡ Some (record { to = to; from = s.0; dest = s.1 })) }
 {
     match (axis, to) {
         (Axis::FeedBelt, Pose::ToEnd) => Some((Station::FeedIn, Station::FeedEnd)),

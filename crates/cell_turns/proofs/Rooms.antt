@@ -19,7 +19,8 @@ use Rattle.cell_types.specs.declared.words.Cause.TheVariants as cause
 use Rattle.cell_types.specs.declared.words.Actor.TheVariants as actor
 use Rattle.cell_types.specs.declared.words.Entry.{Entry}
 use Rattle.cell_types.specs.declared.words.Entry.TheVariants.{Admitted, Arrived as ArrivedAt, Conveyed, Forged, Delivered, Declared, Quarantined}
-use Rattle.cell_types.specs.Cell.{machine_of_axis, Motion as BeltMotion, motion_to}
+use Rattle.cell_types.specs.declared.cell.BeltMotion.{BeltMotion}
+use Rattle.cell_types.specs.Cell.{machine_of_axis, motion_to}
 use Rattle.cell_types.specs.Entries.{actor_of}
 use Rattle.cell_types.specs.Same.{same_pose, pose_number, same_colour}
 use Rattle.cell_types.specs.After.{is_plate}
@@ -148,7 +149,7 @@ own_arrived l J a to healthy going ends = record {
   plain = refl;
 }
 
-own_conveyed : (l : Limits) (J : List Entry) (a : Axis) (from dest : Station) (to : Pose) → motion_to a dest ≡ Some (record { to = to; from = from }) → is_failed J (machine_of_axis a) ≡ false → going_of J a ≡ Some to → IsTold J → OwnRuling l J (machine_of_axis a) (books (conveyed J a from dest))
+own_conveyed : (l : Limits) (J : List Entry) (a : Axis) (from dest : Station) (to : Pose) → motion_to a dest ≡ Some (record { to = to; from = from; dest = dest }) → is_failed J (machine_of_axis a) ≡ false → going_of J a ≡ Some to → IsTold J → OwnRuling l J (machine_of_axis a) (books (conveyed J a from dest))
 own_conveyed l J a from dest to is healthy going told = go (plate_of J from) refl
   where
     go : (o : Option ℕ) → plate_of J from ≡ o → OwnRuling l J (machine_of_axis a) (books (option_map (λ k. Conveyed a k dest) o))

@@ -2,23 +2,28 @@
 //! the record in which each entry is written and from which it is read.
 #![tactic(auto)]
 
+pub mod cell;
+pub mod entries;
 pub mod fields;
 pub mod laws;
 pub mod number;
 pub mod plate_id;
 pub mod read;
 pub mod same;
-pub mod tables;
 pub mod texts;
 pub mod words;
 
+pub use cell::{
+    ARMS, AXES, BELTS, BeltMotion, Facing, MACHINES, PRESS1, PRESS2, Press, STATIONS, ZONES,
+    axes_of, axis_number, axis_of_arm, belt_number, drops_at, faced, grips_at, home, is_pose_of,
+    machine_number, machine_of_axis, machine_of_belt, machine_of_station, motion_named, motion_to,
+    owner, place_in_machine, poses_of, press_axis, press_of, station_number, station_of_arm,
+    stations_of, visitor, zone_number,
+};
+pub use entries::{actor_of, command_of};
 pub use fields::{Field, spell};
 pub use plate_id::PlateId;
 pub use read::read_fields;
-pub use tables::{
-    STATIONS, actor_of, axis_of_arm, command_of, home, machine_of_axis, machine_of_belt,
-    machine_of_station, owner, press_axis, station_of_arm, visitor,
-};
 pub use words::{
     Actor, Arm, Axis, AxisState, Belt, Cause, Colour, Command, Entry, Kind, Machine, Place, Pose,
     Station, Totals, Zone,

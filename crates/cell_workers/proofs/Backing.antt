@@ -14,7 +14,8 @@ use Rattle.cell_types.specs.declared.words.Cause.{Cause}
 use Rattle.cell_types.specs.declared.words.Cause.TheVariants as cause
 use Rattle.cell_types.specs.declared.words.Entry.{Entry}
 use Rattle.cell_types.specs.declared.words.Entry.TheVariants.{Admitted, Arrived as ArrivedAt, Conveyed, Forged, Delivered, Declared}
-use Rattle.cell_types.specs.Cell.{press_axis, Motion as BeltMotion, motion_to}
+use Rattle.cell_types.specs.declared.cell.BeltMotion.{BeltMotion}
+use Rattle.cell_types.specs.Cell.{press_axis, motion_to}
 use Rattle.cell_views.specs.Views.{plate_of, is_failed, is_asked, is_admitted}
 use Rattle.cell_views.specs.Told.{Cell, cell_of}
 use Rattle.plate_book.specs.declared.limits.Limits.{Limits}

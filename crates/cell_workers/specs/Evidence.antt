@@ -10,7 +10,8 @@ use Rattle.cell_types.specs.declared.words.Cause.{Cause}
 use Rattle.cell_types.specs.declared.words.Cause.TheVariants as cause
 use Rattle.cell_types.specs.declared.words.Entry.{Entry}
 use Rattle.cell_types.specs.declared.words.Entry.TheVariants.{Admitted, Arrived as ArrivedAt, Conveyed, Forged, Delivered, Declared}
-use Rattle.cell_types.specs.Cell.{machine_of_axis, press_axis, Motion as BeltMotion, motion_to}
+use Rattle.cell_types.specs.declared.cell.BeltMotion.{BeltMotion}
+use Rattle.cell_types.specs.Cell.{machine_of_axis, press_axis, motion_to}
 use Rattle.cell_diagnosis.specs.declared.motion.Motion.{Motion}
 use Rattle.cell_diagnosis.specs.declared.reading.Reading.{Reading}
 use Rattle.cell_diagnosis.specs.declared.expect.Expect.{Expect}

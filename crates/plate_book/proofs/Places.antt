@@ -7,7 +7,8 @@ use Rattle.std.proofs.lemmas.Bool.Decides.{nat_tests}
 use Rattle.cell_types.specs.declared.words.Place.{Place}
 use Rattle.cell_types.specs.declared.words.Entry.{Entry}
 use Rattle.cell_types.specs.declared.words.Entry.TheVariants.{Lamp, Admitted, Claimed, Yielded, Started, Arrived, Conveyed, Forged, Gripped, Dropped, Delivered, Declared, StopAsked, Quarantined, Repaired}
-use Rattle.cell_types.specs.Cell.{Motion, motion_to}
+use Rattle.cell_types.specs.declared.cell.BeltMotion.{BeltMotion}
+use Rattle.cell_types.specs.Cell.{motion_to}
 use Rattle.cell_types.specs.After.{after}
 use Rattle.cell_views.specs.Last.{when}
 use Rattle.cell_views.specs.Told.{cell_of}
@@ -45,7 +46,7 @@ somewhere_small l J k h n =
     (r.0, omega (arith, r.1, c, e))
 
 -- what leaves the cell doesn't come back
-start_at : (o : Option Motion) → (start_of o ≢ Place.Delivered) × (start_of o ≢ Place.Quarantine)
+start_at : (o : Option BeltMotion) → (start_of o ≢ Place.Delivered) × (start_of o ≢ Place.Quarantine)
 start_at None = ((λ e. cc), (λ e. cc))
 start_at (Some m) = ((λ e. cc), (λ e. cc))
 

@@ -1,6 +1,5 @@
 -- Which entries are refused, and by which test: for each kind of entry its tests in the order of the refusals
 use Rattle.std.specs.Prelude.{ℕ, ◌==◌, ◌+◌, nat_le, Bool, true, false, not, ◌&&◌, ◌||◌, Option, Some, None, is_some, is_none, List, [], ◌∷◌, ◌++◌, if◌then◌else◌}
-use Rattle.std.specs.List.{list_any}
 use Rattle.cell_types.specs.declared.words.Machine.{Machine}
 use Rattle.cell_types.specs.declared.words.Machine.TheVariants as machine
 use Rattle.cell_types.specs.declared.words.Station.{Station}
@@ -20,7 +19,8 @@ use Rattle.cell_types.specs.declared.words.Colour.TheVariants as colour
 use Rattle.cell_types.specs.declared.words.Entry.{Entry}
 use Rattle.cell_types.specs.declared.words.Entry.TheVariants.{Lamp, Admitted, Claimed, Yielded, Started, Arrived, Conveyed, Forged, Gripped, Dropped, Delivered, Declared, StopAsked, Quarantined, Repaired}
 use Rattle.cell_types.specs.Same.{same_machine, same_station, same_pose, same_colour}
-use Rattle.cell_types.specs.Cell.{machine_of_axis, machine_of_station, machine_of_belt, poses, owner, visitor, axis_of_arm, station_of_arm, Motion, motion_to, Faced, faced, grips_at, drops_at}
+use Rattle.cell_types.specs.declared.cell.BeltMotion.{BeltMotion}
+use Rattle.cell_types.specs.Cell.{machine_of_axis, machine_of_station, machine_of_belt, is_pose_of, owner, visitor, axis_of_arm, station_of_arm, motion_to, Faced, faced, grips_at, drops_at}
 use Rattle.cell_types.specs.After.{is_machine}
 use Rattle.cell_views.specs.Told.{Cell}
 use Rattle.plate_book.specs.declared.limits.Limits.{Limits}
@@ -79,9 +79,6 @@ not_resting_at c a p = (not (rests_at c a p), WrongPose a)
 abbrev pub all_resting : Cell → List (Axis × Pose) → List (Bool × Refusal)
 all_resting c [] = []
 all_resting c (x ∷ xs) = not_resting_at c x.0 x.1 ∷ all_resting c xs
-
-abbrev pub is_pose_of : Axis → Pose → Bool
-is_pose_of a p = list_any (same_pose p) (poses a)
 
 -- the axis moves, has no such pose or is there already
 abbrev pub cannot_go : Cell → Axis → Pose → Test
@@ -228,7 +225,7 @@ ends_by_arrival _ _ = true
 abbrev pub no_arrival : Cell → Axis → Pose → Test
 no_arrival c a p = (not (is_pose p (c.going a) && ends_by_arrival a p), WrongPose a)
 
-abbrev pub conveyed_tests : Cell → Axis → ℕ → Option Motion → List (Bool × Refusal)
+abbrev pub conveyed_tests : Cell → Axis → ℕ → Option BeltMotion → List (Bool × Refusal)
 conveyed_tests c a k None = no_such_motion a ∷ []
 conveyed_tests c a k (Some m) = not_going c a m.to ∷ plate_not_at c m.from k ∷ []
 
