@@ -26,7 +26,7 @@ use Rattle.cell_diagnosis.specs.RestFacts.{Noted, noted}
 use Rattle.cell_diagnosis.specs.RestRules.{rest}
 use Rattle.cell_turns.specs.declared.plan.Plan.{Plan}
 use Rattle.cell_turns.specs.declared.watch.Memory.{Memory}
-use Rattle.cell_turns.specs.Moving.{limits_of, motion_on, motion_of_machine}
+use Rattle.cell_turns.specs.Moving.{limits_of, motion_on, first_motion, motion_of_machine}
 use Rattle.cell_turns.specs.Signs.{shows_sign}
 use Rattle.cell_turns.specs.Following.{Following}
 use Rattle.cell_turns.specs.Minds.{Mind}
@@ -62,15 +62,18 @@ own_or J p m (Some mo) y h k = h
 own_at : (J : List Entry) (p : Plan) (a : Axis) → IfSome (motion_on J p a) (OwnMotion J p (machine_of_axis a))
 own_at J p a = own_on J p a (going_of J a) refl
 
+own_first : (J : List Entry) (p : Plan) (m : Machine) (a : Axis) (others : List Axis) → machine_of_axis a ≡ m → IfSome (first_motion J p others) (OwnMotion J p m) → IfSome (first_motion J p (a ∷ others)) (OwnMotion J p m)
+own_first J p m a others own h = own_or J p m (motion_on J p a) (first_motion J p others) (subst (λ (n : Machine). IfSome (motion_on J p a) (OwnMotion J p n)) own (own_at J p a)) h
+
 pub own_motion : (J : List Entry) (p : Plan) (m : Machine) → IfSome (motion_of_machine J p m) (OwnMotion J p m)
-own_motion J p machine.Feed = own_at J p axis.FeedBelt
-own_motion J p machine.Table = own_or J p machine.Table (motion_on J p axis.TableLift) (motion_on J p axis.TableTurn) (own_at J p axis.TableLift) (own_at J p axis.TableTurn)
+own_motion J p machine.Feed = own_first J p machine.Feed axis.FeedBelt [] refl tt
+own_motion J p machine.Table = own_first J p machine.Table axis.TableLift (axis.TableTurn ∷ []) refl (own_first J p machine.Table axis.TableTurn [] refl tt)
 own_motion J p machine.Robot =
-    own_or J p machine.Robot (motion_on J p axis.RobotTurn) (option_or (motion_on J p axis.ArmOne) (motion_on J p axis.ArmTwo)) (own_at J p axis.RobotTurn)
-    (own_or J p machine.Robot (motion_on J p axis.ArmOne) (motion_on J p axis.ArmTwo) (own_at J p axis.ArmOne) (own_at J p axis.ArmTwo))
-own_motion J p machine.Press1 = own_at J p axis.PressOne
-own_motion J p machine.Press2 = own_at J p axis.PressTwo
-own_motion J p machine.Deposit = own_at J p axis.DepositBelt
+    own_first J p machine.Robot axis.RobotTurn (axis.ArmOne ∷ axis.ArmTwo ∷ []) refl
+    (own_first J p machine.Robot axis.ArmOne (axis.ArmTwo ∷ []) refl (own_first J p machine.Robot axis.ArmTwo [] refl tt))
+own_motion J p machine.Press1 = own_first J p machine.Press1 axis.PressOne [] refl tt
+own_motion J p machine.Press2 = own_first J p machine.Press2 axis.PressTwo [] refl tt
+own_motion J p machine.Deposit = own_first J p machine.Deposit axis.DepositBelt [] refl tt
 
 -- the axis watch
 

@@ -8,12 +8,12 @@ ghost use Rattle.cell_types.specs.declared.words.Colour.{Colour as ColourValue};
 ghost use Rattle.cell_views.specs.Views.{lamp_of, holder_of};
 ghost use Rattle.cell_turns.specs.Moving.{motion_on, motion_of_machine};
 ghost use Rattle.cell_turns.specs.Visits.{is_visited, was_claimed, is_unvisited};
-ghost use Rattle.cell_turns.specs.Expected.{pose_at_rest, poses_at_rest, bit_where, is_booked_at, booked_plates, belt_bits, unwatched_plates, expected_of};
+ghost use Rattle.cell_turns.specs.Expected.{pose_at_rest, pose_of_axis, poses_at_rest, bit_where, is_booked_at, booked_plates, belt_bits, unwatched_plates, expected_of};
 
 use crate::Plan;
 use crate::watch::Memory;
 use cell_diagnosis::{Expect, Motion};
-use cell_types::{Axis, Belt, Colour, Machine, Pose, Station, Zone, visitor};
+use cell_types::{Axis, Belt, Colour, Machine, Pose, Zone, axes_of, stations_of, visitor};
 use plate_book::Book;
 
 fn motion_on(book: &Book, plan: &Plan, axis: Axis) -> Option<Motion>
@@ -35,22 +35,13 @@ fn motion_on(book: &Book, plan: &Plan, axis: Axis) -> Option<Motion>
 pub fn motion_of_machine(book: &Book, plan: &Plan, machine: Machine) -> Option<Motion>
     ensures { result ≡ motion_of_machine book.now.entries plan.now machine }
 {
-    match machine {
-        Machine::Feed => motion_on(book, plan, Axis::FeedBelt),
-        Machine::Table => motion_on(book, plan, Axis::TableLift).or(motion_on(
-            book,
-            plan,
-            Axis::TableTurn,
-        )),
-        Machine::Robot => motion_on(book, plan, Axis::RobotTurn).or(motion_on(
-            book,
-            plan,
-            Axis::ArmOne,
-        ).or(motion_on(book, plan, Axis::ArmTwo))),
-        Machine::Press1 => motion_on(book, plan, Axis::PressOne),
-        Machine::Press2 => motion_on(book, plan, Axis::PressTwo),
-        Machine::Deposit => motion_on(book, plan, Axis::DepositBelt),
+    let axes = axes_of(machine);
+    for axis in axes {
+        if let Some(motion) = motion_on(book, plan, *axis) {
+            return Some(motion);
+        }
     }
+    None
 }
 
 #[tactic(auto, unfolding(cell_types::specs::After::is_machine))]
@@ -110,25 +101,21 @@ fn pose_at_rest(book: &Book, axis: Axis) -> Option<Pose>
     }
 }
 
+fn pose_of_axis(book: &Book, machine: Machine, i: usize) -> Option<Pose>
+    ensures { result ≡ pose_of_axis book.now.entries machine i }
+{
+    let axis = axes_of(machine).get(i)?;
+    pose_at_rest(book, *axis)
+}
+
 fn poses_at_rest(book: &Book, machine: Machine) -> [Option<Pose>; 3]
     ensures { result ≡ poses_at_rest book.now.entries machine }
 {
-    match machine {
-        Machine::Feed => [pose_at_rest(book, Axis::FeedBelt), None, None],
-        Machine::Table => [
-            pose_at_rest(book, Axis::TableLift),
-            pose_at_rest(book, Axis::TableTurn),
-            None,
-        ],
-        Machine::Robot => [
-            pose_at_rest(book, Axis::RobotTurn),
-            pose_at_rest(book, Axis::ArmOne),
-            pose_at_rest(book, Axis::ArmTwo),
-        ],
-        Machine::Press1 => [pose_at_rest(book, Axis::PressOne), None, None],
-        Machine::Press2 => [pose_at_rest(book, Axis::PressTwo), None, None],
-        Machine::Deposit => [pose_at_rest(book, Axis::DepositBelt), None, None],
-    }
+    [
+        pose_of_axis(book, machine, 0),
+        pose_of_axis(book, machine, 1),
+        pose_of_axis(book, machine, 2),
+    ]
 }
 
 fn bit_where(test: bool, value: u8) -> u8
@@ -138,32 +125,19 @@ fn bit_where(test: bool, value: u8) -> u8
     if test { value } else { 0 }
 }
 
-fn is_booked_at(book: &Book, station: Station) -> bool
-    ensures { result ≡ is_booked_at book.now.entries station }
+fn is_booked_at(book: &Book, machine: Machine, i: usize) -> bool
+    ensures { result ≡ is_booked_at book.now.entries machine i }
 {
-    book.plate_at(station).is_some()
+    match stations_of(machine).get(i) {
+        Some(station) => book.plate_at(*station).is_some(),
+        None => false,
+    }
 }
 
 fn booked_plates(book: &Book, machine: Machine) -> u8
     ensures { result ≡ booked_plates book.now.entries machine }
 {
-    match machine {
-        Machine::Feed => {
-            bit_where(is_booked_at(book, Station::FeedIn), 1)
-                + bit_where(is_booked_at(book, Station::FeedEnd), 2)
-        }
-        Machine::Table => bit_where(is_booked_at(book, Station::Table), 1),
-        Machine::Robot => {
-            bit_where(is_booked_at(book, Station::Arm1), 1)
-                + bit_where(is_booked_at(book, Station::Arm2), 2)
-        }
-        Machine::Press1 => bit_where(is_booked_at(book, Station::Press1), 1),
-        Machine::Press2 => bit_where(is_booked_at(book, Station::Press2), 1),
-        Machine::Deposit => {
-            bit_where(is_booked_at(book, Station::DepIn), 1)
-                + bit_where(is_booked_at(book, Station::DepEnd), 2)
-        }
-    }
+    bit_where(is_booked_at(book, machine, 0), 1) + bit_where(is_booked_at(book, machine, 1), 2)
 }
 
 /// Whether a belt's light is green.
