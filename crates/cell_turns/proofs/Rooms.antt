@@ -31,7 +31,7 @@ use Rattle.cell_views.specs.Told.{Cell, cell_of}
 use Rattle.plate_book.specs.declared.limits.Limits.{Limits}
 use Rattle.plate_book.specs.declared.refusal.Refusal.{Refusal}
 use Rattle.plate_book.specs.declared.refusal.Refusal.TheVariants.{JournalFull, PlateLimit, OutOfMemory}
-use Rattle.plate_book.specs.First.{first_true, is_pose, ends_by_end, conveyed_tests}
+use Rattle.plate_book.specs.First.{first_true, is_pose, ends_by_arrival, conveyed_tests}
 use Rattle.plate_book.specs.Bridged.{IsTold}
 use Rattle.plate_book.specs.Telling.{first_of}
 use Rattle.cell_diagnosis.specs.declared.motion.Motion.{Motion}
@@ -147,10 +147,10 @@ own_declared l J m c healthy = record {
   plain = refl;
 }
 
-own_arrived : (l : Limits) (J : List Entry) (a : Axis) (to : Pose) → is_failed J (machine_of_axis a) ≡ false → going_of J a ≡ Some to → ends_by_end a to ≡ true → IsOwn l J (machine_of_axis a) (ArrivedAt a to)
+own_arrived : (l : Limits) (J : List Entry) (a : Axis) (to : Pose) → is_failed J (machine_of_axis a) ≡ false → going_of J a ≡ Some to → ends_by_arrival a to ≡ true → IsOwn l J (machine_of_axis a) (ArrivedAt a to)
 own_arrived l J a to healthy going ends = record {
   by = refl;
-  room = full_then _ (ArrivedAt a to) _ (skip _ _ (ArrivedAt a to) _ healthy (skip _ _ (ArrivedAt a to) _ (ap (λ (b : Bool). not (b && ends_by_end a to)) (goes J a to going) ∙ ap not ends) (none_left (ArrivedAt a to))));
+  room = full_then _ (ArrivedAt a to) _ (skip _ _ (ArrivedAt a to) _ healthy (skip _ _ (ArrivedAt a to) _ (ap (λ (b : Bool). not (b && ends_by_arrival a to)) (goes J a to going) ∙ ap not ends) (none_left (ArrivedAt a to))));
   plain = refl;
 }
 

@@ -43,14 +43,14 @@ loop-step-preserved g c =
 
 pub returns-in-Err-clause-stopped : goal.returns-in-Err-clause-stopped
 returns-in-Err-clause-stopped g c =
+    let i = c.loop-step.step-index in
+    let below : i < length c.args.steps.now = search rules in
     let was = c.loop-step.invariant in
     let same = c.in-Err.ensures.unchanged in
     let operator = c.loop-step.operator in
     let items = λ (v : Vec Entry _). v.items in
     let tells = g.O.OperatorPort.tells in
     let log = g.O.OperatorPort.log in
-    let i = c.loop-step.step-index in
-    let below : i < length c.args.steps.now = search rules in
     record {
       taken = take i c.args.steps.now;
       next = c.step-item.result;
