@@ -1,4 +1,5 @@
 pub mod Same
+pub mod Limits
 pub mod Cell
 pub mod Entries
 pub mod Texts

@@ -6,6 +6,7 @@ pub mod cell;
 pub mod entries;
 pub mod fields;
 pub mod laws;
+pub mod limits;
 pub mod number;
 pub mod plate_id;
 pub mod read;
@@ -22,6 +23,7 @@ pub use cell::{
 };
 pub use entries::{actor_of, command_of};
 pub use fields::{Field, spell};
+pub use limits::{MAX_ENTRIES, MAX_PLATES};
 pub use plate_id::PlateId;
 pub use read::read_fields;
 pub use words::{

@@ -2,7 +2,7 @@
 ghost use Rattle.std.specs.Prelude.{◌≡◌, ◌≤◌, ◌<◌, ◌^◌, ◌==◌, length, true, Some, None};
 ghost use Rattle.cell_types.specs.Numbers.{plate_of, number_to, is_number, all_digits, value_of};
 
-use crate::PlateId;
+use crate::{MAX_PLATES, PlateId};
 
 /// Whether all bytes are decimal digits.
 fn all_digits(bytes: &[u8]) -> bool
@@ -57,7 +57,7 @@ pub fn read_number(most: u32, bytes: &[u8]) -> Option<u32>
 pub fn read_plate(bytes: &[u8]) -> Option<PlateId>
     ensures { result ≡ plate_of bytes.now }
 {
-    match read_number(100_000, bytes) {
+    match read_number(MAX_PLATES, bytes) {
         Some(number) => PlateId::new(number),
         None => None,
     }

@@ -1,6 +1,8 @@
 //! The number of a plate.
 ghost use Rattle.std.specs.Prelude.{◌≡◌, ◌↔◌, ◌≤◌, IsSome, IfSome};
+ghost use Rattle.cell_types.specs.Limits.{max_plates};
 
+use crate::MAX_PLATES;
 use std::marker::Model;
 
 /// A plate's number, from 1 to 100,000. The limit is this project's profile.
@@ -11,12 +13,13 @@ pub struct PlateId {
 
 impl Model for PlateId {
     ghost use Rattle.std.specs.Prelude.{ℕ, ◌≤◌};
+    ghost use Rattle.cell_types.specs.Limits.{max_plates};
 
     ghost Value = { ℕ };
 
     ghost view = { λ p. p.number };
 
-    ghost invariant = { λ p. (1 ≤ p.number) × (p.number ≤ 100000) };
+    ghost invariant = { λ p. (1 ≤ p.number) × (p.number ≤ max_plates) };
 
     ghost inverse = { λ n. record { number = n } };
 }
@@ -24,10 +27,10 @@ impl Model for PlateId {
 impl PlateId {
     /// The plate of this number; `None` outside 1..=100,000.
     pub fn new(number: u32) -> Option<Self>
-        ensures valid { IsSome result ↔ (1 ≤ number) × (number ≤ 100000) }
+        ensures valid { IsSome result ↔ (1 ≤ number) × (number ≤ max_plates) }
         ensures value { IfSome result (λ plate. plate ≡ number) }
     {
-        if 1 <= number && number <= 100000 {
+        if 1 <= number && number <= MAX_PLATES {
             Some(PlateId { number })
         } else {
             None
@@ -38,7 +41,7 @@ impl PlateId {
     pub fn number(self) -> u32
         ensures value { result ≡ self }
         ensures positive { 1 ≤ result }
-        ensures limited { result ≤ 100000 }
+        ensures limited { result ≤ max_plates }
     {
         self.number
     }
