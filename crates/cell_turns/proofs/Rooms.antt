@@ -1,8 +1,8 @@
 -- What a turn decides is the machine's own, and is refused only for want of room
-use Rattle.std.proofs.Common.{◌≡◌, ◌≢◌, IfSome, ℕ, ◌+◌, Bool, true, false, ◌&&◌, not, nat_lt, Option, Some, None, List, [], ◌∷◌, is_some, if◌then◌else◌, refl, sym, ap, ◌∙◌, subst, ◌⊎◌, inl, inr}
+use Rattle.std.proofs.Common.{◌≡◌, ◌≢◌, IfSome, ℕ, zero, suc, ◌+◌, Bool, true, false, ◌&&◌, not, nat_lt, Option, Some, None, List, [], ◌∷◌, is_some, if◌then◌else◌, refl, sym, ap, ◌∙◌, subst, ◌⊎◌, inl, inr}
 use Rattle.std.proofs.Common.{eq-eqb}
-use Rattle.std.specs.Option.{option_map, option_or}
-use Rattle.std.specs.List.{count_by}
+use Rattle.std.specs.Option.{option_map, option_or, option_and_then}
+use Rattle.std.specs.List.{count_by, slice_get}
 use Rattle.cell_types.specs.declared.words.Machine.{Machine}
 use Rattle.cell_types.specs.declared.words.Machine.TheVariants as machine
 use Rattle.cell_types.specs.declared.words.Station.{Station}
@@ -22,7 +22,7 @@ use Rattle.cell_types.specs.declared.words.Actor.TheVariants as actor
 use Rattle.cell_types.specs.declared.words.Entry.{Entry}
 use Rattle.cell_types.specs.declared.words.Entry.TheVariants.{Admitted, Arrived as ArrivedAt, Conveyed, Forged, Delivered, Declared, Quarantined}
 use Rattle.cell_types.specs.declared.cell.BeltMotion.{BeltMotion}
-use Rattle.cell_types.specs.Cell.{machine_of_axis, motion_to}
+use Rattle.cell_types.specs.Cell.{machine_of_axis, axes_of, motion_to}
 use Rattle.cell_types.specs.Entries.{actor_of}
 use Rattle.cell_types.specs.Same.{same_pose, pose_number, same_colour}
 use Rattle.cell_types.specs.After.{is_plate}
@@ -40,7 +40,7 @@ use Rattle.cell_diagnosis.specs.declared.verdict.Verdict.TheVariants.{Pending, A
 use Rattle.cell_turns.specs.declared.plan.Plan.{Plan}
 use Rattle.cell_turns.specs.declared.turns.decide.Ruling.{Ruling}
 use Rattle.cell_turns.specs.declared.turns.decide.Ruling.TheVariants.{Nothing, Books, PastLast, Proposes}
-use Rattle.cell_turns.specs.Moving.{limits_of, motion_on, first_motion, motion_of_machine}
+use Rattle.cell_turns.specs.Moving.{limits_of, motion_on, motion_of_axis, motion_of_machine}
 use Rattle.cell_turns.specs.Rulings.{conveyed, forged, ending, next_plate, books, signed, ruling_by, ruling}
 use Rattle.cell_diagnosis.specs.declared.reading.Reading.{Reading}
 use Rattle.cell_diagnosis.specs.Readings.{bit}
@@ -125,18 +125,35 @@ or_shown : (J : List Entry) (m : Machine) (o q : Option Motion) → AreShown J m
 or_shown J m None q h k = k
 or_shown J m (Some mo) q h k = h
 
-first_shown : (J : List Entry) (m : Machine) (p : Plan) (a : Axis) (others : List Axis) → machine_of_axis a ≡ m → AreShown J m (first_motion J p others) → AreShown J m (first_motion J p (a ∷ others))
-first_shown J m p a others own h = or_shown J m (motion_on J p a) (first_motion J p others) (subst (λ (n : Machine). AreShown J n (motion_on J p a)) own (on_shown J p a)) h
+-- the axes of a machine are its own
+pub own_axis : (m : Machine) (i : ℕ) → IfSome (slice_get (axes_of m) i) (λ a. machine_of_axis a ≡ m)
+own_axis machine.Feed zero = refl
+own_axis machine.Feed (suc i) = tt
+own_axis machine.Table zero = refl
+own_axis machine.Table (suc zero) = refl
+own_axis machine.Table (suc (suc i)) = tt
+own_axis machine.Robot zero = refl
+own_axis machine.Robot (suc zero) = refl
+own_axis machine.Robot (suc (suc zero)) = refl
+own_axis machine.Robot (suc (suc (suc i))) = tt
+own_axis machine.Press1 zero = refl
+own_axis machine.Press1 (suc i) = tt
+own_axis machine.Press2 zero = refl
+own_axis machine.Press2 (suc i) = tt
+own_axis machine.Deposit zero = refl
+own_axis machine.Deposit (suc i) = tt
+
+axis_shown : (J : List Entry) (p : Plan) (m : Machine) (i : ℕ) → AreShown J m (motion_of_axis J p m i)
+axis_shown J p m i = go (slice_get (axes_of m) i) (own_axis m i)
+  where
+    go : (o : Option Axis) → IfSome o (λ a. machine_of_axis a ≡ m) → AreShown J m (option_and_then (motion_on J p) o)
+    go None own = tt
+    go (Some a) own = subst (λ (n : Machine). AreShown J n (motion_on J p a)) own (on_shown J p a)
 
 pub shown : (J : List Entry) (p : Plan) (m : Machine) → AreShown J m (motion_of_machine J p m)
-shown J p machine.Feed = first_shown J machine.Feed p axis.FeedBelt [] refl tt
-shown J p machine.Table = first_shown J machine.Table p axis.TableLift (axis.TableTurn ∷ []) refl (first_shown J machine.Table p axis.TableTurn [] refl tt)
-shown J p machine.Robot =
-    first_shown J machine.Robot p axis.RobotTurn (axis.ArmOne ∷ axis.ArmTwo ∷ []) refl
-    (first_shown J machine.Robot p axis.ArmOne (axis.ArmTwo ∷ []) refl (first_shown J machine.Robot p axis.ArmTwo [] refl tt))
-shown J p machine.Press1 = first_shown J machine.Press1 p axis.PressOne [] refl tt
-shown J p machine.Press2 = first_shown J machine.Press2 p axis.PressTwo [] refl tt
-shown J p machine.Deposit = first_shown J machine.Deposit p axis.DepositBelt [] refl tt
+shown J p m =
+    or_shown J m (option_or (motion_of_axis J p m 0) (motion_of_axis J p m 1)) (motion_of_axis J p m 2)
+    (or_shown J m (motion_of_axis J p m 0) (motion_of_axis J p m 1) (axis_shown J p m 0) (axis_shown J p m 1)) (axis_shown J p m 2)
 
 -- each entry that may be decided
 

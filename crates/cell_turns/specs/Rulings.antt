@@ -15,7 +15,9 @@ use Rattle.cell_types.specs.declared.words.Entry.TheVariants.{Admitted, Arrived 
 use Rattle.cell_types.specs.declared.cell.BeltMotion.{BeltMotion}
 use Rattle.cell_types.specs.declared.cell.Press.{Press}
 use Rattle.cell_types.specs.Cell.{home, machine_of_axis, motion_named, press_of}
+use Rattle.cell_types.specs.Limits.{max_plates}
 use Rattle.cell_types.specs.Same.{same_pose}
+use Rattle.cell_views.specs.Last.{when}
 use Rattle.cell_views.specs.Views.{is_failed, is_asked, is_admitted, plate_of}
 use Rattle.cell_diagnosis.specs.declared.motion.Motion.{Motion}
 use Rattle.cell_diagnosis.specs.declared.reading.Reading.{Reading}
@@ -50,9 +52,9 @@ ended J a to None None = arrived a to
 abbrev pub ending : List Entry → Axis → Pose → Option Entry
 ending J a to = ended J a to (motion_named a to) (press_of (machine_of_axis a))
 
--- what is booked where a sign was seen: the next plate, whose number is at most 100,000, or the delivery of the one at DepEnd
+-- what is booked where a sign was seen: the next plate, whose number is at most the greatest, or the delivery of the one at DepEnd
 abbrev pub next_plate : ℕ → Ruling
-next_plate k = if nat_lt 100000 k then PastLast else Books (Admitted k)
+next_plate k = if nat_lt max_plates k then PastLast else Books (Admitted k)
 
 abbrev pub books : Option Entry → Ruling
 books (Some e) = Books e
@@ -68,20 +70,16 @@ signed J _ = Proposes
 abbrev pub declares : Machine → Cause → Ruling
 declares m why = Books (Declared m why)
 
--- a point that applies under a condition
-abbrev pub when : Bool → Ruling → Option Ruling
-when applies k = if applies then Some k else None
-
 -- a watch found a fault
-abbrev pub fault_of : Machine → Verdict → Option Ruling
-fault_of m (Fault why) = Some (declares m why)
-fault_of m _ = None
+abbrev pub fault_found : Machine → Verdict → Option Ruling
+fault_found m (Fault why) = Some (declares m why)
+fault_found m _ = None
 
 -- the motion has ended
-abbrev pub end_of : List Entry → Option Motion → Verdict → Option Ruling
-end_of J None at_axis = None
-end_of J (Some motion) Arrived = Some (books (ending J motion.axis motion.to))
-end_of J (Some motion) _ = None
+abbrev pub end_found : List Entry → Option Motion → Verdict → Option Ruling
+end_found J None at_axis = None
+end_found J (Some motion) Arrived = Some (books (ending J motion.axis motion.to))
+end_found J (Some motion) _ = None
 
 -- the ruling of the first point that applies
 abbrev pub first_ruling : List (Option Ruling) → Ruling
@@ -100,9 +98,9 @@ ruling_by J m kept found =
     ∷ when kept.command_failed (declares m cause.CommandFault)
     ∷ when (is_asked J m) (declares m cause.OperatorStop)
     ∷ when kept.failed Proposes
-    ∷ fault_of m found.at_axis
-    ∷ fault_of m found.at_rest
-    ∷ end_of J found.motion found.at_axis
+    ∷ fault_found m found.at_axis
+    ∷ fault_found m found.at_rest
+    ∷ end_found J found.motion found.at_axis
     ∷ when (kept.sign && found.sign) (signed J m)
     ∷ Some Proposes
     ∷ [])

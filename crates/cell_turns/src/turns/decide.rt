@@ -6,13 +6,10 @@ ghost use Rattle.cell_turns.specs.Rulings.{forged, conveyed, arrived, ending, ne
 use crate::watch::Memory;
 use cell_diagnosis::{Motion, Verdict};
 use cell_types::{
-    Axis, BeltMotion, Cause, Entry, Machine, PlateId, Pose, Press, Station, home, machine_of_axis,
-    motion_named, press_of,
+    Axis, BeltMotion, Cause, Entry, MAX_PLATES, Machine, PlateId, Pose, Press, Station, home,
+    machine_of_axis, motion_named, press_of,
 };
 use plate_book::Book;
-
-/// The greatest number of a plate.
-const LAST_PLATE: u32 = 100_000;
 
 /// What a turn found when it noted its reading.
 #[derive(Clone, Copy, PartialEq, Eq, Debug)]
@@ -96,7 +93,7 @@ fn ending(book: &Book, axis: Axis, to: Pose) -> Option<Entry>
 fn next_plate(admitted: u32) -> Ruling
     ensures { result ≡ next_plate (admitted + 1) }
 {
-    if admitted >= LAST_PLATE {
+    if admitted >= MAX_PLATES {
         return Ruling::PastLast;
     }
     match PlateId::new(admitted + 1) {
@@ -144,7 +141,7 @@ fn declares(machine: Machine, cause: Cause) -> Ruling
 /// 7. The motion has ended: `Forged` for a press at Top, `Conveyed` for a belt, else `Arrived`.
 /// 8. This reading and the last one show a sign: `Admitted` with the next number, or `Delivered` of the plate at DepEnd.
 /// 9. An entry is proposed.
-pub fn decide(book: &Book, machine: Machine, kept: &Memory, found: &Findings) -> Ruling
+pub(crate) fn decide(book: &Book, machine: Machine, kept: &Memory, found: &Findings) -> Ruling
     ensures { result ≡ ruling_by book.now.entries machine kept.now found.now }
 {
     if book.failed(machine) {

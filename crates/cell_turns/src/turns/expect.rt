@@ -6,7 +6,7 @@ ghost use Rattle.cell_types.specs.After.{is_machine};
 ghost use Rattle.cell_types.specs.Same.{same_colour};
 ghost use Rattle.cell_types.specs.declared.words.Colour.{Colour as ColourValue};
 ghost use Rattle.cell_views.specs.Views.{lamp_of, holder_of};
-ghost use Rattle.cell_turns.specs.Moving.{motion_on, motion_of_machine};
+ghost use Rattle.cell_turns.specs.Moving.{motion_on, motion_of_axis, motion_of_machine};
 ghost use Rattle.cell_turns.specs.Visits.{is_visited, was_claimed, is_unvisited};
 ghost use Rattle.cell_turns.specs.Expected.{pose_at_rest, pose_of_axis, poses_at_rest, bit_where, is_booked_at, booked_plates, belt_bits, unwatched_plates, expected_of};
 
@@ -31,17 +31,20 @@ fn motion_on(book: &Book, plan: &Plan, axis: Axis) -> Option<Motion>
     }
 }
 
+fn motion_of_axis(book: &Book, plan: &Plan, machine: Machine, i: usize) -> Option<Motion>
+    ensures { result ≡ motion_of_axis book.now.entries plan.now machine i }
+{
+    let axis = axes_of(machine).get(i)?;
+    motion_on(book, plan, *axis)
+}
+
 /// The motion of the machine's axis that moves, if one does.
 pub fn motion_of_machine(book: &Book, plan: &Plan, machine: Machine) -> Option<Motion>
     ensures { result ≡ motion_of_machine book.now.entries plan.now machine }
 {
-    let axes = axes_of(machine);
-    for axis in axes {
-        if let Some(motion) = motion_on(book, plan, *axis) {
-            return Some(motion);
-        }
-    }
-    None
+    motion_of_axis(book, plan, machine, 0)
+        .or(motion_of_axis(book, plan, machine, 1))
+        .or(motion_of_axis(book, plan, machine, 2))
 }
 
 #[tactic(auto, unfolding(cell_types::specs::After::is_machine))]
@@ -55,7 +58,7 @@ fn is_held_by_visitor(book: &Book, zone: Zone) -> bool
 }
 
 /// Whether a visitor holds a zone of the machine.
-pub fn is_visited(book: &Book, machine: Machine) -> bool
+pub(crate) fn is_visited(book: &Book, machine: Machine) -> bool
     ensures { result ≡ is_visited book.now.entries machine }
 {
     match machine {
@@ -70,7 +73,7 @@ pub fn is_visited(book: &Book, machine: Machine) -> bool
 }
 
 /// Whether a visitor claimed a zone of the machine at place `i` of the journal or later.
-pub fn was_claimed(book: &Book, machine: Machine, i: u32) -> bool
+pub(crate) fn was_claimed(book: &Book, machine: Machine, i: u32) -> bool
     ensures { result ≡ was_claimed book.now.entries machine i }
 {
     match machine {
@@ -83,7 +86,7 @@ pub fn was_claimed(book: &Book, machine: Machine, i: u32) -> bool
 }
 
 /// Whether no visitor holds a zone of the machine, none held one at its last turn, and none claimed one since.
-pub fn is_unvisited(book: &Book, machine: Machine, kept: &Memory) -> bool
+pub(crate) fn is_unvisited(book: &Book, machine: Machine, kept: &Memory) -> bool
     ensures { result ≡ is_unvisited book.now.entries machine kept.now }
 {
     let visited = is_visited(book, machine);
@@ -141,7 +144,7 @@ fn booked_plates(book: &Book, machine: Machine) -> u8
 }
 
 /// Whether a belt's light is green.
-pub fn is_green(book: &Book, belt: Belt) -> bool
+pub(crate) fn is_green(book: &Book, belt: Belt) -> bool
     ensures { result ≡ same_colour (lamp_of book.now.entries belt) ColourValue.Green }
 {
     book.lamp(belt) == Colour::Green
@@ -170,7 +173,7 @@ fn unwatched_plates(book: &Book, machine: Machine) -> u8
 }
 
 /// What the machine's axes at rest and its stations have to show; presence is looked at where no visitor may be there.
-pub fn expected_of(book: &Book, machine: Machine, unvisited: bool) -> Expect
+pub(crate) fn expected_of(book: &Book, machine: Machine, unvisited: bool) -> Expect
     ensures { result ≡ expected_of book.now.entries machine unvisited }
 {
     Expect {
