@@ -28,8 +28,6 @@ use Rattle.cell_turns.specs.declared.plan.Plan.{Plan}
 use Rattle.cell_turns.specs.declared.turns.decide.Ruling.{Ruling}
 use Rattle.cell_turns.specs.declared.turns.decide.Ruling.TheVariants.{Nothing, Books, PastLast, Proposes}
 use Rattle.cell_turns.specs.Sent.{is_command_fault}
-use Rattle.cell_turns.specs.Moving.{motion_of_machine}
-use Rattle.cell_turns.specs.Signs.{shows_sign}
 use Rattle.cell_turns.specs.declared.watch.Memory.{Memory}
 use Rattle.cell_turns.specs.declared.watch.Watch.{Watch}
 use Rattle.cell_turns.specs.Minds.{Mind, FitsMind, has_failed_command}

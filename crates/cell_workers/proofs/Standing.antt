@@ -13,7 +13,7 @@ use Rattle.cell_types.specs.declared.words.Pose.TheVariants as pose
 use Rattle.cell_types.specs.declared.words.Actor.TheVariants as actor
 use Rattle.cell_types.specs.declared.words.Actor.{Actor}
 use Rattle.cell_types.specs.declared.words.Entry.{Entry}
-use Rattle.cell_types.specs.declared.words.Entry.TheVariants.{Lamp, Admitted, Conveyed, Forged, Delivered, Declared, StopAsked, Quarantined, Repaired}
+use Rattle.cell_types.specs.declared.words.Entry.TheVariants.{Lamp, Admitted, Conveyed, Forged, Delivered, StopAsked, Quarantined, Repaired}
 use Rattle.cell_types.specs.Entries.{actor_of}
 use Rattle.cell_views.specs.Views.{plate_of, is_failed, is_asked, is_admitted}
 use Rattle.plate_book.specs.declared.limits.Limits.{Limits}
