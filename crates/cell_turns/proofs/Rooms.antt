@@ -1,8 +1,8 @@
 -- What a turn decides is the machine's own, and is refused only for want of room
-use Rattle.std.proofs.Common.{◌≡◌, ◌≢◌, IfSome, ℕ, ◌+◌, Bool, true, false, ◌&&◌, not, nat_lt, Option, Some, None, List, [], ◌∷◌, is_some, if◌then◌else◌, refl, sym, ap, ◌∙◌, subst, ◌⊎◌, inl, inr}
+use Rattle.std.proofs.Common.{◌≡◌, ◌≢◌, IfSome, ℕ, zero, suc, ◌+◌, Bool, true, false, ◌&&◌, not, nat_lt, Option, Some, None, List, [], ◌∷◌, is_some, if◌then◌else◌, refl, sym, ap, ◌∙◌, subst, ◌⊎◌, inl, inr}
 use Rattle.std.proofs.Common.{eq-eqb}
-use Rattle.std.specs.Option.{option_map, option_or}
-use Rattle.std.specs.List.{count_by}
+use Rattle.std.specs.Option.{option_map, option_or, option_and_then}
+use Rattle.std.specs.List.{count_by, slice_get}
 use Rattle.cell_types.specs.declared.words.Machine.{Machine}
 use Rattle.cell_types.specs.declared.words.Machine.TheVariants as machine
 use Rattle.cell_types.specs.declared.words.Station.{Station}
@@ -12,6 +12,8 @@ use Rattle.cell_types.specs.declared.words.Axis.TheVariants as axis
 use Rattle.cell_types.specs.declared.words.Pose.{Pose}
 use Rattle.cell_types.specs.declared.words.Pose.TheVariants as pose
 use Rattle.cell_types.specs.declared.words.Belt.TheVariants as belt
+use Rattle.cell_types.specs.declared.words.Zone.TheVariants as zone
+use Rattle.cell_types.specs.declared.cell.Press.{Press}
 use Rattle.cell_types.specs.declared.words.Colour.{Colour}
 use Rattle.cell_types.specs.declared.words.Colour.TheVariants as colour
 use Rattle.cell_types.specs.declared.words.Cause.{Cause}
@@ -20,7 +22,7 @@ use Rattle.cell_types.specs.declared.words.Actor.TheVariants as actor
 use Rattle.cell_types.specs.declared.words.Entry.{Entry}
 use Rattle.cell_types.specs.declared.words.Entry.TheVariants.{Admitted, Arrived as ArrivedAt, Conveyed, Forged, Delivered, Declared, Quarantined}
 use Rattle.cell_types.specs.declared.cell.BeltMotion.{BeltMotion}
-use Rattle.cell_types.specs.Cell.{machine_of_axis, motion_to}
+use Rattle.cell_types.specs.Cell.{machine_of_axis, axes_of, motion_to}
 use Rattle.cell_types.specs.Entries.{actor_of}
 use Rattle.cell_types.specs.Same.{same_pose, pose_number, same_colour}
 use Rattle.cell_types.specs.After.{is_plate}
@@ -38,7 +40,7 @@ use Rattle.cell_diagnosis.specs.declared.verdict.Verdict.TheVariants.{Pending, A
 use Rattle.cell_turns.specs.declared.plan.Plan.{Plan}
 use Rattle.cell_turns.specs.declared.turns.decide.Ruling.{Ruling}
 use Rattle.cell_turns.specs.declared.turns.decide.Ruling.TheVariants.{Nothing, Books, PastLast, Proposes}
-use Rattle.cell_turns.specs.Moving.{limits_of, motion_on, motion_of_machine}
+use Rattle.cell_turns.specs.Moving.{limits_of, motion_on, motion_of_axis, motion_of_machine}
 use Rattle.cell_turns.specs.Rulings.{conveyed, forged, ending, next_plate, books, signed, ruling_by, ruling}
 use Rattle.cell_diagnosis.specs.declared.reading.Reading.{Reading}
 use Rattle.cell_diagnosis.specs.Readings.{bit}
@@ -123,15 +125,35 @@ or_shown : (J : List Entry) (m : Machine) (o q : Option Motion) → AreShown J m
 or_shown J m None q h k = k
 or_shown J m (Some mo) q h k = h
 
+-- the axes of a machine are its own
+pub own_axis : (m : Machine) (i : ℕ) → IfSome (slice_get (axes_of m) i) (λ a. machine_of_axis a ≡ m)
+own_axis machine.Feed zero = refl
+own_axis machine.Feed (suc i) = tt
+own_axis machine.Table zero = refl
+own_axis machine.Table (suc zero) = refl
+own_axis machine.Table (suc (suc i)) = tt
+own_axis machine.Robot zero = refl
+own_axis machine.Robot (suc zero) = refl
+own_axis machine.Robot (suc (suc zero)) = refl
+own_axis machine.Robot (suc (suc (suc i))) = tt
+own_axis machine.Press1 zero = refl
+own_axis machine.Press1 (suc i) = tt
+own_axis machine.Press2 zero = refl
+own_axis machine.Press2 (suc i) = tt
+own_axis machine.Deposit zero = refl
+own_axis machine.Deposit (suc i) = tt
+
+axis_shown : (J : List Entry) (p : Plan) (m : Machine) (i : ℕ) → AreShown J m (motion_of_axis J p m i)
+axis_shown J p m i = go (slice_get (axes_of m) i) (own_axis m i)
+  where
+    go : (o : Option Axis) → IfSome o (λ a. machine_of_axis a ≡ m) → AreShown J m (option_and_then (motion_on J p) o)
+    go None own = tt
+    go (Some a) own = subst (λ (n : Machine). AreShown J n (motion_on J p a)) own (on_shown J p a)
+
 pub shown : (J : List Entry) (p : Plan) (m : Machine) → AreShown J m (motion_of_machine J p m)
-shown J p machine.Feed = on_shown J p axis.FeedBelt
-shown J p machine.Table = or_shown J machine.Table (motion_on J p axis.TableLift) (motion_on J p axis.TableTurn) (on_shown J p axis.TableLift) (on_shown J p axis.TableTurn)
-shown J p machine.Robot =
-    or_shown J machine.Robot (motion_on J p axis.RobotTurn) (option_or (motion_on J p axis.ArmOne) (motion_on J p axis.ArmTwo)) (on_shown J p axis.RobotTurn)
-    (or_shown J machine.Robot (motion_on J p axis.ArmOne) (motion_on J p axis.ArmTwo) (on_shown J p axis.ArmOne) (on_shown J p axis.ArmTwo))
-shown J p machine.Press1 = on_shown J p axis.PressOne
-shown J p machine.Press2 = on_shown J p axis.PressTwo
-shown J p machine.Deposit = on_shown J p axis.DepositBelt
+shown J p m =
+    or_shown J m (option_or (motion_of_axis J p m 0) (motion_of_axis J p m 1)) (motion_of_axis J p m 2)
+    (or_shown J m (motion_of_axis J p m 0) (motion_of_axis J p m 1) (axis_shown J p m 0) (axis_shown J p m 1)) (axis_shown J p m 2)
 
 -- each entry that may be decided
 
@@ -149,20 +171,26 @@ own_arrived l J a to healthy going ends = record {
   plain = refl;
 }
 
-own_conveyed : (l : BookLimits) (J : List Entry) (a : Axis) (from dest : Station) (to : Pose) → motion_to a dest ≡ Some (record { to = to; from = from; dest = dest }) → is_failed J (machine_of_axis a) ≡ false → going_of J a ≡ Some to → TellsWhatIsLeft J → OwnRuling l J (machine_of_axis a) (books (conveyed J a from dest))
-own_conveyed l J a from dest to is healthy going told = go (plate_of J from) refl
+own_conveyed : (l : BookLimits) (J : List Entry) (a : Axis) (conveys : BeltMotion) → motion_to a conveys.dest ≡ Some conveys → is_failed J (machine_of_axis a) ≡ false → going_of J a ≡ Some conveys.to → TellsWhatIsLeft J → OwnRuling l J (machine_of_axis a) (books (conveyed J a conveys))
+own_conveyed l J a conveys is healthy going told = go (plate_of J conveys.from) refl
   where
-    go : (o : Option ℕ) → plate_of J from ≡ o → OwnRuling l J (machine_of_axis a) (books (option_map (λ k. Conveyed a k dest) o))
+    go : (o : Option ℕ) → plate_of J conveys.from ≡ o → OwnRuling l J (machine_of_axis a) (books (option_map (λ k. Conveyed a k conveys.dest) o))
     go None at = tt
     go (Some k) at = record {
       by = refl;
-      room = full_then _ (Conveyed a k dest) _ (skip _ _ (Conveyed a k dest) _ healthy
-          (subst (λ (mo : Option BeltMotion). may_meet (Conveyed a k dest) (first_true (conveyed_tests (situation_of J) a k mo)) ≡ true) (sym is)
-          (skip _ _ (Conveyed a k dest) _ (ap not (goes J a to going)) (skip _ _ (Conveyed a k dest) _ (ap not (holds J from k told at)) (none_left (Conveyed a k dest))))));
+      room = full_then _ (Conveyed a k conveys.dest) _ (skip _ _ (Conveyed a k conveys.dest) _ healthy
+          (subst (λ (mo : Option BeltMotion). may_meet (Conveyed a k conveys.dest) (first_true (conveyed_tests (situation_of J) a k mo)) ≡ true) (sym is)
+          (skip _ _ (Conveyed a k conveys.dest) _ (ap not (goes J a conveys.to going)) (skip _ _ (Conveyed a k conveys.dest) _ (ap not (holds J conveys.from k told at)) (none_left (Conveyed a k conveys.dest))))));
       plain = refl;
     }
 
-own_forged1 : (l : BookLimits) (J : List Entry) → is_failed J machine.Press1 ≡ false → going_of J axis.PressOne ≡ Some pose.Top → TellsWhatIsLeft J → OwnRuling l J machine.Press1 (books (forged J machine.Press1 station.Press1))
+abbrev first_press : Press
+first_press = record { machine = machine.Press1; axis = axis.PressOne; zone = zone.Z3; station = station.Press1 }
+
+abbrev second_press : Press
+second_press = record { machine = machine.Press2; axis = axis.PressTwo; zone = zone.Z4; station = station.Press2 }
+
+own_forged1 : (l : BookLimits) (J : List Entry) → is_failed J machine.Press1 ≡ false → going_of J axis.PressOne ≡ Some pose.Top → TellsWhatIsLeft J → OwnRuling l J machine.Press1 (books (forged J first_press))
 own_forged1 l J healthy going told = go (plate_of J station.Press1) refl
   where
     go : (o : Option ℕ) → plate_of J station.Press1 ≡ o → OwnRuling l J machine.Press1 (books (option_map (λ k. Forged machine.Press1 k) o))
@@ -174,7 +202,7 @@ own_forged1 l J healthy going told = go (plate_of J station.Press1) refl
       plain = refl;
     }
 
-own_forged2 : (l : BookLimits) (J : List Entry) → is_failed J machine.Press2 ≡ false → going_of J axis.PressTwo ≡ Some pose.Top → TellsWhatIsLeft J → OwnRuling l J machine.Press2 (books (forged J machine.Press2 station.Press2))
+own_forged2 : (l : BookLimits) (J : List Entry) → is_failed J machine.Press2 ≡ false → going_of J axis.PressTwo ≡ Some pose.Top → TellsWhatIsLeft J → OwnRuling l J machine.Press2 (books (forged J second_press))
 own_forged2 l J healthy going told = go (plate_of J station.Press2) refl
   where
     go : (o : Option ℕ) → plate_of J station.Press2 ≡ o → OwnRuling l J machine.Press2 (books (option_map (λ k. Forged machine.Press2 k) o))
@@ -187,10 +215,10 @@ own_forged2 l J healthy going told = go (plate_of J station.Press2) refl
     }
 
 own_ending : (l : BookLimits) (J : List Entry) (a : Axis) (to : Pose) → is_failed J (machine_of_axis a) ≡ false → going_of J a ≡ Some to → TellsWhatIsLeft J → OwnRuling l J (machine_of_axis a) (books (ending J a to))
-own_ending l J axis.FeedBelt pose.ToEnd healthy going told = own_conveyed l J axis.FeedBelt station.FeedIn station.FeedEnd pose.ToEnd refl healthy going told
-own_ending l J axis.FeedBelt pose.ToTable healthy going told = own_conveyed l J axis.FeedBelt station.FeedEnd station.Table pose.ToTable refl healthy going told
+own_ending l J axis.FeedBelt pose.ToEnd healthy going told = own_conveyed l J axis.FeedBelt (record { to = pose.ToEnd; from = station.FeedIn; dest = station.FeedEnd }) refl healthy going told
+own_ending l J axis.FeedBelt pose.ToTable healthy going told = own_conveyed l J axis.FeedBelt (record { to = pose.ToTable; from = station.FeedEnd; dest = station.Table }) refl healthy going told
 own_ending l J axis.FeedBelt _ healthy going told = tt
-own_ending l J axis.DepositBelt pose.ToEnd healthy going told = own_conveyed l J axis.DepositBelt station.DepIn station.DepEnd pose.ToEnd refl healthy going told
+own_ending l J axis.DepositBelt pose.ToEnd healthy going told = own_conveyed l J axis.DepositBelt (record { to = pose.ToEnd; from = station.DepIn; dest = station.DepEnd }) refl healthy going told
 own_ending l J axis.DepositBelt _ healthy going told = tt
 own_ending l J axis.PressOne pose.Top healthy going told = own_forged1 l J healthy going told
 own_ending l J axis.PressTwo pose.Top healthy going told = own_forged2 l J healthy going told

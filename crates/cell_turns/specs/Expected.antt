@@ -1,9 +1,9 @@
 -- What a machine at rest has to show, as the journal books it
 use Rattle.std.specs.Prelude.{ℕ, ◌+◌, Bool, Option, Some, None, List, [], ◌∷◌, is_some, if◌then◌else◌}
+use Rattle.std.specs.Option.{option_and_then}
+use Rattle.std.specs.List.{slice_get}
 use Rattle.cell_types.specs.declared.words.Machine.{Machine}
 use Rattle.cell_types.specs.declared.words.Machine.TheVariants as machine
-use Rattle.cell_types.specs.declared.words.Station.{Station}
-use Rattle.cell_types.specs.declared.words.Station.TheVariants as station
 use Rattle.cell_types.specs.declared.words.Axis.{Axis}
 use Rattle.cell_types.specs.declared.words.Axis.TheVariants as axis
 use Rattle.cell_types.specs.declared.words.Pose.{Pose}
@@ -11,6 +11,7 @@ use Rattle.cell_types.specs.declared.words.Belt.{Belt}
 use Rattle.cell_types.specs.declared.words.Belt.TheVariants as belt
 use Rattle.cell_types.specs.declared.words.Colour.TheVariants as colour
 use Rattle.cell_types.specs.declared.words.Entry.{Entry}
+use Rattle.cell_types.specs.Cell.{axes_of, stations_of}
 use Rattle.cell_types.specs.Same.{same_colour}
 use Rattle.cell_views.specs.Views.{at_of, going_of, plate_of, lamp_of}
 use Rattle.cell_diagnosis.specs.declared.expect.Expect.{Expect}
@@ -19,29 +20,25 @@ use Rattle.cell_diagnosis.specs.declared.expect.Expect.{Expect}
 abbrev pub pose_at_rest : List Entry → Axis → Option Pose
 pose_at_rest J a = if is_some (going_of J a) then None else Some (at_of J a)
 
+-- the same of the i-th axis of a machine, if it has so many
+abbrev pub pose_of_axis : List Entry → Machine → ℕ → Option Pose
+pose_of_axis J m i = option_and_then (pose_at_rest J) (slice_get (axes_of m) i)
+
+-- a machine has at most three axes
 abbrev pub poses_at_rest : List Entry → Machine → List (Option Pose)
-poses_at_rest J machine.Feed = pose_at_rest J axis.FeedBelt ∷ None ∷ None ∷ []
-poses_at_rest J machine.Table = pose_at_rest J axis.TableLift ∷ pose_at_rest J axis.TableTurn ∷ None ∷ []
-poses_at_rest J machine.Robot = pose_at_rest J axis.RobotTurn ∷ pose_at_rest J axis.ArmOne ∷ pose_at_rest J axis.ArmTwo ∷ []
-poses_at_rest J machine.Press1 = pose_at_rest J axis.PressOne ∷ None ∷ None ∷ []
-poses_at_rest J machine.Press2 = pose_at_rest J axis.PressTwo ∷ None ∷ None ∷ []
-poses_at_rest J machine.Deposit = pose_at_rest J axis.DepositBelt ∷ None ∷ None ∷ []
+poses_at_rest J m = pose_of_axis J m 0 ∷ pose_of_axis J m 1 ∷ pose_of_axis J m 2 ∷ []
 
 -- a presence bit of this value, where it is to be set
 abbrev pub bit_where : Bool → ℕ → ℕ
 bit_where test value = if test then value else 0
 
-abbrev pub is_booked_at : List Entry → Station → Bool
-is_booked_at J s = is_some (plate_of J s)
+-- a plate is booked at the i-th station of a machine, if it has so many
+abbrev pub is_booked_at : List Entry → Machine → ℕ → Bool
+is_booked_at J m i = is_some (option_and_then (plate_of J) (slice_get (stations_of m) i))
 
--- the presence bits of the stations that have a booked plate
+-- the presence bits of the stations that have a booked plate; a machine has at most two stations
 abbrev pub booked_plates : List Entry → Machine → ℕ
-booked_plates J machine.Feed = bit_where (is_booked_at J station.FeedIn) 1 + bit_where (is_booked_at J station.FeedEnd) 2
-booked_plates J machine.Table = bit_where (is_booked_at J station.Table) 1
-booked_plates J machine.Robot = bit_where (is_booked_at J station.Arm1) 1 + bit_where (is_booked_at J station.Arm2) 2
-booked_plates J machine.Press1 = bit_where (is_booked_at J station.Press1) 1
-booked_plates J machine.Press2 = bit_where (is_booked_at J station.Press2) 1
-booked_plates J machine.Deposit = bit_where (is_booked_at J station.DepIn) 1 + bit_where (is_booked_at J station.DepEnd) 2
+booked_plates J m = bit_where (is_booked_at J m 0) 1 + bit_where (is_booked_at J m 1) 2
 
 -- both stations of a belt that runs, else the one where a green light lets a plate be laid in or taken out
 abbrev pub belt_bits : List Entry → Axis → Belt → ℕ → ℕ

@@ -1,19 +1,23 @@
 -- What a turn decides: the first of nine points that applies
-use Rattle.std.specs.Prelude.{ℕ, ◌+◌, ◌&&◌, Bool, nat_lt, Option, Some, None, List, [], ◌∷◌, if◌then◌else◌}
+use Rattle.std.specs.Prelude.{ℕ, ◌+◌, ◌&&◌, nat_lt, Option, Some, None, List, [], ◌∷◌, if◌then◌else◌}
 use Rattle.std.specs.Option.{option_map}
 use Rattle.std.specs.List.{count_by}
 use Rattle.cell_types.specs.declared.words.Machine.{Machine}
 use Rattle.cell_types.specs.declared.words.Machine.TheVariants as machine
-use Rattle.cell_types.specs.declared.words.Station.{Station}
 use Rattle.cell_types.specs.declared.words.Station.TheVariants as station
 use Rattle.cell_types.specs.declared.words.Axis.{Axis}
-use Rattle.cell_types.specs.declared.words.Axis.TheVariants as axis
 use Rattle.cell_types.specs.declared.words.Pose.{Pose}
 use Rattle.cell_types.specs.declared.words.Pose.TheVariants as pose
 use Rattle.cell_types.specs.declared.words.Cause.{Cause}
 use Rattle.cell_types.specs.declared.words.Cause.TheVariants as cause
 use Rattle.cell_types.specs.declared.words.Entry.{Entry}
 use Rattle.cell_types.specs.declared.words.Entry.TheVariants.{Admitted, Arrived as ArrivedAt, Conveyed, Forged, Delivered, Declared}
+use Rattle.cell_types.specs.declared.cell.BeltMotion.{BeltMotion}
+use Rattle.cell_types.specs.declared.cell.Press.{Press}
+use Rattle.cell_types.specs.Cell.{home, machine_of_axis, motion_named, press_of}
+use Rattle.cell_types.specs.Limits.{max_plates}
+use Rattle.cell_types.specs.Same.{same_pose}
+use Rattle.cell_views.specs.Last.{when}
 use Rattle.cell_views.specs.Views.{is_failed, is_asked, is_admitted, plate_of}
 use Rattle.cell_diagnosis.specs.declared.motion.Motion.{Motion}
 use Rattle.cell_diagnosis.specs.declared.reading.Reading.{Reading}
@@ -29,26 +33,28 @@ use Rattle.cell_turns.specs.Observed.{findings}
 
 -- what is booked where a motion has ended
 
-abbrev pub forged : List Entry → Machine → Station → Option Entry
-forged J press s = option_map (λ k. Forged press k) (plate_of J s)
+abbrev pub conveyed : List Entry → Axis → BeltMotion → Option Entry
+conveyed J a belt = option_map (λ k. Conveyed a k belt.dest) (plate_of J belt.from)
 
-abbrev pub conveyed : List Entry → Axis → Station → Station → Option Entry
-conveyed J a from dest = option_map (λ k. Conveyed a k dest) (plate_of J from)
+abbrev pub forged : List Entry → Press → Option Entry
+forged J press = option_map (λ k. Forged press.machine k) (plate_of J press.station)
 
--- Forged for a press at Top, Conveyed for a belt, else Arrived. A healthy machine that moves carries the plate.
+-- the belts are the axes whose home is Rest; their motions have names, and no other of them ends
+abbrev pub arrived : Axis → Pose → Option Entry
+arrived a to = if same_pose (home a) pose.Rest then None else Some (ArrivedAt a to)
+
+abbrev pub ended : List Entry → Axis → Pose → Option BeltMotion → Option Press → Option Entry
+ended J a to (Some belt) press = conveyed J a belt
+ended J a to None (Some press) = if same_pose to pose.Top then forged J press else arrived a to
+ended J a to None None = arrived a to
+
+-- Conveyed for a belt, Forged for a press at Top, else Arrived. A healthy machine that moves carries the plate.
 abbrev pub ending : List Entry → Axis → Pose → Option Entry
-ending J axis.FeedBelt pose.ToEnd = conveyed J axis.FeedBelt station.FeedIn station.FeedEnd
-ending J axis.FeedBelt pose.ToTable = conveyed J axis.FeedBelt station.FeedEnd station.Table
-ending J axis.FeedBelt _ = None
-ending J axis.DepositBelt pose.ToEnd = conveyed J axis.DepositBelt station.DepIn station.DepEnd
-ending J axis.DepositBelt _ = None
-ending J axis.PressOne pose.Top = forged J machine.Press1 station.Press1
-ending J axis.PressTwo pose.Top = forged J machine.Press2 station.Press2
-ending J a to = Some (ArrivedAt a to)
+ending J a to = ended J a to (motion_named a to) (press_of (machine_of_axis a))
 
--- what is booked where a sign was seen: the next plate, whose number is at most 100,000, or the delivery of the one at DepEnd
+-- what is booked where a sign was seen: the next plate, whose number is at most the greatest, or the delivery of the one at DepEnd
 abbrev pub next_plate : ℕ → Ruling
-next_plate k = if nat_lt 100000 k then PastLast else Books (Admitted k)
+next_plate k = if nat_lt max_plates k then PastLast else Books (Admitted k)
 
 abbrev pub books : Option Entry → Ruling
 books (Some e) = Books e
@@ -64,20 +70,16 @@ signed J _ = Proposes
 abbrev pub declares : Machine → Cause → Ruling
 declares m why = Books (Declared m why)
 
--- a point that applies under a condition
-abbrev pub when : Bool → Ruling → Option Ruling
-when applies k = if applies then Some k else None
-
 -- a watch found a fault
-abbrev pub fault_of : Machine → Verdict → Option Ruling
-fault_of m (Fault why) = Some (declares m why)
-fault_of m _ = None
+abbrev pub fault_found : Machine → Verdict → Option Ruling
+fault_found m (Fault why) = Some (declares m why)
+fault_found m _ = None
 
 -- the motion has ended
-abbrev pub end_of : List Entry → Option Motion → Verdict → Option Ruling
-end_of J None at_axis = None
-end_of J (Some motion) Arrived = Some (books (ending J motion.axis motion.to))
-end_of J (Some motion) _ = None
+abbrev pub end_found : List Entry → Option Motion → Verdict → Option Ruling
+end_found J None at_axis = None
+end_found J (Some motion) Arrived = Some (books (ending J motion.axis motion.to))
+end_found J (Some motion) _ = None
 
 -- the ruling of the first point that applies
 abbrev pub first_ruling : List (Option Ruling) → Ruling
@@ -96,9 +98,9 @@ ruling_by J m kept found =
     ∷ when kept.command_failed (declares m cause.CommandFault)
     ∷ when (is_asked J m) (declares m cause.OperatorStop)
     ∷ when kept.failed Proposes
-    ∷ fault_of m found.at_axis
-    ∷ fault_of m found.at_rest
-    ∷ end_of J found.motion found.at_axis
+    ∷ fault_found m found.at_axis
+    ∷ fault_found m found.at_rest
+    ∷ end_found J found.motion found.at_axis
     ∷ when (kept.sign && found.sign) (signed J m)
     ∷ Some Proposes
     ∷ [])

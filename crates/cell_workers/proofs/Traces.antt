@@ -1,7 +1,8 @@
 -- What one more answer of the port adds to what a machine's watch stands for
-use Rattle.std.proofs.Common.{◌≡◌, Bool, true, false, not, ◌&&◌, ◌||◌, Option, Some, None, List, [], ◌∷◌, ◌++◌, IfSome, if◌then◌else◌, refl, sym, ap, ◌∙◌, subst, append_assoc, append-nil}
+use Rattle.std.proofs.Common.{◌≡◌, ℕ, Bool, true, false, not, ◌&&◌, ◌||◌, Option, Some, None, List, [], ◌∷◌, ◌++◌, IfSome, if◌then◌else◌, refl, sym, ap, ◌∙◌, subst, append_assoc, append-nil}
 use Rattle.std.proofs.lemmas.List.{map-append}
-use Rattle.std.specs.Option.{option_map, option_or}
+use Rattle.std.specs.Option.{option_map, option_or, option_and_then}
+use Rattle.std.specs.List.{slice_get}
 use Rattle.cell_types.specs.declared.words.Machine.{Machine}
 use Rattle.cell_types.specs.declared.words.Machine.TheVariants as machine
 use Rattle.cell_types.specs.declared.words.Axis.{Axis}
@@ -11,7 +12,7 @@ use Rattle.cell_types.specs.declared.words.Belt.TheVariants as belt
 use Rattle.cell_types.specs.declared.words.Colour.TheVariants as colour
 use Rattle.cell_types.specs.declared.words.Cause.{Cause}
 use Rattle.cell_types.specs.declared.words.Entry.{Entry}
-use Rattle.cell_types.specs.Cell.{machine_of_axis}
+use Rattle.cell_types.specs.Cell.{machine_of_axis, axes_of}
 use Rattle.cell_types.specs.Same.{same_axis, same_pose, same_colour}
 use Rattle.cell_views.specs.Views.{at_of, going_of, lamp_of}
 use Rattle.plate_book.proofs.Safe.Facts.{axis_same, pose_same}
@@ -26,12 +27,13 @@ use Rattle.cell_diagnosis.specs.RestFacts.{Noted, noted}
 use Rattle.cell_diagnosis.specs.RestRules.{rest}
 use Rattle.cell_turns.specs.declared.plan.Plan.{Plan}
 use Rattle.cell_turns.specs.declared.watch.Memory.{Memory}
-use Rattle.cell_turns.specs.Moving.{limits_of, motion_on, motion_of_machine}
+use Rattle.cell_turns.specs.Moving.{limits_of, motion_on, motion_of_axis, motion_of_machine}
 use Rattle.cell_turns.specs.Signs.{shows_sign}
 use Rattle.cell_turns.specs.Following.{Following}
 use Rattle.cell_turns.specs.Minds.{Mind}
 use Rattle.cell_turns.specs.Observed.{same_motion, followed, with_reading, axis_noted, axis_verdict, rest_noted}
 use Rattle.cell_turns.specs.Turns.{begins_anew, opens_sign, ends_motion, mind_after}
+use Rattle.cell_turns.proofs.Rooms.{own_axis}
 use Rattle.cell_workers.specs.Evidence.{MotionShows, RestShows, Watched, readings_of, seen_all, signals, SignShows, ShowsArrival, ShowsFault}
 use Rattle.cell_workers.specs.Traces.{AxisTrace, RestTrace, SignTrace, Traces}
 
@@ -62,15 +64,17 @@ own_or J p m (Some mo) y h k = h
 own_at : (J : List Entry) (p : Plan) (a : Axis) → IfSome (motion_on J p a) (OwnMotion J p (machine_of_axis a))
 own_at J p a = own_on J p a (going_of J a) refl
 
+own_axis_motion : (J : List Entry) (p : Plan) (m : Machine) (i : ℕ) → IfSome (motion_of_axis J p m i) (OwnMotion J p m)
+own_axis_motion J p m i = go (slice_get (axes_of m) i) (own_axis m i)
+  where
+    go : (o : Option Axis) → IfSome o (λ a. machine_of_axis a ≡ m) → IfSome (option_and_then (motion_on J p) o) (OwnMotion J p m)
+    go None own = tt
+    go (Some a) own = subst (λ (n : Machine). IfSome (motion_on J p a) (OwnMotion J p n)) own (own_at J p a)
+
 pub own_motion : (J : List Entry) (p : Plan) (m : Machine) → IfSome (motion_of_machine J p m) (OwnMotion J p m)
-own_motion J p machine.Feed = own_at J p axis.FeedBelt
-own_motion J p machine.Table = own_or J p machine.Table (motion_on J p axis.TableLift) (motion_on J p axis.TableTurn) (own_at J p axis.TableLift) (own_at J p axis.TableTurn)
-own_motion J p machine.Robot =
-    own_or J p machine.Robot (motion_on J p axis.RobotTurn) (option_or (motion_on J p axis.ArmOne) (motion_on J p axis.ArmTwo)) (own_at J p axis.RobotTurn)
-    (own_or J p machine.Robot (motion_on J p axis.ArmOne) (motion_on J p axis.ArmTwo) (own_at J p axis.ArmOne) (own_at J p axis.ArmTwo))
-own_motion J p machine.Press1 = own_at J p axis.PressOne
-own_motion J p machine.Press2 = own_at J p axis.PressTwo
-own_motion J p machine.Deposit = own_at J p axis.DepositBelt
+own_motion J p m =
+    own_or J p m (option_or (motion_of_axis J p m 0) (motion_of_axis J p m 1)) (motion_of_axis J p m 2)
+    (own_or J p m (motion_of_axis J p m 0) (motion_of_axis J p m 1) (own_axis_motion J p m 0) (own_axis_motion J p m 1)) (own_axis_motion J p m 2)
 
 -- the axis watch
 

@@ -1,14 +1,15 @@
 //! The third step of a turn: what is decided, by the first of nine points that applies.
 ghost use Rattle.std.specs.Prelude.{◌≡◌, ◌+◌};
-ghost use Rattle.cell_turns.specs.Rulings.{forged, conveyed, ending, next_plate, books, signed, declares, ruling_by};
+ghost use Rattle.cell_types.specs.Same.{same_pose};
+ghost use Rattle.cell_turns.specs.Rulings.{forged, conveyed, arrived, ending, next_plate, books, signed, declares, ruling_by};
 
 use crate::watch::Memory;
 use cell_diagnosis::{Motion, Verdict};
-use cell_types::{Axis, Cause, Entry, Machine, PlateId, Pose, Station};
+use cell_types::{
+    Axis, BeltMotion, Cause, Entry, MAX_PLATES, Machine, PlateId, Pose, Press, Station, home,
+    machine_of_axis, motion_named, press_of,
+};
 use plate_book::Book;
-
-/// The greatest number of a plate.
-const LAST_PLATE: u32 = 100_000;
 
 /// What a turn found when it noted its reading.
 #[derive(Clone, Copy, PartialEq, Eq, Debug)]
@@ -36,54 +37,63 @@ pub enum Ruling {
     Proposes,
 }
 
-fn forged(book: &Book, press: Machine, station: Station) -> Option<Entry>
-    ensures { result ≡ forged book.now.entries press station }
+fn forged(book: &Book, press: Press) -> Option<Entry>
+    ensures { result ≡ forged book.now.entries press }
 {
-    match book.plate_at(station) {
-        Some(plate) => Some(Entry::Forged { press, plate }),
+    match book.plate_at(press.station) {
+        Some(plate) => Some(Entry::Forged {
+            press: press.machine,
+            plate,
+        }),
         None => None,
     }
 }
 
-fn conveyed(book: &Book, axis: Axis, from: Station, dest: Station) -> Option<Entry>
-    ensures { result ≡ conveyed book.now.entries axis from dest }
+fn conveyed(book: &Book, axis: Axis, belt: BeltMotion) -> Option<Entry>
+    ensures { result ≡ conveyed book.now.entries axis belt }
 {
-    match book.plate_at(from) {
-        Some(plate) => Some(Entry::Conveyed { axis, plate, dest }),
+    match book.plate_at(belt.from) {
+        Some(plate) => Some(Entry::Conveyed {
+            axis,
+            plate,
+            dest: belt.dest,
+        }),
         None => None,
     }
 }
 
-/// What is booked where a motion has ended: `Forged` for a press at Top, `Conveyed` for a belt, else `Arrived`.
+fn is_same_pose(some: Pose, other: Pose) -> bool
+    ensures { result ≡ same_pose some other }
+{
+    some == other
+}
+
+/// The motions of belts have names, and no other motion of a belt ends.
+fn arrived(axis: Axis, to: Pose) -> Option<Entry>
+    ensures { result ≡ arrived axis to }
+{
+    if is_same_pose(home(axis), Pose::Rest) {
+        None
+    } else {
+        Some(Entry::Arrived { axis, at: to })
+    }
+}
+
+/// What is booked where a motion has ended: `Conveyed` for a belt, `Forged` for a press at Top, else `Arrived`.
 fn ending(book: &Book, axis: Axis, to: Pose) -> Option<Entry>
     ensures { result ≡ ending book.now.entries axis to }
 {
-    match axis {
-        Axis::FeedBelt => match to {
-            Pose::ToEnd => conveyed(book, axis, Station::FeedIn, Station::FeedEnd),
-            Pose::ToTable => conveyed(book, axis, Station::FeedEnd, Station::Table),
-            _ => None,
-        },
-        Axis::DepositBelt => match to {
-            Pose::ToEnd => conveyed(book, axis, Station::DepIn, Station::DepEnd),
-            _ => None,
-        },
-        Axis::PressOne => match to {
-            Pose::Top => forged(book, Machine::Press1, Station::Press1),
-            _ => Some(Entry::Arrived { axis, at: to }),
-        },
-        Axis::PressTwo => match to {
-            Pose::Top => forged(book, Machine::Press2, Station::Press2),
-            _ => Some(Entry::Arrived { axis, at: to }),
-        },
-        _ => Some(Entry::Arrived { axis, at: to }),
+    match (motion_named(axis, to), press_of(machine_of_axis(axis))) {
+        (Some(belt), _) => conveyed(book, axis, belt),
+        (None, Some(press)) if is_same_pose(to, Pose::Top) => forged(book, press),
+        _ => arrived(axis, to),
     }
 }
 
 fn next_plate(admitted: u32) -> Ruling
     ensures { result ≡ next_plate (admitted + 1) }
 {
-    if admitted >= LAST_PLATE {
+    if admitted >= MAX_PLATES {
         return Ruling::PastLast;
     }
     match PlateId::new(admitted + 1) {
@@ -131,7 +141,7 @@ fn declares(machine: Machine, cause: Cause) -> Ruling
 /// 7. The motion has ended: `Forged` for a press at Top, `Conveyed` for a belt, else `Arrived`.
 /// 8. This reading and the last one show a sign: `Admitted` with the next number, or `Delivered` of the plate at DepEnd.
 /// 9. An entry is proposed.
-pub fn decide(book: &Book, machine: Machine, kept: &Memory, found: &Findings) -> Ruling
+pub(crate) fn decide(book: &Book, machine: Machine, kept: &Memory, found: &Findings) -> Ruling
     ensures { result ≡ ruling_by book.now.entries machine kept.now found.now }
 {
     if book.failed(machine) {

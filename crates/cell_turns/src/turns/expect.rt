@@ -6,14 +6,14 @@ ghost use Rattle.cell_types.specs.After.{is_machine};
 ghost use Rattle.cell_types.specs.Same.{same_colour};
 ghost use Rattle.cell_types.specs.declared.words.Colour.{Colour as ColourValue};
 ghost use Rattle.cell_views.specs.Views.{lamp_of, holder_of};
-ghost use Rattle.cell_turns.specs.Moving.{motion_on, motion_of_machine};
+ghost use Rattle.cell_turns.specs.Moving.{motion_on, motion_of_axis, motion_of_machine};
 ghost use Rattle.cell_turns.specs.Visits.{is_visited, was_claimed, is_unvisited};
-ghost use Rattle.cell_turns.specs.Expected.{pose_at_rest, poses_at_rest, bit_where, is_booked_at, booked_plates, belt_bits, unwatched_plates, expected_of};
+ghost use Rattle.cell_turns.specs.Expected.{pose_at_rest, pose_of_axis, poses_at_rest, bit_where, is_booked_at, booked_plates, belt_bits, unwatched_plates, expected_of};
 
 use crate::Plan;
 use crate::watch::Memory;
 use cell_diagnosis::{Expect, Motion};
-use cell_types::{Axis, Belt, Colour, Machine, Pose, Station, Zone, visitor};
+use cell_types::{Axis, Belt, Colour, Machine, Pose, Zone, axes_of, stations_of, visitor};
 use plate_book::Book;
 
 fn motion_on(book: &Book, plan: &Plan, axis: Axis) -> Option<Motion>
@@ -31,26 +31,20 @@ fn motion_on(book: &Book, plan: &Plan, axis: Axis) -> Option<Motion>
     }
 }
 
+fn motion_of_axis(book: &Book, plan: &Plan, machine: Machine, i: usize) -> Option<Motion>
+    ensures { result ≡ motion_of_axis book.now.entries plan.now machine i }
+{
+    let axis = axes_of(machine).get(i)?;
+    motion_on(book, plan, *axis)
+}
+
 /// The motion of the machine's axis that moves, if one does.
 pub fn motion_of_machine(book: &Book, plan: &Plan, machine: Machine) -> Option<Motion>
     ensures { result ≡ motion_of_machine book.now.entries plan.now machine }
 {
-    match machine {
-        Machine::Feed => motion_on(book, plan, Axis::FeedBelt),
-        Machine::Table => motion_on(book, plan, Axis::TableLift).or(motion_on(
-            book,
-            plan,
-            Axis::TableTurn,
-        )),
-        Machine::Robot => motion_on(book, plan, Axis::RobotTurn).or(motion_on(
-            book,
-            plan,
-            Axis::ArmOne,
-        ).or(motion_on(book, plan, Axis::ArmTwo))),
-        Machine::Press1 => motion_on(book, plan, Axis::PressOne),
-        Machine::Press2 => motion_on(book, plan, Axis::PressTwo),
-        Machine::Deposit => motion_on(book, plan, Axis::DepositBelt),
-    }
+    motion_of_axis(book, plan, machine, 0)
+        .or(motion_of_axis(book, plan, machine, 1))
+        .or(motion_of_axis(book, plan, machine, 2))
 }
 
 #[tactic(auto, unfolding(cell_types::specs::After::is_machine))]
@@ -64,7 +58,7 @@ fn is_held_by_visitor(book: &Book, zone: Zone) -> bool
 }
 
 /// Whether a visitor holds a zone of the machine.
-pub fn is_visited(book: &Book, machine: Machine) -> bool
+pub(crate) fn is_visited(book: &Book, machine: Machine) -> bool
     ensures { result ≡ is_visited book.now.entries machine }
 {
     match machine {
@@ -79,7 +73,7 @@ pub fn is_visited(book: &Book, machine: Machine) -> bool
 }
 
 /// Whether a visitor claimed a zone of the machine at place `i` of the journal or later.
-pub fn was_claimed(book: &Book, machine: Machine, i: u32) -> bool
+pub(crate) fn was_claimed(book: &Book, machine: Machine, i: u32) -> bool
     ensures { result ≡ was_claimed book.now.entries machine i }
 {
     match machine {
@@ -92,7 +86,7 @@ pub fn was_claimed(book: &Book, machine: Machine, i: u32) -> bool
 }
 
 /// Whether no visitor holds a zone of the machine, none held one at its last turn, and none claimed one since.
-pub fn is_unvisited(book: &Book, machine: Machine, kept: &Memory) -> bool
+pub(crate) fn is_unvisited(book: &Book, machine: Machine, kept: &Memory) -> bool
     ensures { result ≡ is_unvisited book.now.entries machine kept.now }
 {
     let visited = is_visited(book, machine);
@@ -110,25 +104,21 @@ fn pose_at_rest(book: &Book, axis: Axis) -> Option<Pose>
     }
 }
 
+fn pose_of_axis(book: &Book, machine: Machine, i: usize) -> Option<Pose>
+    ensures { result ≡ pose_of_axis book.now.entries machine i }
+{
+    let axis = axes_of(machine).get(i)?;
+    pose_at_rest(book, *axis)
+}
+
 fn poses_at_rest(book: &Book, machine: Machine) -> [Option<Pose>; 3]
     ensures { result ≡ poses_at_rest book.now.entries machine }
 {
-    match machine {
-        Machine::Feed => [pose_at_rest(book, Axis::FeedBelt), None, None],
-        Machine::Table => [
-            pose_at_rest(book, Axis::TableLift),
-            pose_at_rest(book, Axis::TableTurn),
-            None,
-        ],
-        Machine::Robot => [
-            pose_at_rest(book, Axis::RobotTurn),
-            pose_at_rest(book, Axis::ArmOne),
-            pose_at_rest(book, Axis::ArmTwo),
-        ],
-        Machine::Press1 => [pose_at_rest(book, Axis::PressOne), None, None],
-        Machine::Press2 => [pose_at_rest(book, Axis::PressTwo), None, None],
-        Machine::Deposit => [pose_at_rest(book, Axis::DepositBelt), None, None],
-    }
+    [
+        pose_of_axis(book, machine, 0),
+        pose_of_axis(book, machine, 1),
+        pose_of_axis(book, machine, 2),
+    ]
 }
 
 fn bit_where(test: bool, value: u8) -> u8
@@ -138,36 +128,23 @@ fn bit_where(test: bool, value: u8) -> u8
     if test { value } else { 0 }
 }
 
-fn is_booked_at(book: &Book, station: Station) -> bool
-    ensures { result ≡ is_booked_at book.now.entries station }
+fn is_booked_at(book: &Book, machine: Machine, i: usize) -> bool
+    ensures { result ≡ is_booked_at book.now.entries machine i }
 {
-    book.plate_at(station).is_some()
+    match stations_of(machine).get(i) {
+        Some(station) => book.plate_at(*station).is_some(),
+        None => false,
+    }
 }
 
 fn booked_plates(book: &Book, machine: Machine) -> u8
     ensures { result ≡ booked_plates book.now.entries machine }
 {
-    match machine {
-        Machine::Feed => {
-            bit_where(is_booked_at(book, Station::FeedIn), 1)
-                + bit_where(is_booked_at(book, Station::FeedEnd), 2)
-        }
-        Machine::Table => bit_where(is_booked_at(book, Station::Table), 1),
-        Machine::Robot => {
-            bit_where(is_booked_at(book, Station::Arm1), 1)
-                + bit_where(is_booked_at(book, Station::Arm2), 2)
-        }
-        Machine::Press1 => bit_where(is_booked_at(book, Station::Press1), 1),
-        Machine::Press2 => bit_where(is_booked_at(book, Station::Press2), 1),
-        Machine::Deposit => {
-            bit_where(is_booked_at(book, Station::DepIn), 1)
-                + bit_where(is_booked_at(book, Station::DepEnd), 2)
-        }
-    }
+    bit_where(is_booked_at(book, machine, 0), 1) + bit_where(is_booked_at(book, machine, 1), 2)
 }
 
 /// Whether a belt's light is green.
-pub fn is_green(book: &Book, belt: Belt) -> bool
+pub(crate) fn is_green(book: &Book, belt: Belt) -> bool
     ensures { result ≡ same_colour (lamp_of book.now.entries belt) ColourValue.Green }
 {
     book.lamp(belt) == Colour::Green
@@ -196,7 +173,7 @@ fn unwatched_plates(book: &Book, machine: Machine) -> u8
 }
 
 /// What the machine's axes at rest and its stations have to show; presence is looked at where no visitor may be there.
-pub fn expected_of(book: &Book, machine: Machine, unvisited: bool) -> Expect
+pub(crate) fn expected_of(book: &Book, machine: Machine, unvisited: bool) -> Expect
     ensures { result ≡ expected_of book.now.entries machine unvisited }
 {
     Expect {
