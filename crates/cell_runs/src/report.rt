@@ -1,11 +1,12 @@
 //! What is printed of a run.
-ghost use Rattle.std.specs.Prelude.{◌≡◌, ◌⊎◌, map, IfOk, OnOk};
+ghost use Rattle.std.specs.Prelude.{◌≡◌, ◌⊎◌, List, map, IfOk, OnOk};
 ghost use Rattle.std.specs.Io.KnownBytes.{Appends};
 ghost use Rattle.plate_book.specs.declared.limits.Limits.{Limits};
-ghost use Rattle.cell_workers.specs.Ends.{IsDone};
+ghost use Rattle.cell_turns.specs.declared.plan.Plan.{Plan as PlanValue};
 ghost use Rattle.cell_workers.specs.Report.{IsReport};
-ghost use Rattle.cell_workers.specs.declared.ends.End.TheVariants as end;
-ghost use Rattle.cell_runs.specs.Runs.{Prints, WritesReport, WritesRounds, WritesRunError, run_lines, status_of, word_of};
+ghost use Rattle.operator_desk.specs.declared.line.Line.{Line};
+ghost use Rattle.cell_runs.specs.Rounds.{IsRun};
+ghost use Rattle.cell_runs.specs.Runs.{Prints, WritesReport, WritesRounds, WritesRunError, limits_of, run_lines, status_of, word_of};
 
 use crate::rounds::Outcome;
 use cell_audit::{WriteError, write_journal};
@@ -84,8 +85,7 @@ pub fn write_outcome<W: Write>(
     journal: bool,
     writer: &mut W,
 ) -> Result<u8, WriteFault>
-    requires { outcome.now.end ≡ end.Finished → IsDone outcome.now.book.limits.plates outcome.now.book.entries }
-    ensures { IfOk result (WritesRounds journal outcome.now.book.limits (W.contents writer.old) (W.contents writer.new)) }
+    ensures { IfOk result (λ status. (plan : PlanValue) (script : List Line) → IsRun (limits_of plan) plan script outcome.now.book.entries outcome.now.end → WritesRounds journal plan script (W.contents writer.old) (W.contents writer.new) status) }
 {
     outcome.book.is_lawful();
     write_run(

@@ -21,7 +21,7 @@ fn write_rounds<R: AllocGlobal + Wait, W: Write>(
     journal: bool,
     writer: &mut W,
 ) -> Result<u8, WriteFault>
-    ensures { IfOk result (WritesRounds journal (limits_of inputs.plan) (W.contents writer.old) (W.contents writer.new)) }
+    ensures { IfOk result (WritesRounds journal inputs.plan inputs.script (W.contents writer.old) (W.contents writer.new)) }
 {
     let Inputs {
         plan,
