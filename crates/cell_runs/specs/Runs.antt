@@ -5,18 +5,18 @@ use Rattle.cell_types.specs.declared.words.Entry.{Entry}
 use Rattle.cell_types.specs.declared.words.Totals.{Totals}
 use Rattle.cell_views.specs.Views.{count_of}
 use Rattle.plate_book.specs.declared.limits.BookLimits.{BookLimits}
-use Rattle.plate_book.specs.Rules.Legal.{legal}
 use Rattle.cell_turns.specs.declared.plan.Plan.{Plan}
-use Rattle.cell_workers.specs.Ends.{IsDone}
 use Rattle.cell_workers.specs.Report.{IsReport}
 use Rattle.cell_workers.specs.declared.ends.End.{End}
 use Rattle.cell_workers.specs.declared.ends.End.TheVariants as end
 use Rattle.cell_workers.specs.declared.running.RunError.{RunError}
 use Rattle.cell_workers.specs.declared.running.RunError.TheVariants as run
+use Rattle.operator_desk.specs.declared.line.Line.{Line}
 use Rattle.cell_audit.specs.Text.{text_of}
 use Rattle.cell_audit.specs.Watched.{WritesPart}
 use Rattle.cell_lines.specs.Lines.{number_line}
 use Rattle.cell_runs.specs.Inputs.{AreInputs, WritesError, input_line, input_status}
+use Rattle.cell_runs.specs.Rounds.{IsRun}
 use Rattle.cell_runs.specs.declared.inputs.Inputs.{Inputs}
 use Rattle.cell_runs.specs.declared.inputs.InputError.{InputError}
 
@@ -59,14 +59,11 @@ PrintsOrStops journal e t J old new status = Prints journal e t J old new status
 abbrev pub limits_of : Plan → BookLimits
 limits_of plan = record { entries = plan.journal_limit; plates = plan.plates }
 
--- a run on one thread has a journal that is legal within its limits, and is done where it finished
-abbrev pub IsRoundsRun : BookLimits → End → List Entry → Type 0
-IsRoundsRun limits e J = (legal limits J ≡ true) × (e ≡ end.Finished → IsDone limits.plates J)
-
--- a run on one thread is printed; or memory was refused before it, and nothing was written
-abbrev pub WritesRounds : Bool → BookLimits → Option (List ℕ) → Option (List ℕ) → ℕ → Type 0
-WritesRounds journal limits old new status =
-    ((e : End) × (J : List Entry) × IsRoundsRun limits e J × PrintsOrStops journal e (count_of J) J old new status) ⊎ WritesError old new [] 4 status
+-- a run on one thread, by this plan and this script of the operator, leads in rounds to a journal and an end, which are printed;
+-- or memory was refused before it, and nothing was written
+abbrev pub WritesRounds : Bool → Plan → List Line → Option (List ℕ) → Option (List ℕ) → ℕ → Type 0
+WritesRounds journal plan script old new status =
+    ((e : End) × (J : List Entry) × IsRun (limits_of plan) plan script J e × PrintsOrStops journal e (count_of J) J old new status) ⊎ WritesError old new [] 4 status
 
 -- what is printed where there is no report
 abbrev pub WritesRunError : Option (List ℕ) → Option (List ℕ) → RunError → ℕ → Type 0
@@ -80,13 +77,13 @@ WritesReport journal limits old new status =
     ((e : End) × (J : List Entry) × (t : Totals) × (ws : List (List Entry × Totals)) × IsReport limits J t ws × PrintsOrStops journal e t J old new status)
     ⊎ ((why : RunError) × WritesRunError old new why status)
 
-abbrev pub WritesRun : Bool → Bool → BookLimits → Option (List ℕ) → Option (List ℕ) → ℕ → Type 0
-WritesRun false journal limits old new status = WritesRounds journal limits old new status
-WritesRun true journal limits old new status = WritesReport journal limits old new status
+abbrev pub WritesRun : Bool → Bool → Inputs → Option (List ℕ) → Option (List ℕ) → ℕ → Type 0
+WritesRun false journal inputs old new status = WritesRounds journal inputs.plan inputs.script old new status
+WritesRun true journal inputs old new status = WritesReport journal (limits_of inputs.plan) old new status
 
 -- what is printed of a run's texts, or of the first that is refused
 abbrev pub WritesInputs : Bool → Bool → Option (List ℕ) → Option (List ℕ) → ℕ → Result Inputs InputError → Type 0
-WritesInputs threads journal old new status (Ok inputs) = WritesRun threads journal (limits_of inputs.plan) old new status
+WritesInputs threads journal old new status (Ok inputs) = WritesRun threads journal inputs old new status
 WritesInputs threads journal old new status (Err e) = WritesError old new (input_line e) (input_status e) status
 
 -- what was written is the line of the first text that is refused, in the order settings, faults, operator, or is of a run

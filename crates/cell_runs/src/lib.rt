@@ -2,6 +2,7 @@
 #![tactic(auto)]
 
 mod inputs;
+pub mod laws;
 mod refused;
 mod report;
 mod rounds;

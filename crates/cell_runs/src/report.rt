@@ -1,12 +1,13 @@
 //! What is printed of a run.
-ghost use Rattle.std.specs.Prelude.{◌≡◌, map, IfOk, IsErr, OnOk, true};
+ghost use Rattle.std.specs.Prelude.{◌≡◌, List, map, IfOk, IsErr, OnOk, true};
 ghost use Rattle.std.specs.Io.KnownBytes.{Appends};
 ghost use Rattle.cell_audit.specs.Watched.{IsSameWriter, WritesPart, bytes_held, has_refused};
 ghost use Rattle.plate_book.specs.declared.limits.BookLimits.{BookLimits};
-ghost use Rattle.cell_workers.specs.Ends.{IsDone};
+ghost use Rattle.cell_turns.specs.declared.plan.Plan.{Plan as PlanValue};
 ghost use Rattle.cell_workers.specs.Report.{IsReport};
-ghost use Rattle.cell_workers.specs.declared.ends.End.TheVariants as end;
-ghost use Rattle.cell_runs.specs.Runs.{PrintsOrStops, WritesReport, WritesRounds, WritesRunError, run_lines, shown, status_of, word_of};
+ghost use Rattle.operator_desk.specs.declared.line.Line.{Line};
+ghost use Rattle.cell_runs.specs.Rounds.{IsRun};
+ghost use Rattle.cell_runs.specs.Runs.{PrintsOrStops, WritesReport, WritesRounds, WritesRunError, limits_of, run_lines, shown, status_of, word_of};
 
 use crate::rounds::Outcome;
 use cell_audit::{WatchedWriter, WriteError, WriteFault, write_journal_watched};
@@ -104,9 +105,8 @@ pub fn write_outcome<W: Write>(
     journal: bool,
     writer: &mut WatchedWriter<'_, W>,
 ) -> Result<u8, WriteFault>
-    requires { outcome.now.end ≡ end.Finished → IsDone outcome.now.book.limits.plates outcome.now.book.entries }
     ensures writer { IsSameWriter writer.old writer.new }
-    ensures whole { IfOk result (WritesRounds journal outcome.now.book.limits (bytes_held W.contents writer.old) (bytes_held W.contents writer.new)) }
+    ensures whole { IfOk result (λ status. (plan : PlanValue) (script : List Line) → IsRun (limits_of plan) plan script outcome.now.book.entries outcome.now.end → WritesRounds journal plan script (bytes_held W.contents writer.old) (bytes_held W.contents writer.new) status) }
     ensures fault { IsErr result → has_refused writer.new ≡ true }
 {
     outcome.book.is_lawful();

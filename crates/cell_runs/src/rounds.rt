@@ -1,10 +1,14 @@
 //! A run on one thread, in rounds.
-ghost use Rattle.std.specs.Prelude.{◌≡◌, ◌≢◌, ◌<◌, IfErr};
+ghost use Rattle.std.specs.Prelude.{◌≡◌, ◌<◌, ◌∷◌, ◌++◌, [], true, None, IfOk, IfErr, if◌then◌else◌};
 ghost use Rattle.cell_types.specs.declared.words.Machine.{Machine as MachineValue};
-ghost use Rattle.cell_turns.specs.Minds.{machine_of_watch};
+ghost use Rattle.cell_types.specs.declared.words.Entry.{Entry as EntryValue};
+ghost use Rattle.cell_turns.specs.declared.schedule.Step.TheVariants as steps;
+ghost use Rattle.cell_turns.specs.declared.six.Six.{Six as SixValue};
+ghost use Rattle.cell_turns.specs.Minds.{Mind, machine_of_watch};
 ghost use Rattle.cell_turns.specs.Six.{at};
-ghost use Rattle.cell_workers.specs.Ends.{IsDone};
-ghost use Rattle.cell_workers.specs.declared.ends.End.TheVariants as end;
+ghost use Rattle.cell_turns.specs.Schedules.{FitAll, now};
+ghost use Rattle.cell_workers.specs.Ends.{is_idle};
+ghost use Rattle.cell_runs.specs.Rounds.{Ended, EndsIn, IsRun, Operates, Reaches, Round, Stops, Takes, TakesTurns, machines, place, turn_of, turns_of};
 
 use cell_ledger::{Blanks, Kept, Run, Shares};
 use cell_types::Machine;
@@ -55,7 +59,11 @@ fn take_step<P: Port, O: OperatorPort, R: Run>(
 ) -> Result<bool, End>
     requires { (m : MachineValue) → machine_of_watch (at cell.old.watches m) ≡ m }
     ensures machines { (m : MachineValue) → machine_of_watch (at cell.new.watches m) ≡ m }
-    ensures ended { IfErr result (λ e. e ≢ end.Finished) }
+    ensures limits { cell.new.kept.limits ≡ cell.old.kept.limits }
+    ensures same { (cell.new.script ≡ cell.old.script) × (cell.new.lost ≡ cell.old.lost) }
+    ensures took { IfOk result (λ _. (minds : SixValue Mind) → FitAll cell.old.watches minds → Takes cell.old.kept.limits plan.now (step ∷ []) (now cell.old.kept.entries minds) cell.new.kept.entries cell.new.watches) }
+    ensures booked { IfOk result (λ booked. (minds : SixValue Mind) → FitAll cell.old.watches minds → (e : EntryValue) → step ≡ steps.Hand e → cell.new.kept.entries ≡ cell.old.kept.entries ++ (if booked then e ∷ [] else [])) }
+    ensures stops { IfErr result (λ e. (minds : SixValue Mind) → FitAll cell.old.watches minds → Stops cell.old.kept.limits plan.now (turn_of step ∷ []) (now cell.old.kept.entries minds) cell.new.kept.entries e) }
 {
     let ran = run_schedule(
         alloc,
@@ -84,7 +92,10 @@ fn take_turns<P: Port, O: OperatorPort, R: Run>(
 ) -> Result<(), End>
     requires { (m : MachineValue) → machine_of_watch (at cell.old.watches m) ≡ m }
     ensures machines { (m : MachineValue) → machine_of_watch (at cell.new.watches m) ≡ m }
-    ensures ended { IfErr result (λ e. e ≢ end.Finished) }
+    ensures limits { cell.new.kept.limits ≡ cell.old.kept.limits }
+    ensures same { (cell.new.script ≡ cell.old.script) × (cell.new.lost ≡ cell.old.lost) }
+    ensures turns { IfOk result (λ _. (minds : SixValue Mind) → FitAll cell.old.watches minds → TakesTurns cell.old.kept.limits plan.now machines (now cell.old.kept.entries minds) cell.new.kept.entries cell.new.watches) }
+    ensures stops { IfErr result (λ e. (minds : SixValue Mind) → FitAll cell.old.watches minds → Stops cell.old.kept.limits plan.now (turns_of machines) (now cell.old.kept.entries minds) cell.new.kept.entries e) }
 {
     for machine in MACHINES {
         let reading = ports.pick(machine).read();
@@ -110,7 +121,9 @@ fn act<P: Port, O: OperatorPort, R: Run>(
 ) -> Result<(), End>
     requires { (m : MachineValue) → machine_of_watch (at cell.old.watches m) ≡ m }
     ensures machines { (m : MachineValue) → machine_of_watch (at cell.new.watches m) ≡ m }
-    ensures ended { IfErr result (λ e. e ≢ end.Finished) }
+    ensures limits { cell.new.kept.limits ≡ cell.old.kept.limits }
+    ensures operates { IfOk result (λ _. (minds : SixValue Mind) → FitAll cell.old.watches minds → Reaches (Operates cell.old.kept.limits plan.now (place (now cell.old.kept.entries minds) cell.old.script cell.old.lost)) cell.new.kept.entries cell.new.watches cell.new.script cell.new.lost) }
+    ensures stops { IfErr result (λ e. (minds : SixValue Mind) → FitAll cell.old.watches minds → Stops cell.old.kept.limits plan.now (None ∷ []) (now cell.old.kept.entries minds) cell.new.kept.entries e) }
 {
     if cell.lost {
         return Ok(());
@@ -134,13 +147,15 @@ fn act<P: Port, O: OperatorPort, R: Run>(
 }
 
 // Whether all machines are idle after a round that booked nothing.
-fn are_idle(book: &Book, watches: &Six<Watch>, plan: &Plan) -> bool {
+fn are_idle(book: &Book, watches: &Six<Watch>, plan: &Plan) -> bool
+    ensures { result ≡ true → (minds : SixValue Mind) → FitAll watches.now minds → (m : MachineValue) → is_idle book.now.entries m plan.now (at minds m) ≡ true }
+{
     is_idle(Machine::Feed, book, &watches.feed, plan)
-        && is_idle(Machine::Table, book, &watches.table, plan)
-        && is_idle(Machine::Robot, book, &watches.robot, plan)
-        && is_idle(Machine::Press1, book, &watches.press1, plan)
-        && is_idle(Machine::Press2, book, &watches.press2, plan)
-        && is_idle(Machine::Deposit, book, &watches.deposit, plan)
+        && (is_idle(Machine::Table, book, &watches.table, plan)
+            && (is_idle(Machine::Robot, book, &watches.robot, plan)
+                && (is_idle(Machine::Press1, book, &watches.press1, plan)
+                    && (is_idle(Machine::Press2, book, &watches.press2, plan)
+                        && is_idle(Machine::Deposit, book, &watches.deposit, plan)))))
 }
 
 // One round: a turn of each machine, and then the operator's next action.
@@ -153,7 +168,9 @@ fn take_round<P: Port, O: OperatorPort, R: Run>(
 ) -> Result<(), End>
     requires { (m : MachineValue) → machine_of_watch (at cell.old.watches m) ≡ m }
     ensures machines { (m : MachineValue) → machine_of_watch (at cell.new.watches m) ≡ m }
-    ensures ended { IfErr result (λ e. e ≡ end.Finished → IsDone plan.now.plates cell.new.kept.entries) }
+    ensures limits { cell.new.kept.limits ≡ cell.old.kept.limits }
+    ensures round { IfOk result (λ _. (minds : SixValue Mind) → FitAll cell.old.watches minds → Reaches (Round cell.old.kept.limits plan.now (place (now cell.old.kept.entries minds) cell.old.script cell.old.lost)) cell.new.kept.entries cell.new.watches cell.new.script cell.new.lost) }
+    ensures ends { IfErr result (λ e. (minds : SixValue Mind) → FitAll cell.old.watches minds → EndsIn cell.old.kept.limits plan.now (place (now cell.old.kept.entries minds) cell.old.script cell.old.lost) cell.new.kept.entries e) }
 {
     let before = cell.kept.book().journal().len();
     take_turns(alloc, ports, hands, cell, plan)?;
@@ -175,7 +192,8 @@ fn run_rounds<P: Port, O: OperatorPort, R: Run>(
 ) -> End
     requires { (m : MachineValue) → machine_of_watch (at cell.old.watches m) ≡ m }
     ensures machines { (m : MachineValue) → machine_of_watch (at cell.new.watches m) ≡ m }
-    ensures ended { result ≡ end.Finished → IsDone plan.now.plates cell.new.kept.entries }
+    ensures limits { cell.new.kept.limits ≡ cell.old.kept.limits }
+    ensures ended { (minds : SixValue Mind) → FitAll cell.old.watches minds → Ended cell.old.kept.limits plan.now (place (now cell.old.kept.entries minds) cell.old.script cell.old.lost) cell.new.kept.entries result }
 {
     for _round in 0..plan.turns {
         if let Err(end) = take_round(alloc, ports, hands, cell, plan) {
@@ -204,7 +222,7 @@ pub fn run_over<P: Port, O: OperatorPort, R: Run>(
     requires quarantined { (blanks.quarantined.name ≡ R.quarantined_name) × (blanks.quarantined.parts ≡ R.parts) }
     requires delivered { (blanks.delivered.name ≡ R.delivered_name) × (blanks.delivered.parts ≡ R.parts) }
     ensures limits { result.book.limits ≡ R.limits }
-    ensures ended { result.end ≡ end.Finished → IsDone plan.now.plates result.book.entries }
+    ensures run { book.entries ≡ [] → IsRun R.limits plan.now script result.book.entries result.end }
 {
     let watches = Watches::start(&book);
     let (kept, shares) = Kept::<R>::new(book, blanks);

@@ -1,7 +1,6 @@
 //! A run over the simulated cell on one thread.
 ghost use Rattle.std.specs.Prelude.{◌≡◌, IfOk};
-ghost use Rattle.cell_workers.specs.Ends.{IsDone};
-ghost use Rattle.cell_workers.specs.declared.ends.End.TheVariants as end;
+ghost use Rattle.cell_runs.specs.Rounds.{IsRun};
 ghost use Rattle.cell_runs.specs.Runs.{limits_of};
 
 use crate::rounds::{Outcome, run_over};
@@ -42,7 +41,7 @@ pub fn simulate<R: AllocGlobal + Wait, O: OperatorPort>(
     hands: &mut O,
 ) -> Result<Outcome, AllocError>
     ensures limits { IfOk result (λ outcome. outcome.book.limits ≡ limits_of plan.now) }
-    ensures ended { IfOk result (λ outcome. outcome.end ≡ end.Finished → IsDone plan.now.plates outcome.book.entries) }
+    ensures run { IfOk result (λ outcome. IsRun (limits_of plan.now) plan.now script outcome.book.entries outcome.end) }
 {
     let alloc = rt.alloc();
     let Ok(book) = Book::new(alloc, plan.journal_limit, plan.plates) else {

@@ -24,7 +24,7 @@ fn write_rounds<R: AllocGlobal + Wait, W: Write>(
     writer: &mut WatchedWriter<'_, W>,
 ) -> Result<u8, WriteFault>
     ensures writer { IsSameWriter writer.old writer.new }
-    ensures whole { IfOk result (WritesRounds journal (limits_of inputs.plan) (bytes_held W.contents writer.old) (bytes_held W.contents writer.new)) }
+    ensures whole { IfOk result (WritesRounds journal inputs.plan inputs.script (bytes_held W.contents writer.old) (bytes_held W.contents writer.new)) }
     ensures fault { IsErr result → has_refused writer.new ≡ true }
 {
     let Inputs {

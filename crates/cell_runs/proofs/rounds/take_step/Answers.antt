@@ -1,0 +1,19 @@
+use Rattle.std.proofs.Common.{◌≡◌, ◌∙◌, ℕ, [], ◌∷◌, length, nat_eq, ap, arith}
+use Rattle.cell_runs.proofs.OneRound.{takes_of, step_booked, breaks_of}
+use Rattle.cell_runs.proofs.rounds.take_step.Goals as goal
+
+pub returns-in-Ok-2-clause-took : goal.returns-in-Ok-2-clause-took
+returns-in-Ok-2-clause-took g c = λ minds fits.
+    takes_of c.args.plan.now (c.args.step ∷ []) c.in-Ok.ran.refused c.args.cell.now.kept c.run_schedule-ran.new.kept c.args.cell.now.watches c.run_schedule-ran.new.watches _ _ _ minds (omega (arith, c.if-ran-gt0.false)) c.in-Ok.ensures.scheduled fits
+
+pub returns-in-Ok-2-clause-booked : goal.returns-in-Ok-2-clause-booked
+returns-in-Ok-2-clause-booked g c = λ minds fits e is.
+    let his = c.in-Ok.ran.operator in
+    let size : his.len ≡ length his.items = omega (arith, his.ok.0) in
+    step_booked c.args.plan.now c.args.cell.now.kept c.run_schedule-ran.new.kept _ _ _ c.in-Ok.ran.operator.items c.args.step c.in-Ok.ran.refused c.args.cell.now.watches c.run_schedule-ran.new.watches _ _ _ c.is_empty.result minds e
+    c.in-Ok.ensures.grown c.in-Ok.ensures.scheduled fits is (c.is_empty.ensures ∙ ap (λ (k : ℕ). nat_eq k 0) size)
+
+pub returns-in-Err-clause-stops : goal.returns-in-Err-clause-stops
+returns-in-Err-clause-stops g c = λ minds fits.
+    let s = c.in-Err.ensures.stopped in
+    (s.refused, breaks_of c.args.plan.now (c.args.step ∷ []) s.taken s.refused c.args.cell.now.kept c.run_schedule-ran.new.kept c.args.cell.now.watches c.run_schedule-ran.new.watches _ _ _ minds s.scheduled fits)
