@@ -9,6 +9,7 @@ ghost use Rattle.cell_turns.specs.Six.{at};
 ghost use Rattle.cell_turns.specs.Schedules.{FitAll, now};
 ghost use Rattle.cell_workers.specs.Ends.{is_idle};
 ghost use Rattle.cell_runs.specs.Rounds.{Ended, EndsIn, IsRun, Operates, Reaches, Round, Stops, Takes, TakesTurns, machines, place, turn_of, turns_of};
+ghost use Rattle.cell_ledger.specs.New.{AreBlank};
 
 use cell_ledger::{Blanks, Kept, Run, Shares};
 use cell_types::Machine;
@@ -216,11 +217,7 @@ pub fn run_over<P: Port, O: OperatorPort, R: Run>(
 ) -> Outcome
     requires parts { 0 < R.parts }
     requires limits { book.limits ≡ R.limits }
-    requires entries { (blanks.entries.name ≡ R.entries_name) × (blanks.entries.parts ≡ R.parts) }
-    requires admitted { (blanks.admitted.name ≡ R.admitted_name) × (blanks.admitted.parts ≡ R.parts) }
-    requires forged { (blanks.forged.name ≡ R.forged_name) × (blanks.forged.parts ≡ R.parts) }
-    requires quarantined { (blanks.quarantined.name ≡ R.quarantined_name) × (blanks.quarantined.parts ≡ R.parts) }
-    requires delivered { (blanks.delivered.name ≡ R.delivered_name) × (blanks.delivered.parts ≡ R.parts) }
+    requires ledgers { AreBlank R.Run blanks }
     ensures limits { result.book.limits ≡ R.limits }
     ensures run { book.entries ≡ [] → IsRun R.limits plan.now script result.book.entries result.end }
 {

@@ -1,5 +1,6 @@
 //! Worked examples: shares that count beside a book.
 ghost use Rattle.std.specs.Prelude.{◌≡◌, ◌≤◌, ◌<◌, true};
+ghost use Rattle.cell_ledger.specs.New.{AreBlank};
 
 use cell_ledger::{Blanks, Kept, Run, Shares};
 use cell_samples::{ONE_PLATE, begun, entry_of};
@@ -44,11 +45,7 @@ fn keep_all<R: Run>(rt: &impl Abort, kept: &mut Kept<R>, shares: &mut Shares<R>,
 fn two_shares<R: Run>(rt: &impl Abort, book: Book, blanks: Blanks)
     requires parts { R.parts ≡ 2 }
     requires limits { book.limits ≡ R.limits }
-    requires entries { (blanks.entries.name ≡ R.entries_name) × (blanks.entries.parts ≡ R.parts) }
-    requires admitted { (blanks.admitted.name ≡ R.admitted_name) × (blanks.admitted.parts ≡ R.parts) }
-    requires forged { (blanks.forged.name ≡ R.forged_name) × (blanks.forged.parts ≡ R.parts) }
-    requires quarantined { (blanks.quarantined.name ≡ R.quarantined_name) × (blanks.quarantined.parts ≡ R.parts) }
-    requires delivered { (blanks.delivered.name ≡ R.delivered_name) × (blanks.delivered.parts ≡ R.parts) }
+    requires ledgers { AreBlank R.Run blanks }
 {
     let (mut kept, shares) = Kept::<R>::new(book, blanks);
     counts_are(rt, shares.counts(), 4, 1);

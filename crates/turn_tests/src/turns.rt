@@ -1,6 +1,7 @@
 //! Worked examples: turns of the feed belt and of the deposit belt.
 ghost use Rattle.std.specs.Prelude.{◌≡◌, ◌<◌, ◌≤◌};
 ghost use Rattle.cell_turns.specs.Minds.{machine_of_watch};
+ghost use Rattle.cell_ledger.specs.New.{AreBlank};
 
 mod memory_ports;
 mod schedules;
@@ -54,11 +55,7 @@ fn take_turns<R: Run>(
 ) -> usize
     requires parts { 0 < R.parts }
     requires limits { book.limits ≡ R.limits }
-    requires entries { (blanks.entries.name ≡ R.entries_name) × (blanks.entries.parts ≡ R.parts) }
-    requires admitted { (blanks.admitted.name ≡ R.admitted_name) × (blanks.admitted.parts ≡ R.parts) }
-    requires forged { (blanks.forged.name ≡ R.forged_name) × (blanks.forged.parts ≡ R.parts) }
-    requires quarantined { (blanks.quarantined.name ≡ R.quarantined_name) × (blanks.quarantined.parts ≡ R.parts) }
-    requires delivered { (blanks.delivered.name ≡ R.delivered_name) × (blanks.delivered.parts ≡ R.parts) }
+    requires ledgers { AreBlank R.Run blanks }
 {
     let (mut kept, mut shares) = Kept::<R>::new(book, blanks);
     let mut watch = Watch::start(machine, kept.book());

@@ -1,5 +1,6 @@
 //! Worked examples: schedules over ports in memory.
 ghost use Rattle.std.specs.Prelude.{◌≡◌, ◌<◌};
+ghost use Rattle.cell_ledger.specs.New.{AreBlank};
 
 use crate::turns::memory_ports::{MemoryHands, MemoryPort};
 use crate::turns::{plan_of, showing};
@@ -54,11 +55,7 @@ fn play_over<R: Run>(
 ) -> Played
     requires parts { 0 < R.parts }
     requires limits { book.limits ≡ R.limits }
-    requires entries { (blanks.entries.name ≡ R.entries_name) × (blanks.entries.parts ≡ R.parts) }
-    requires admitted { (blanks.admitted.name ≡ R.admitted_name) × (blanks.admitted.parts ≡ R.parts) }
-    requires forged { (blanks.forged.name ≡ R.forged_name) × (blanks.forged.parts ≡ R.parts) }
-    requires quarantined { (blanks.quarantined.name ≡ R.quarantined_name) × (blanks.quarantined.parts ≡ R.parts) }
-    requires delivered { (blanks.delivered.name ≡ R.delivered_name) × (blanks.delivered.parts ≡ R.parts) }
+    requires ledgers { AreBlank R.Run blanks }
 {
     let (mut kept, mut shares) = Kept::<R>::new(book, blanks);
     let mut watches = Watches::start(kept.book());

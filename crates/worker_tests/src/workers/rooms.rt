@@ -1,5 +1,6 @@
 //! A room of a test's own, in which one worker at a time works on the thread of the test.
 ghost use Rattle.std.specs.Prelude.{◌≡◌, ◌<◌, []};
+ghost use Rattle.cell_ledger.specs.New.{AreBlank};
 
 use cell_ledger::{Blanks, Kept, Run, Shares};
 use cell_samples::entry_of;
@@ -43,11 +44,7 @@ fn play_over<S: Play, R: Run, W: AllocGlobal + Abort + Wait>(
     requires parts { R.parts ≡ 2 }
     requires limits { book.limits ≡ R.limits }
     requires empty { book.entries ≡ [] }
-    requires entries { (blanks.entries.name ≡ R.entries_name) × (blanks.entries.parts ≡ R.parts) }
-    requires admitted { (blanks.admitted.name ≡ R.admitted_name) × (blanks.admitted.parts ≡ R.parts) }
-    requires forged { (blanks.forged.name ≡ R.forged_name) × (blanks.forged.parts ≡ R.parts) }
-    requires quarantined { (blanks.quarantined.name ≡ R.quarantined_name) × (blanks.quarantined.parts ≡ R.parts) }
-    requires delivered { (blanks.delivered.name ≡ R.delivered_name) × (blanks.delivered.parts ≡ R.parts) }
+    requires ledgers { AreBlank R.Run blanks }
 {
     let (kept, all) = Kept::<R>::new(book, blanks);
     let (first, second) = all.split();
