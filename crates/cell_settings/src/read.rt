@@ -9,13 +9,9 @@ use crate::keys::check_keys;
 use crate::numbers::{axis_limits, member_number};
 use cell_diagnosis::Limits;
 use cell_turns::Plan;
-use cell_types::Axis;
+use cell_types::{Axis, MAX_ENTRIES, MAX_PLATES};
 use std::alloc::Global;
 use toml::Table;
-
-const MAX_PLATES: u32 = 100_000;
-
-const MAX_ENTRIES: u32 = 1_000_000;
 
 const MAX_TURNS: u32 = 10_000_000;
 
