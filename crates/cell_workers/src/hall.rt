@@ -3,7 +3,7 @@ ghost use Rattle.std.specs.Prelude.{◌≡◌, ◌≢◌, ◌<◌, ◌⊎◌, �
 ghost use Rattle.cell_types.specs.Entries.{actor_of};
 ghost use Rattle.cell_types.specs.declared.words.Actor.TheVariants as actors;
 ghost use Rattle.cell_types.specs.Same.{machine_number};
-ghost use Rattle.cell_views.specs.Views.{count_of};
+ghost use Rattle.cell_views.specs.Views.{count_of, is_quarantined};
 ghost use Rattle.plate_book.specs.Rules.Legal.{first_of};
 ghost use Rattle.cell_ledger.specs.Counts.{plus, count_one};
 ghost use Rattle.cell_ledger.specs.Held.{held};
@@ -175,8 +175,11 @@ impl<R: Run> Hall<R> {
         requires { actor_of entry ≡ actors.Operator }
         ensures ok { OnOk result (shares.new ≡ held shares.old.parts (plus shares.old.counts (count_one entry))) }
         ensures booked { OnOk result (self.new.kept ≡ record { limits = self.old.kept.limits; entries = self.old.kept.entries ++ entry ∷ [] }) }
+        ensures allowed { OnOk result (first_of self.old.kept.limits self.old.kept.entries entry ≡ None) }
         ensures refused { IfErr result (λ why. why ≢ Refusal.OutOfMemory → first_of self.old.kept.limits self.old.kept.entries entry ≡ Some why) }
+        ensures memory { result ≡ Err Refusal.OutOfMemory → (first_of self.old.kept.limits self.old.kept.entries entry ≡ None) × (is_quarantined entry ≡ true) }
         ensures idle { OnOk result (self.new.idle ≡ self.old.lost) }
+        ensures marks { OnErr result (self.new.idle ≡ self.old.idle) }
         ensures lost { self.new.lost ≡ self.old.lost }
         ensures stands { self.new.end ≡ self.old.end }
         ensures unchanged { OnErr result ((shares.new ≡ shares.old) × (self.new.kept ≡ self.old.kept)) }

@@ -1,5 +1,5 @@
 //! The operator's worker.
-ghost use Rattle.std.specs.Prelude.{◌≡◌, ◌≢◌, ◌++◌, ◌∷◌, [], true, IfOk, IfErr, OnOk, OnErr, IfSome, IfNone, All, Some, is_some};
+ghost use Rattle.std.specs.Prelude.{◌≡◌, ◌≢◌, ◌++◌, ◌∷◌, [], true, IfOk, IfErr, OnOk, OnErr, IfSome, IfNone, All, Some, IsSome, is_some};
 ghost use Rattle.cell_types.specs.Entries.{actor_of};
 ghost use Rattle.cell_types.specs.declared.words.Actor.TheVariants as actors;
 ghost use Rattle.cell_views.specs.Views.{count_of};
@@ -9,7 +9,7 @@ ghost use Rattle.cell_ledger.specs.Held.{Held, held};
 ghost use Rattle.cell_turns.specs.Logs.{ActLog, after_hand};
 ghost use Rattle.cell_turns.specs.Acts.{act_of};
 ghost use Rattle.cell_workers.specs.Operating.{DidHands, HandsEnded};
-ghost use Rattle.cell_workers.specs.Working.{Serves};
+ghost use Rattle.cell_workers.specs.Working.{Serves, Stands};
 
 use crate::ends::End;
 use crate::hall::{Ended, Hall, Room};
@@ -43,6 +43,10 @@ impl<R: Run> Hall<R> {
         ensures unchanged { OnErr result ((bookings.new.entries.items ≡ bookings.old.entries.items) × (bookings.new.shares ≡ bookings.old.shares)) }
         ensures ended { result ≢ Err Ended.Told }
         ensures refused { result ≡ Err Ended.PortLost → is_some (first_of self.old.kept.limits self.old.kept.entries entry) ≡ true }
+        ensures full { result ≡ Err Ended.Full → first_of self.old.kept.limits self.old.kept.entries entry ≡ Some Refusal.JournalFull }
+        ensures kept { OnErr result (self.new.kept ≡ self.old.kept) }
+        ensures ends { IfErr result (λ ended. ended ≢ Ended.PortLost → IsSome self.new.end) }
+        ensures stands { Stands self.old.end self.new.end }
     {
         if bookings.entries.reserve(1).is_err() {
             self.finish(End::Memory);
