@@ -1,9 +1,9 @@
 -- What the steps of a round lead to
-use Rattle.std.proofs.Common.{◌≡◌, ◌≢◌, ◌⊎◌, inl, inr, ℕ, ◌+◌, ◌<◌, List, [], ◌∷◌, ◌++◌, map, take, drop, length, Bool, true, false, not, Option, Some, None, refl, sym, ap, subst, ◌∙◌, append_assoc, append-nil, add-zero, arith, length-append, Result, Ok, Err, IfErr, option_to_list, eqb-true}
+use Rattle.std.proofs.Common.{◌≡◌, ◌≢◌, ◌⊎◌, inl, inr, ℕ, ◌+◌, ◌<◌, List, [], ◌∷◌, ◌++◌, map, length, Bool, true, false, not, Option, Some, None, refl, sym, ap, subst, ◌∙◌, append_assoc, append-nil, add-zero, arith, length-append, Result, Ok, Err, IfErr, option_to_list, eqb-true}
 use Rattle.std.specs.Prelude.{if◌then◌else◌, nat_eq}
 use Rattle.std.specs.Result.{IsErrAnd}
 use Rattle.std.proofs.Math.Nat.{zero-add}
-use Rattle.std.proofs.lemmas.List.{map-append, append_cancel_left, take-append-drop}
+use Rattle.std.proofs.lemmas.List.{map-append, append_cancel_left}
 use Rattle.cell_types.specs.declared.words.Machine.{Machine}
 use Rattle.cell_types.specs.declared.words.Actor.{Actor}
 use Rattle.cell_types.specs.declared.words.Actor.TheVariants as actor
@@ -100,16 +100,16 @@ pub takes_of : (p : Plan) (steps : List Step) (refused : ℕ) (a b : History) (w
 takes_of p steps refused a b ws ws' told acts acts' minds zero_refused s fits = (s.failed, subst (λ (r : ℕ). Led a.limits p (now a.entries minds) steps r s.failed b.entries ws') zero_refused (s.led minds fits))
 
 -- a schedule of a first part of some steps
-pub breaks_of : (p : Plan) (steps : List Step) (n : ℕ) (refused : ℕ) (a b : History) (ws ws' : Six Watch) (told : Bool) (acts acts' : ActLog) (minds : Six Mind)
-    → Scheduled p (take n steps) refused a b ws ws' told acts acts' → FitAll ws minds → Breaks a.limits p (map turn_of steps) (now a.entries minds) b.entries refused
-breaks_of p steps n refused a b ws ws' told acts acts' minds s fits =
+pub breaks_of : (p : Plan) (steps done left : List Step) (refused : ℕ) (a b : History) (ws ws' : Six Watch) (told : Bool) (acts acts' : ActLog) (minds : Six Mind)
+    → steps ≡ done ++ left → Scheduled p done refused a b ws ws' told acts acts' → FitAll ws minds → Breaks a.limits p (map turn_of steps) (now a.entries minds) b.entries refused
+breaks_of p steps done left refused a b ws ws' told acts acts' minds is s fits =
     let led = s.led minds fits in
     record {
-      steps = take n steps;
-      left = map turn_of (drop n steps);
+      steps = done;
+      left = map turn_of left;
       failed = s.failed;
       minds = led.minds;
-      first = sym (map-append turn_of (take n steps) (drop n steps)) ∙ ap (map turn_of) (take-append-drop n steps);
+      first = sym (map-append turn_of done left) ∙ ap (map turn_of) (sym is);
       leads = led.leads;
     }
 

@@ -1,14 +1,24 @@
--- What is printed of a report.
-use Rattle.std.proofs.Common.{ℕ, Bool, List, Option, Result, Ok, Err, inl}
+-- What is printed of a report, and of a run in rounds.
+use Rattle.std.proofs.Common.{◌≡◌, ℕ, Bool, List, Option, Result, Ok, Err, inl, subst}
 use Rattle.std.specs.Prelude.{IfOk}
 use Rattle.cell_types.specs.declared.words.Entry.{Entry}
 use Rattle.cell_types.specs.declared.words.Totals.{Totals}
+use Rattle.cell_views.specs.Views.{count_of}
 use Rattle.plate_book.specs.declared.limits.BookLimits.{BookLimits}
+use Rattle.cell_turns.specs.declared.plan.Plan.{Plan}
 use Rattle.cell_workers.specs.declared.ends.End.{End}
 use Rattle.cell_workers.specs.Report.{IsReport}
-use Rattle.cell_runs.specs.Runs.{PrintsOrStops, WritesReport}
+use Rattle.operator_desk.specs.declared.line.Line.{Line}
+use Rattle.cell_runs.specs.Rounds.{IsRun}
+use Rattle.cell_runs.specs.Runs.{PrintsOrStops, WritesReport, WritesRounds, limits_of}
 
 pub report-printed : {E : Type 0} (r : Result ℕ E) (journal : Bool) (e : End) (J : List Entry) (t : Totals) (ws : List (List Entry × Totals)) (old new : Option (List ℕ))
     → IfOk r (PrintsOrStops journal e t J old new) → IfOk r (λ status. (limits : BookLimits) → IsReport limits J t ws → WritesReport journal limits old new status)
 report-printed (Ok status) journal e J t ws old new printed = λ limits is. inl (e, J, t, ws, is, printed)
 report-printed (Err error) journal e J t ws old new printed = printed
+
+pub rounds-printed : {E : Type 0} (r : Result ℕ E) (journal : Bool) (e : End) (J K : List Entry) (t : Totals) (old new : Option (List ℕ))
+    → K ≡ J → t ≡ count_of J → IfOk r (PrintsOrStops journal e t K old new) → IfOk r (λ status. (plan : Plan) (script : List Line) → IsRun (limits_of plan) plan script J e → WritesRounds journal plan script old new status)
+rounds-printed (Ok status) journal e J K t old new same counts printed = λ plan script run.
+    inl (e, J, run, subst (λ (L : List Entry). PrintsOrStops journal e (count_of J) L old new status) same (subst (λ (u : Totals). PrintsOrStops journal e u K old new status) counts printed))
+rounds-printed (Err error) journal e J K t old new same counts printed = printed

@@ -16,4 +16,4 @@ returns-in-Ok-2-clause-booked g c = λ minds fits e is.
 pub returns-in-Err-clause-stops : goal.returns-in-Err-clause-stops
 returns-in-Err-clause-stops g c = λ minds fits.
     let s = c.in-Err.ensures.stopped in
-    (s.refused, breaks_of c.args.plan.now (c.args.step ∷ []) s.taken s.refused c.args.cell.now.kept c.run_schedule-ran.new.kept c.args.cell.now.watches c.run_schedule-ran.new.watches _ _ _ minds s.scheduled fits)
+    (s.refused, breaks_of c.args.plan.now (c.args.step ∷ []) s.taken (s.next ∷ s.left) s.refused c.args.cell.now.kept c.run_schedule-ran.new.kept c.args.cell.now.watches c.run_schedule-ran.new.watches _ _ _ minds s.in_order s.scheduled fits)
