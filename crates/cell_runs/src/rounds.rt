@@ -12,7 +12,7 @@ ghost use Rattle.cell_runs.specs.Rounds.{Ended, EndsIn, IsRun, Operates, Reaches
 ghost use Rattle.cell_ledger.specs.New.{AreBlank};
 
 use cell_ledger::{Blanks, Kept, Run, Shares};
-use cell_types::Machine;
+use cell_types::{MACHINES, Machine};
 use cell_workers::{
     End, OperatorPort, Plan, Port, Ports, Six, Step, Watch, Watches, end_at_rest, is_idle,
     run_schedule,
@@ -20,16 +20,6 @@ use cell_workers::{
 use operator_desk::{Script, entry_of};
 use plate_book::Book;
 use std::alloc::Global;
-
-/// The machines, in their order.
-const MACHINES: [Machine; 6] = [
-    Machine::Feed,
-    Machine::Table,
-    Machine::Robot,
-    Machine::Press1,
-    Machine::Press2,
-    Machine::Deposit,
-];
 
 /// What a run left: its book, and how it ended.
 #[derive(Drop)]
@@ -40,7 +30,7 @@ pub struct Outcome {
 
 // What a run has from round to round.
 #[derive(Drop)]
-struct Cell<R: Run> {
+struct Progress<R: Run> {
     kept: Kept<R>,
     shares: Shares<R>,
     watches: Watches,
@@ -55,7 +45,7 @@ fn take_step<P: Port, O: OperatorPort, R: Run>(
     step: Step,
     ports: &mut Ports<P>,
     hands: &mut O,
-    cell: &mut Cell<R>,
+    cell: &mut Progress<R>,
     plan: &Plan,
 ) -> Result<bool, End>
     requires { (m : MachineValue) → machine_of_watch (at cell.old.watches m) ≡ m }
@@ -88,7 +78,7 @@ fn take_turns<P: Port, O: OperatorPort, R: Run>(
     alloc: Global,
     ports: &mut Ports<P>,
     hands: &mut O,
-    cell: &mut Cell<R>,
+    cell: &mut Progress<R>,
     plan: &Plan,
 ) -> Result<(), End>
     requires { (m : MachineValue) → machine_of_watch (at cell.old.watches m) ≡ m }
@@ -117,7 +107,7 @@ fn act<P: Port, O: OperatorPort, R: Run>(
     alloc: Global,
     ports: &mut Ports<P>,
     hands: &mut O,
-    cell: &mut Cell<R>,
+    cell: &mut Progress<R>,
     plan: &Plan,
 ) -> Result<(), End>
     requires { (m : MachineValue) → machine_of_watch (at cell.old.watches m) ≡ m }
@@ -164,7 +154,7 @@ fn take_round<P: Port, O: OperatorPort, R: Run>(
     alloc: Global,
     ports: &mut Ports<P>,
     hands: &mut O,
-    cell: &mut Cell<R>,
+    cell: &mut Progress<R>,
     plan: &Plan,
 ) -> Result<(), End>
     requires { (m : MachineValue) → machine_of_watch (at cell.old.watches m) ≡ m }
@@ -188,7 +178,7 @@ fn run_rounds<P: Port, O: OperatorPort, R: Run>(
     alloc: Global,
     ports: &mut Ports<P>,
     hands: &mut O,
-    cell: &mut Cell<R>,
+    cell: &mut Progress<R>,
     plan: &Plan,
 ) -> End
     requires { (m : MachineValue) → machine_of_watch (at cell.old.watches m) ≡ m }
@@ -223,7 +213,7 @@ pub fn run_over<P: Port, O: OperatorPort, R: Run>(
 {
     let watches = Watches::start(&book);
     let (kept, shares) = Kept::<R>::new(book, blanks);
-    let mut cell = Cell {
+    let mut cell = Progress {
         kept,
         shares,
         watches,

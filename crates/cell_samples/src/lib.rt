@@ -6,10 +6,8 @@ mod books;
 mod records;
 mod scripts;
 mod streams;
-mod words;
 
 pub use books::{begun, book_all};
 pub use records::{ONE_PLATE, entry_of, one_plate_text, plate};
 pub use scripts::{CLEARED_PRESS, STUCK_PRESS};
 pub use streams::{Bytewise, Full};
-pub use words::{AXES, MACHINES};

@@ -3,8 +3,8 @@
 mod walk;
 
 use cell_machines::propose;
-use cell_samples::{MACHINES, begun, book_all, entry_of};
-use cell_types::{Actor, Entry, Machine, actor_of};
+use cell_samples::{begun, book_all, entry_of};
+use cell_types::{Actor, Entry, MACHINES, Machine, actor_of};
 use plate_book::Book;
 use std::alloc::Global;
 use std::process::Abort;

@@ -1,6 +1,6 @@
 //! Each motion of a run with each fault.
 use crate::rounds::run_in_world;
-use cell_samples::AXES;
+use cell_types::AXES;
 use cell_types::texts::axis_word;
 use cell_workers::End;
 use std::process::Abort;

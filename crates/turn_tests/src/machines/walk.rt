@@ -1,8 +1,8 @@
 //! The machines' proposals alone carry plates through the cell, where each motion ends and each sign comes as soon as
 //! it can.
 use cell_machines::propose;
-use cell_samples::{AXES, MACHINES, entry_of};
-use cell_types::{Axis, Belt, Colour, Entry, Machine, PlateId, Pose, Station};
+use cell_samples::entry_of;
+use cell_types::{AXES, Axis, Belt, Colour, Entry, MACHINES, Machine, PlateId, Pose, Station};
 use plate_book::Book;
 use std::alloc::Global;
 use std::process::Abort;

@@ -2,9 +2,8 @@
 use crate::workers::cell::{ample_plan, faults_of, ports_of, run_over, script_of};
 use crate::workers::reports::check_end;
 use crate::workers::telling::{Failing, TellingPort, check_sent};
-use cell_samples::MACHINES;
 use cell_sim::{SimOperator, SimPort, World};
-use cell_types::{Belt, Cause, Colour, Entry, Machine};
+use cell_types::{Belt, Cause, Colour, Entry, MACHINES, Machine};
 use cell_workers::{End, OperatorPort, Port, PortFault, Report, Six};
 use std::process::Abort;
 use std::sync::{Mutex, Wait};
