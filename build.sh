@@ -66,14 +66,14 @@ prove() {
 
 crates=$(needed)
 total=$(echo "$crates" | wc -l)
-echo "cellctl: $total libraries are proved first, once, and then the program, which takes about a quarter of an hour on four cores."
+echo "cellctl: $total libraries are proved first, once, and then the program, which took 22 minutes on four cores that did other work too."
 echo "cellctl: to run it within a minute with nothing proved: ./cellctl --unproved .."
 for crate in $crates; do
     prove "$crate" &
 done
 wait
 [ -e "$work/failed" ] && exit 1
-echo "cellctl: the program is proved and built last, which takes two minutes"
+echo "cellctl: the program is proved and built last"
 (cd "$here/crates/cellctl" && rt run -- --help) </dev/null >"$work/cellctl.said" 2>&1 && exit
 tail -n 5 "$work/cellctl.said"
 exit 1
