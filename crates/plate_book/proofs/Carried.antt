@@ -24,7 +24,7 @@ use Rattle.plate_book.proofs.Safe.Facts.{axis_same, machine_same, pose_same, not
 use Rattle.plate_book.proofs.Safe.Motion.{Unload1, Unload2}
 use Rattle.plate_book.proofs.Safe.Plates.{without_is}
 use Rattle.plate_book.proofs.Safe.Step.{Inv, hands, at_spot, green}
-use Rattle.plate_book.proofs.Safe.Views.{after_snoc}
+use Rattle.cell_journal.proofs.JournalLaws.{after_snoc}
 use Rattle.plate_book.proofs.Safe.Bridge.{good_cell, good_passed, good_when_legal, along, marks_of}
 
 -- a station isn't empty

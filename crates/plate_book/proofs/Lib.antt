@@ -10,4 +10,5 @@ pub mod Declaring
 pub mod Carried
 pub mod Tellings
 pub mod Readings
+pub mod Seen
 pub mod Books

@@ -12,3 +12,4 @@ pub mod Claims
 pub mod Reads
 pub mod SituationIn
 pub mod Bridged
+pub mod Seen

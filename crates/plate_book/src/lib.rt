@@ -2,7 +2,6 @@
 #![tactic(auto)]
 
 pub mod book;
-mod changes;
 mod checks;
 mod conditions;
 pub mod laws;
