@@ -84,12 +84,12 @@ fn place_after(entries: &[Entry], k: usize, actor: Actor, entry: &Entry) -> Opti
 }
 
 /// Whether these are the actor's entries of the journal.
-fn agrees(journal: &[Entry], actor: Actor, entries: &[Entry]) -> bool
-    ensures { IsTrue result → entries.now ≡ entries_of actor journal.now }
+fn agrees(journal: &Journal, actor: Actor, entries: &[Entry]) -> bool
+    ensures { IsTrue result → entries.now ≡ entries_of actor journal.now.entries }
 {
     let mut k = 0;
-    for e in journal {
-        k = match place_after(entries, k, actor, e) {
+    for place in 0..journal.len() {
+        k = match place_after(entries, k, actor, &journal.at(place)) {
             Some(next) => next,
             None => return false,
         };
@@ -99,7 +99,7 @@ fn agrees(journal: &[Entry], actor: Actor, entries: &[Entry]) -> bool
 
 /// Whether each worker's list is its actor's entries of the journal.
 fn all_agree(
-    journal: &[Entry],
+    journal: &Journal,
     feed: &[Entry],
     table: &[Entry],
     robot: &[Entry],
@@ -108,7 +108,7 @@ fn all_agree(
     deposit: &[Entry],
     operator: &[Entry],
 ) -> bool
-    ensures { result ≡ true → AreAllOf journal.now feed.now table.now robot.now press1.now press2.now deposit.now operator.now }
+    ensures { result ≡ true → AreAllOf journal.now.entries feed.now table.now robot.now press1.now press2.now deposit.now operator.now }
 {
     agrees(journal, Actor::Machine(Machine::Feed), feed)
         && agrees(journal, Actor::Machine(Machine::Table), table)
@@ -186,9 +186,8 @@ fn settle<R: Run>(hall: Hall<R>, team: Team<R>) -> Result<Report, RunError>
     kept.is_lawful();
     let totals = all.counts();
     let journal = kept.into_book().into_journal();
-    let entries = journal.entries();
     let same = all_agree(
-        entries,
+        &journal,
         feed.as_slice(),
         table.as_slice(),
         robot.as_slice(),
