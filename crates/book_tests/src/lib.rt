@@ -6,6 +6,8 @@ mod book;
 #[cfg(test)]
 mod journal;
 #[cfg(test)]
+mod past;
+#[cfg(test)]
 mod types;
 #[cfg(test)]
 mod views;

@@ -3,11 +3,13 @@
 #![tactic(auto)]
 
 mod books;
+mod journals;
 mod records;
 mod scripts;
 mod streams;
 
 pub use books::{begun, book_all};
+pub use journals::entries_of;
 pub use records::{ONE_PLATE, entry_of, one_plate_text, plate};
 pub use scripts::{CLEARED_PRESS, STUCK_PRESS};
 pub use streams::{Bytewise, Full};

@@ -1,8 +1,12 @@
--- The counts of all workers, added up
-use Rattle.std.proofs.Common.{◌≡◌, ℕ, List, sym, ap, ap₂, ◌∙◌}
+-- What a report says: each worker's list is its entries of the journal, and the counts of all add up
+use Rattle.std.proofs.Common.{◌≡◌, ℕ, ◌+◌, Some, List, [], ◌∷◌, ◌++◌, take, sym, ap, ap₂, ◌∙◌}
+use Rattle.std.specs.Prelude.{slice_get}
+use Rattle.std.proofs.lemmas.List.Elements.{filter-append}
 use Rattle.cell_types.specs.declared.words.Actor.{Actor}
 use Rattle.cell_types.specs.declared.words.Entry.{Entry}
-use Rattle.cell_turns.specs.Schedules.{entries_of}
+use Rattle.cell_types.specs.Entries.{actor_of}
+use Rattle.cell_turns.specs.Schedules.{same_actor, entries_of}
+use Rattle.cell_journal.proofs.JournalLaws.{take_get}
 use Rattle.cell_types.specs.declared.words.Totals.{Totals}
 use Rattle.cell_ledger.specs.Counts.{nothing, plus}
 use Rattle.cell_ledger.specs.Held.{Held, held}
@@ -16,6 +20,13 @@ sum_last k s is = sym (plus_none k) ∙ is
 pub sum_more : (k x : Totals) (s a next : Held) (n : ℕ) → k ≡ s.counts → next ≡ held n (plus s.counts a.counts) → x ≡ a.counts → plus k x ≡ next.counts
 sum_more k x s a next n is gathered rest = ap₂ plus is rest ∙ sym (ap (λ (h : Held). h.counts) gathered)
 
--- a list that agrees, as its slice and the journal's do
-pub listed : {items slice journal J : List Entry} (a : Actor) → items ≡ slice → slice ≡ entries_of a journal → journal ≡ J → items ≡ entries_of a J
-listed a is own same = is ∙ own ∙ ap (entries_of a) same
+-- a list that agrees with the first entries of the journal, with the next one
+pub agrees_more : (a : Actor) (J own : List Entry) (place k n : ℕ) (e : Entry) → slice_get J place ≡ Some e → take k own ≡ entries_of a (take place J) → take n own ≡ take k own ++ entries_of a (e ∷ []) → take n own ≡ entries_of a (take (place + 1) J)
+agrees_more a J own place k n e there so more =
+    more
+    ∙ ap (λ (l : List Entry). l ++ entries_of a (e ∷ [])) so
+    ∙ sym (ap (entries_of a) (take_get J place e there) ∙ filter-append (λ (x : Entry). same_actor a (actor_of x)) (take place J) (e ∷ []))
+
+-- a list that agrees, as its slice does
+pub listed : {items slice J : List Entry} (a : Actor) → items ≡ slice → slice ≡ entries_of a J → items ≡ entries_of a J
+listed a is own = is ∙ own

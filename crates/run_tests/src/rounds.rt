@@ -6,6 +6,7 @@ mod hands;
 use cell_audit::{audit, write_journal};
 use cell_lines::WriteFault;
 use cell_runs::{Inputs, read_inputs, run_texts, simulate};
+use cell_samples::entries_of;
 use cell_sim::{SimOperator, World};
 use cell_types::{Axis, Entry, Totals};
 use cell_workers::End;
@@ -88,10 +89,13 @@ fn run_in_world<R: AllocGlobal + Wait + Abort>(
     let mut text = Vec::new(alloc);
     assert!(rt; write_journal(alloc, outcome.book.journal(), &mut text).is_ok());
     assert_eq!(rt; audit(alloc, text.as_slice()), Ok(totals));
+    let Ok(entries) = entries_of(alloc, outcome.book.journal()) else {
+        panic!(rt; "there is memory");
+    };
     Left {
         end: outcome.end,
         totals,
-        motions: motions_of(outcome.book.journal().entries()),
+        motions: motions_of(&entries),
         collisions: world.lock(rt).collisions(),
     }
 }

@@ -16,11 +16,12 @@ const ACTORS: [Actor; 7] = [
     Actor::Operator,
 ];
 
-/// The counts of an actor's entries of a journal, where its list is these entries in their order.
-fn counts_of_list(journal: &[Entry], actor: Actor, list: &[Entry]) -> Option<Totals> {
-    let mut rest = list.iter();
-    for entry in journal {
-        if actor_of(*entry) == actor && rest.next() != Some(entry) {
+/// The counts of an actor's entries of a report's journal, where its list is these entries in their order.
+fn counts_of_list(report: &Report, actor: Actor, list: &[Entry]) -> Option<Totals> {
+    let mut rest = list.iter().copied();
+    for place in 0..report.journal.len() {
+        let entry = report.journal.get(place);
+        if entry.map(actor_of) == Some(actor) && rest.next() != entry {
             return None;
         }
     }
@@ -46,7 +47,7 @@ fn sum_of(some: Totals, others: Totals) -> Totals {
 pub(crate) fn check_lists(rt: &impl Abort, report: &Report) {
     let mut all = count_of(&[]);
     for ((list, counts), actor) in report.workers.iter().zip(ACTORS.iter()) {
-        let counted = counts_of_list(report.journal.entries(), *actor, list.as_slice());
+        let counted = counts_of_list(report, *actor, list.as_slice());
         assert_eq!(rt; counted, Some(*counts), "the list of {actor:?}");
         all = sum_of(all, *counts);
     }
