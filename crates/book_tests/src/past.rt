@@ -3,8 +3,8 @@ use cell_journal::laws::{pack, unpack};
 use cell_journal::{Journal, Snapshot};
 use cell_samples::{ONE_PLATE, begun, entry_of};
 use cell_types::{
-    AXES, Axis, BELTS, Belt, Colour, Entry, MACHINES, Machine, PlateId, Pose, STATIONS,
-    Station, ZONES, Zone,
+    AXES, Axis, BELTS, Belt, Colour, Entry, MACHINES, Machine, PlateId, Pose, STATIONS, Station,
+    ZONES, Zone,
 };
 use plate_book::Book;
 use std::process::Abort;
