@@ -28,5 +28,5 @@ agrees_more a J own place k n e there so more =
     ∙ sym (ap (entries_of a) (take_get J place e there) ∙ filter-append (λ (x : Entry). same_actor a (actor_of x)) (take place J) (e ∷ []))
 
 -- a list that agrees, as its slice does
-pub listed : {items slice J : List Entry} (a : Actor) → items ≡ slice → slice ≡ entries_of a J → items ≡ entries_of a J
-listed a is own = is ∙ own
+pub listed : {items slice : List Entry} (J : List Entry) (a : Actor) → items ≡ slice → slice ≡ entries_of a J → items ≡ entries_of a J
+listed J a is own = is ∙ own

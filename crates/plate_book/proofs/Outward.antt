@@ -1,5 +1,5 @@
 -- The tests of an arm's way out, in their five parts
-use Rattle.std.proofs.Common.{◌≡◌, Bool, Option, List, [], ◌∷◌, ◌++◌, refl, append_assoc}
+use Rattle.std.proofs.Common.{◌≡◌, Bool, List, [], ◌∷◌, ◌++◌, refl, append_assoc}
 use Rattle.std.specs.Option.{option_or}
 use Rattle.plate_book.specs.declared.refusal.Refusal.{Refusal}
 use Rattle.plate_book.specs.Rules.First.{first_true}
