@@ -6,11 +6,12 @@ use Rattle.cell_types.specs.declared.words.Totals.{Totals}
 use Rattle.cell_views.specs.Views.{count_of}
 use Rattle.plate_book.specs.declared.limits.BookLimits.{BookLimits}
 use Rattle.cell_turns.specs.declared.plan.Plan.{Plan}
+use Rattle.cell_audit.specs.Watched.{WritesPart}
 use Rattle.cell_workers.specs.declared.ends.End.{End}
 use Rattle.cell_workers.specs.Report.{IsReport}
 use Rattle.operator_desk.specs.declared.line.Line.{Line}
 use Rattle.cell_runs.specs.Rounds.{IsRun}
-use Rattle.cell_runs.specs.Runs.{PrintsOrStops, WritesReport, WritesRounds, limits_of}
+use Rattle.cell_runs.specs.Runs.{PartOfRounds, PrintsOrStops, WritesReport, WritesRounds, limits_of, shown}
 
 pub report-printed : {E : Type 0} (r : Result ℕ E) (journal : Bool) (e : End) (J : List Entry) (t : Totals) (ws : List (List Entry × Totals)) (old new : Option (List ℕ))
     → IfOk r (PrintsOrStops journal e t J old new) → IfOk r (λ status. (limits : BookLimits) → IsReport limits J t ws → WritesReport journal limits old new status)
@@ -22,3 +23,8 @@ pub rounds-printed : {E : Type 0} (r : Result ℕ E) (journal : Bool) (e : End) 
 rounds-printed (Ok status) journal e J K t old new same counts printed = λ plan script run.
     inl (e, J, run, subst (λ (L : List Entry). PrintsOrStops journal e (count_of J) L old new status) same (subst (λ (u : Totals). PrintsOrStops journal e u K old new status) counts printed))
 rounds-printed (Err error) journal e J K t old new same counts printed = printed
+
+pub rounds-in-part : (journal : Bool) (e : End) (J K : List Entry) (t : Totals) (old new : Option (List ℕ))
+    → K ≡ J → t ≡ count_of J → WritesPart old new (shown journal e t K) → (plan : Plan) (script : List Line) → IsRun (limits_of plan) plan script J e → PartOfRounds journal plan script old new
+rounds-in-part journal e J K t old new same counts part = λ plan script run.
+    (e, J, run, subst (λ (L : List Entry). WritesPart old new (shown journal e (count_of J) L)) same (subst (λ (u : Totals). WritesPart old new (shown journal e u K)) counts part))

@@ -65,17 +65,32 @@ abbrev pub WritesRounds : Bool → Plan → List Line → Option (List ℕ) → 
 WritesRounds journal plan script old new status =
     ((e : End) × (J : List Entry) × IsRun (limits_of plan) plan script J e × PrintsOrStops journal e (count_of J) J old new status) ⊎ WritesError old new [] 4 status
 
+-- a first part of what is printed of such a run was written, and not all of it
+abbrev pub PartOfRounds : Bool → Plan → List Line → Option (List ℕ) → Option (List ℕ) → Type 0
+PartOfRounds journal plan script old new =
+    (e : End) × (J : List Entry) × IsRun (limits_of plan) plan script J e × WritesPart old new (shown journal e (count_of J) J)
+
+-- the line where some actor's entries in the journal aren't its worker's
+abbrev pub disagrees_line : List ℕ
+disagrees_line = codes "journal disagrees\n"
+
 -- what is printed where there is no report
 abbrev pub WritesRunError : Option (List ℕ) → Option (List ℕ) → RunError → ℕ → Type 0
 WritesRunError old new run.OutOfMemory status = WritesError old new [] 4 status
 WritesRunError old new run.ThreadRefused status = WritesError old new [] 4 status
-WritesRunError old new run.JournalDisagrees status = WritesError old new (codes "journal disagrees\n") 1 status
+WritesRunError old new run.JournalDisagrees status = WritesError old new disagrees_line 1 status
 
 -- a run on threads has a report, which is printed with the run's end, or why there is none is told
 abbrev pub WritesReport : Bool → BookLimits → Option (List ℕ) → Option (List ℕ) → ℕ → Type 0
 WritesReport journal limits old new status =
     ((e : End) × (J : List Entry) × (t : Totals) × (ws : List (List Entry × Totals)) × IsReport limits J t ws × PrintsOrStops journal e t J old new status)
     ⊎ ((why : RunError) × WritesRunError old new why status)
+
+-- a first part of what is printed of a report, or of the line where there is none, was written, and not all of it
+abbrev pub PartOfReport : Bool → BookLimits → Option (List ℕ) → Option (List ℕ) → Type 0
+PartOfReport journal limits old new =
+    ((e : End) × (J : List Entry) × (t : Totals) × (ws : List (List Entry × Totals)) × IsReport limits J t ws × WritesPart old new (shown journal e t J))
+    ⊎ WritesPart old new disagrees_line
 
 abbrev pub WritesRun : Bool → Bool → Inputs → Option (List ℕ) → Option (List ℕ) → ℕ → Type 0
 WritesRun false journal inputs old new status = WritesRounds journal inputs.plan inputs.script old new status
@@ -91,3 +106,16 @@ WritesInputs threads journal old new status (Err e) = WritesError old new (input
 abbrev pub TellsRun : List ℕ → List ℕ → List ℕ → Bool → Bool → Option (List ℕ) → Option (List ℕ) → ℕ → Type 0
 TellsRun settings faults operator threads journal old new status =
     (inputs : Result Inputs InputError) × AreInputs settings faults operator inputs × WritesInputs threads journal old new status inputs
+
+abbrev pub PartOfRun : Bool → Bool → Inputs → Option (List ℕ) → Option (List ℕ) → Type 0
+PartOfRun false journal inputs old new = PartOfRounds journal inputs.plan inputs.script old new
+PartOfRun true journal inputs old new = PartOfReport journal (limits_of inputs.plan) old new
+
+abbrev pub PartOfInputs : Bool → Bool → Option (List ℕ) → Option (List ℕ) → Result Inputs InputError → Type 0
+PartOfInputs threads journal old new (Ok inputs) = PartOfRun threads journal inputs old new
+PartOfInputs threads journal old new (Err e) = WritesPart old new (input_line e)
+
+-- a first part of what is printed of these texts was written, and not all of it
+abbrev pub TellsPart : List ℕ → List ℕ → List ℕ → Bool → Bool → Option (List ℕ) → Option (List ℕ) → Type 0
+TellsPart settings faults operator threads journal old new =
+    (inputs : Result Inputs InputError) × AreInputs settings faults operator inputs × PartOfInputs threads journal old new inputs

@@ -7,7 +7,7 @@ ghost use Rattle.cell_turns.specs.declared.plan.Plan.{Plan as PlanValue};
 ghost use Rattle.cell_workers.specs.Report.{IsReport};
 ghost use Rattle.operator_desk.specs.declared.line.Line.{Line};
 ghost use Rattle.cell_runs.specs.Rounds.{IsRun};
-ghost use Rattle.cell_runs.specs.Runs.{PrintsOrStops, WritesReport, WritesRounds, WritesRunError, limits_of, run_lines, shown, status_of, word_of};
+ghost use Rattle.cell_runs.specs.Runs.{PartOfReport, PartOfRounds, PrintsOrStops, WritesReport, WritesRounds, WritesRunError, disagrees_line, limits_of, run_lines, shown, status_of, word_of};
 
 use crate::rounds::Outcome;
 use cell_audit::{WatchedWriter, WriteError, WriteFault, write_journal_watched};
@@ -107,6 +107,7 @@ pub fn write_outcome<W: Write>(
 ) -> Result<u8, WriteFault>
     ensures writer { IsSameWriter writer.old writer.new }
     ensures whole { IfOk result (λ status. (plan : PlanValue) (script : List Line) → IsRun (limits_of plan) plan script outcome.now.book.entries outcome.now.end → WritesRounds journal plan script (bytes_held W.contents writer.old) (bytes_held W.contents writer.new) status) }
+    ensures part { IsErr result → (plan : PlanValue) (script : List Line) → IsRun (limits_of plan) plan script outcome.now.book.entries outcome.now.end → PartOfRounds journal plan script (bytes_held W.contents writer.old) (bytes_held W.contents writer.new) }
     ensures fault { IsErr result → has_refused writer.new ≡ true }
 {
     outcome.book.is_lawful();
@@ -129,6 +130,7 @@ pub fn write_report<W: Write>(
 ) -> Result<u8, WriteFault>
     ensures writer { IsSameWriter writer.old writer.new }
     ensures whole { IfOk result (λ status. (limits : BookLimits) → IsReport limits report.now.journal.entries report.now.totals (map (λ w. (w.0.items, w.1)) report.now.workers) → WritesReport journal limits (bytes_held W.contents writer.old) (bytes_held W.contents writer.new) status) }
+    ensures part { IsErr result → (limits : BookLimits) → IsReport limits report.now.journal.entries report.now.totals (map (λ w. (w.0.items, w.1)) report.now.workers) → PartOfReport journal limits (bytes_held W.contents writer.old) (bytes_held W.contents writer.new) }
     ensures fault { IsErr result → has_refused writer.new ≡ true }
 {
     write_run(
@@ -149,6 +151,7 @@ pub fn write_run_error<W: Write>(
 ) -> Result<u8, WriteFault>
     ensures writer { IsSameWriter writer.old writer.new }
     ensures whole { IfOk result (WritesRunError (bytes_held W.contents writer.old) (bytes_held W.contents writer.new) error) }
+    ensures part { IsErr result → WritesPart (bytes_held W.contents writer.old) (bytes_held W.contents writer.new) disagrees_line }
     ensures fault { IsErr result → has_refused writer.new ≡ true }
 {
     match error {

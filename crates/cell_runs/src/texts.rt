@@ -1,7 +1,7 @@
 //! A run by its texts.
 ghost use Rattle.std.specs.Prelude.{◌≡◌, IfOk, IsErr, true};
 ghost use Rattle.cell_audit.specs.Watched.{IsSameWriter, bytes_held, has_refused};
-ghost use Rattle.cell_runs.specs.Runs.{TellsRun, WritesReport, WritesRounds, limits_of};
+ghost use Rattle.cell_runs.specs.Runs.{PartOfReport, PartOfRounds, TellsPart, TellsRun, WritesReport, WritesRounds, limits_of};
 
 use crate::inputs::{Inputs, read_inputs};
 use crate::refused::refuse_input;
@@ -25,6 +25,7 @@ fn write_rounds<R: AllocGlobal + Wait, W: Write>(
 ) -> Result<u8, WriteFault>
     ensures writer { IsSameWriter writer.old writer.new }
     ensures whole { IfOk result (WritesRounds journal inputs.plan inputs.script (bytes_held W.contents writer.old) (bytes_held W.contents writer.new)) }
+    ensures part { IsErr result → PartOfRounds journal inputs.plan inputs.script (bytes_held W.contents writer.old) (bytes_held W.contents writer.new) }
     ensures fault { IsErr result → has_refused writer.new ≡ true }
 {
     let Inputs {
@@ -49,6 +50,7 @@ fn write_threads<R: AllocGlobal + Threads + Wait + Sync, W: Write>(
 ) -> Result<u8, WriteFault>
     ensures writer { IsSameWriter writer.old writer.new }
     ensures whole { IfOk result (WritesReport journal (limits_of inputs.plan) (bytes_held W.contents writer.old) (bytes_held W.contents writer.new)) }
+    ensures part { IsErr result → PartOfReport journal (limits_of inputs.plan) (bytes_held W.contents writer.old) (bytes_held W.contents writer.new) }
     ensures fault { IsErr result → has_refused writer.new ≡ true }
 {
     let Inputs {
@@ -79,6 +81,7 @@ pub fn run_texts_watched<R: AllocGlobal + Threads + Wait + Sync, W: Write>(
 ) -> Result<u8, WriteFault>
     ensures writer { IsSameWriter writer.old writer.new }
     ensures whole { IfOk result (TellsRun settings.now faults.now operator.now threads journal (bytes_held W.contents writer.old) (bytes_held W.contents writer.new)) }
+    ensures part { IsErr result → TellsPart settings.now faults.now operator.now threads journal (bytes_held W.contents writer.old) (bytes_held W.contents writer.new) }
     // It answers that the writer failed only where a write was refused.
     ensures fault { IsErr result → has_refused writer.new ≡ true }
 {
@@ -117,7 +120,9 @@ pub fn run_texts<R: AllocGlobal + Threads + Wait + Sync, W: Write>(
     writer: &mut W,
 ) -> Result<u8, WriteFault>
     // What is written is of the first text that is refused, or of a run within the settings' limits.
-    ensures { IfOk result (TellsRun settings.now faults.now operator.now threads journal (W.contents writer.old) (W.contents writer.new)) }
+    ensures whole { IfOk result (TellsRun settings.now faults.now operator.now threads journal (W.contents writer.old) (W.contents writer.new)) }
+    // Where the writer failed, a first part of that was written.
+    ensures part { IsErr result → TellsPart settings.now faults.now operator.now threads journal (W.contents writer.old) (W.contents writer.new) }
 {
     let mut writer = WatchedWriter::new(writer);
     run_texts_watched(

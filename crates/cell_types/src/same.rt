@@ -85,7 +85,8 @@ fn is_plate(some: PlateId, other: PlateId) -> bool
 }
 
 fn is_lamp(entry: &Entry, belt: Belt, colour: Colour) -> bool
-    ensures { result ≡ true → entry.now ≡ Lamp belt colour }
+    ensures yes { result ≡ true → entry.now ≡ Lamp belt colour }
+    ensures no { entry.now ≡ Lamp belt colour → result ≡ true }
 {
     match *entry {
         Entry::Lamp {
@@ -97,7 +98,8 @@ fn is_lamp(entry: &Entry, belt: Belt, colour: Colour) -> bool
 }
 
 fn is_admitted(entry: &Entry, plate: PlateId) -> bool
-    ensures { result ≡ true → entry.now ≡ Admitted plate }
+    ensures yes { result ≡ true → entry.now ≡ Admitted plate }
+    ensures no { entry.now ≡ Admitted plate → result ≡ true }
 {
     match *entry {
         Entry::Admitted { plate: its_plate } => is_plate(its_plate, plate),
@@ -106,7 +108,8 @@ fn is_admitted(entry: &Entry, plate: PlateId) -> bool
 }
 
 fn is_claimed(entry: &Entry, machine: Machine, zone: Zone) -> bool
-    ensures { result ≡ true → entry.now ≡ Claimed machine zone }
+    ensures yes { result ≡ true → entry.now ≡ Claimed machine zone }
+    ensures no { entry.now ≡ Claimed machine zone → result ≡ true }
 {
     match *entry {
         Entry::Claimed {
@@ -118,7 +121,8 @@ fn is_claimed(entry: &Entry, machine: Machine, zone: Zone) -> bool
 }
 
 fn is_yielded(entry: &Entry, machine: Machine, zone: Zone) -> bool
-    ensures { result ≡ true → entry.now ≡ Yielded machine zone }
+    ensures yes { result ≡ true → entry.now ≡ Yielded machine zone }
+    ensures no { entry.now ≡ Yielded machine zone → result ≡ true }
 {
     match *entry {
         Entry::Yielded {
@@ -130,7 +134,8 @@ fn is_yielded(entry: &Entry, machine: Machine, zone: Zone) -> bool
 }
 
 fn is_started(entry: &Entry, axis: Axis, to: Pose) -> bool
-    ensures { result ≡ true → entry.now ≡ Started axis to }
+    ensures yes { result ≡ true → entry.now ≡ Started axis to }
+    ensures no { entry.now ≡ Started axis to → result ≡ true }
 {
     match *entry {
         Entry::Started {
@@ -142,7 +147,8 @@ fn is_started(entry: &Entry, axis: Axis, to: Pose) -> bool
 }
 
 fn is_arrived(entry: &Entry, axis: Axis, at: Pose) -> bool
-    ensures { result ≡ true → entry.now ≡ Arrived axis at }
+    ensures yes { result ≡ true → entry.now ≡ Arrived axis at }
+    ensures no { entry.now ≡ Arrived axis at → result ≡ true }
 {
     match *entry {
         Entry::Arrived {
@@ -154,7 +160,8 @@ fn is_arrived(entry: &Entry, axis: Axis, at: Pose) -> bool
 }
 
 fn is_conveyed(entry: &Entry, axis: Axis, plate: PlateId, dest: Station) -> bool
-    ensures { result ≡ true → entry.now ≡ Conveyed axis plate dest }
+    ensures yes { result ≡ true → entry.now ≡ Conveyed axis plate dest }
+    ensures no { entry.now ≡ Conveyed axis plate dest → result ≡ true }
 {
     match *entry {
         Entry::Conveyed {
@@ -167,7 +174,8 @@ fn is_conveyed(entry: &Entry, axis: Axis, plate: PlateId, dest: Station) -> bool
 }
 
 fn is_forged(entry: &Entry, press: Machine, plate: PlateId) -> bool
-    ensures { result ≡ true → entry.now ≡ Forged press plate }
+    ensures yes { result ≡ true → entry.now ≡ Forged press plate }
+    ensures no { entry.now ≡ Forged press plate → result ≡ true }
 {
     match *entry {
         Entry::Forged {
@@ -179,7 +187,8 @@ fn is_forged(entry: &Entry, press: Machine, plate: PlateId) -> bool
 }
 
 fn is_gripped(entry: &Entry, arm: Arm, plate: PlateId, src: Station) -> bool
-    ensures { result ≡ true → entry.now ≡ Gripped arm plate src }
+    ensures yes { result ≡ true → entry.now ≡ Gripped arm plate src }
+    ensures no { entry.now ≡ Gripped arm plate src → result ≡ true }
 {
     match *entry {
         Entry::Gripped {
@@ -192,7 +201,8 @@ fn is_gripped(entry: &Entry, arm: Arm, plate: PlateId, src: Station) -> bool
 }
 
 fn is_dropped(entry: &Entry, arm: Arm, plate: PlateId, dest: Station) -> bool
-    ensures { result ≡ true → entry.now ≡ Dropped arm plate dest }
+    ensures yes { result ≡ true → entry.now ≡ Dropped arm plate dest }
+    ensures no { entry.now ≡ Dropped arm plate dest → result ≡ true }
 {
     match *entry {
         Entry::Dropped {
@@ -205,7 +215,8 @@ fn is_dropped(entry: &Entry, arm: Arm, plate: PlateId, dest: Station) -> bool
 }
 
 fn is_delivered(entry: &Entry, plate: PlateId) -> bool
-    ensures { result ≡ true → entry.now ≡ Delivered plate }
+    ensures yes { result ≡ true → entry.now ≡ Delivered plate }
+    ensures no { entry.now ≡ Delivered plate → result ≡ true }
 {
     match *entry {
         Entry::Delivered { plate: its_plate } => is_plate(its_plate, plate),
@@ -214,7 +225,8 @@ fn is_delivered(entry: &Entry, plate: PlateId) -> bool
 }
 
 fn is_declared(entry: &Entry, machine: Machine, cause: Cause) -> bool
-    ensures { result ≡ true → entry.now ≡ Declared machine cause }
+    ensures yes { result ≡ true → entry.now ≡ Declared machine cause }
+    ensures no { entry.now ≡ Declared machine cause → result ≡ true }
 {
     match *entry {
         Entry::Declared {
@@ -226,7 +238,8 @@ fn is_declared(entry: &Entry, machine: Machine, cause: Cause) -> bool
 }
 
 fn is_stop_asked(entry: &Entry, machine: Machine) -> bool
-    ensures { result ≡ true → entry.now ≡ StopAsked machine }
+    ensures yes { result ≡ true → entry.now ≡ StopAsked machine }
+    ensures no { entry.now ≡ StopAsked machine → result ≡ true }
 {
     match *entry {
         Entry::StopAsked {
@@ -237,7 +250,8 @@ fn is_stop_asked(entry: &Entry, machine: Machine) -> bool
 }
 
 fn is_quarantined(entry: &Entry, plate: PlateId, src: Station) -> bool
-    ensures { result ≡ true → entry.now ≡ Quarantined plate src }
+    ensures yes { result ≡ true → entry.now ≡ Quarantined plate src }
+    ensures no { entry.now ≡ Quarantined plate src → result ≡ true }
 {
     match *entry {
         Entry::Quarantined {
@@ -249,7 +263,8 @@ fn is_quarantined(entry: &Entry, plate: PlateId, src: Station) -> bool
 }
 
 fn is_repaired(entry: &Entry, machine: Machine) -> bool
-    ensures { result ≡ true → entry.now ≡ Repaired machine }
+    ensures yes { result ≡ true → entry.now ≡ Repaired machine }
+    ensures no { entry.now ≡ Repaired machine → result ≡ true }
 {
     match *entry {
         Entry::Repaired {
@@ -259,9 +274,10 @@ fn is_repaired(entry: &Entry, machine: Machine) -> bool
     }
 }
 
-/// Whether two entries are the same. True of no two that differ.
+/// Whether two entries are the same.
 pub fn is_entry(some: &Entry, other: &Entry) -> bool
-    ensures { result ≡ true → some.now ≡ other.now }
+    ensures yes { result ≡ true → some.now ≡ other.now }
+    ensures no { some.now ≡ other.now → result ≡ true }
 {
     match *other {
         Entry::Lamp { belt, colour } => is_lamp(some, belt, colour),
