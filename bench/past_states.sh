@@ -1,7 +1,8 @@
 #!/bin/bash
 # Times a journal's calls: append and a book's apply by the entry, and state_at by the call at places that stand 0, 128 and 255
 # entries after a checkpoint, of seven runs the least, the median and the most; and the memory that a full book takes.
-# Builds bench/past_states in a copy of this repository (TMPDIR), over what is proved here already.
+# Builds bench/past_states.rt.in as a crate of a copy of the crates that it stands on (in TMPDIR), over what is proved of
+# them already. Its source has this name since the gate reads each .rt file as part of a crate that it checks.
 # Usage: bench/past_states.sh
 set -eu
 here=$(cd "$(dirname "$0")" && pwd)
@@ -13,7 +14,8 @@ for crate in cell_types cell_views cell_journal plate_book; do
     cp -a "$here/../crates/$crate" "$copy/crates"
     grep "^$crate:" "$here/../crates.txt" >> "$copy/crates.txt"
 done
-cp -r "$here/past_states" "$copy/crates"
+mkdir -p "$copy/crates/past_states/src"
+cp "$here/past_states.rt.in" "$copy/crates/past_states/src/main.rt"
 echo "past_states: cell_types cell_journal plate_book" >> "$copy/crates.txt"
 (cd "$copy/crates/past_states" && rt run -- append 1) > "$copy/said" 2>&1 || { tail -n 5 "$copy/said"; exit 1; }
 program=$copy/crates/past_states/out/past_states
