@@ -38,7 +38,8 @@ echo "append: $(per_call 1000000 "$(median append 0)" append 1000000) ns an entr
 echo "apply: $(per_call 1000000 "$(median apply 0)" apply 1000000) ns an entry"
 full=$(median states 0 0)
 for rest in 0 128 255; do
-    echo "state_at, $rest entries after a checkpoint: $(per_call 100000 "$full" states "$rest" 100000) ns a call"
+    calls=$((5000000 / (rest + 1)))
+    echo "state_at, $rest entries after a checkpoint: $(per_call "$calls" "$full" states "$rest" "$calls") ns a call"
 done
 if [ -x /usr/bin/time ]; then
     /usr/bin/time -f 'a full journal of 1,000,000 entries: %M kB at most' "$program" append 1000000 > /dev/null
