@@ -1,11 +1,14 @@
 -- The records of a script, read one after the other, and what the answer says of them
-use Rattle.std.proofs.Common.{◌≡◌, ◌≢◌, ◌<◌, ◌≤◌, ◌+◌, ◌∙◌, List, [], ◌∷◌, ◌++◌, length, Option, Some, None, Result, Ok, Err, Bool, true, false, refl, ap, arith, append_assoc, append-nil, length-append}
-use Rattle.std.specs.Prelude.{nat_lt, if◌then◌else◌}
+use Rattle.std.proofs.Common.{inl, inr, ◌⊎◌, ℕ, ◌≡◌, ◌≢◌, ◌<◌, ◌≤◌, ◌+◌, ◌∙◌, List, [], ◌∷◌, ◌++◌, length, Option, Some, None, Result, Ok, Err, Bool, true, false, refl, ap, arith, append_assoc, append-nil, length-append}
+use Rattle.std.specs.Prelude.{nat_lt, if◌then◌else◌, IfSome, IsErrOf, IsSome}
+use Rattle.cell_rows.specs.Fitting.{BeginsUnfit, Fits}
 use borrow.Author.Tests.{lt-ltb, le-ltb, ltb-true, ltb-false}
 use Rattle.cell_rows.specs.Rows.{Row, TakesRow}
-use Rattle.cell_rows.specs.Scripts.{AreLines, Means, Reading, line_of_row, lines_after, lines_of, with_line}
+use Rattle.cell_rows.specs.Scripts.{AreLines, FitLines, Gives, Means, Reading, line_of_row, lines_after, lines_of, with_line}
 use Rattle.cell_rows.specs.declared.script.LineError.{LineError}
 use Rattle.cell_rows.specs.declared.script.LineError.TheVariants as error
+use Rattle.cell_rows.specs.declared.rows.RowError.{RowError}
+use Rattle.cell_rows.specs.declared.rows.RowError.TheVariants as stop
 
 -- a record of other than four fields
 pub other-row : {L : Type 0} (read : Reading L) (lines : List L) (r : Row) → length r ≢ 4 → line_of_row read lines r ≡ None
@@ -54,6 +57,54 @@ due-many read all None new row lines d b p t n = absurd d
 due-many read all (Some rest) None row lines d b p t n = absurd t
 due-many read all (Some rest) (Some left) row lines d b p t n = let u = rw p at t in let k : nat_lt (length lines) 1000 ≡ false = le-ltb _ _ n in d ∙ rw (u, k) refl
 
+-- a record that doesn't fit is no line
+unfit_unread : {L : Type 0} (read : Reading L) (lines : List L) (row : Row) → FitLines read → ¬ (Fits row) → line_of_row read lines row ≡ None
+unfit_unread read lines [] law bad = refl
+unfit_unread read lines (a ∷ []) law bad = refl
+unfit_unread read lines (a ∷ b ∷ []) law bad = refl
+unfit_unread read lines (a ∷ b ∷ c ∷ []) law bad = refl
+unfit_unread {L} read lines (a ∷ b ∷ c ∷ d ∷ []) law bad = by (read lines a b c d) (law lines a b c d)
+  where
+    by : (o : Option L) → (IsSome o → Fits (a ∷ b ∷ c ∷ d ∷ [])) → o ≡ None
+    by None h = refl
+    by (Some line) h = absurd (bad (h refl))
+unfit_unread read lines (a ∷ b ∷ c ∷ d ∷ e ∷ r) law bad = refl
+
+pub due-unfit : {L : Type 0} (read : Reading L) (all : List Row) (old : Option (List Row)) (lines : List L) → FitLines read → StillDue read (Some all) old lines
+    → IfSome old BeginsUnfit → length lines < 1000 → lines_of read all ≡ Err (error.Unreadable (length lines + 1))
+due-unfit read all None lines law d u n = absurd d
+due-unfit read all (Some rest) lines law d (row, left, is, bad) n =
+    due-unread read all (Some rest) (Some left) row lines d true refl is n (unfit_unread read lines row law bad)
+
+pub due-unfit-many : {L : Type 0} (read : Reading L) (all : List Row) (old : Option (List Row)) (lines : List L) → StillDue read (Some all) old lines
+    → IfSome old BeginsUnfit → 1000 ≤ length lines → lines_of read all ≡ Err error.TooManyLines
+due-unfit-many read all None lines d u n = absurd d
+due-unfit-many read all (Some rest) lines d (row, left, is, bad) n = due-many read all (Some rest) (Some left) row lines d true refl is n
+
+-- the answer where no record came
+pub due-stopped : {L : Type 0} (read : Reading L) (all : List Row) (old : Option (List Row)) (lines : List L) (place : ℕ) (why : RowError) (answer : LineError)
+    → FitLines read → StillDue read (Some all) old lines → (IsErrOf {T = Bool} (Err why) stop.Unfit → IfSome old BeginsUnfit) → length lines ≡ place → place ≤ 1000
+    → (why ≡ stop.Unfit → place < 1000 → answer ≡ error.Unreadable (place + 1)) → (why ≡ stop.Unfit → place ≡ 1000 → answer ≡ error.TooManyLines)
+    → (why ≢ stop.Unfit → answer ≡ error.OutOfMemory) → (answer ≡ error.OutOfMemory) ⊎ (lines_of read all ≡ Err answer)
+due-stopped read all old lines place stop.ReadFault answer law d u count few unread many memory = inl (memory (λ e. cc e))
+due-stopped read all old lines place stop.OutOfMemory answer law d u count few unread many memory = inl (memory (λ e. cc e))
+due-stopped read all old lines place stop.Unfit answer law d u count few unread many memory = inr (by (nat_lt place 1000) refl)
+  where
+    by : (b : Bool) → nat_lt place 1000 ≡ b → lines_of read all ≡ Err answer
+    by true t =
+        let short : place < 1000 = ltb-true _ _ t in
+        rw (unread refl short, ← count) (due-unfit read all old lines law d (u refl) (rw count short))
+    by false t =
+        let most : 1000 ≤ place = ltb-false _ _ t in
+        rw (many refl (omega (arith, most, few))) (due-unfit-many read all old lines d (u refl) (rw count most))
+
+-- an answer that is due, or want of memory
+pub gives-stopped : {X : Type 0} (due : Result X LineError) (answer : LineError) → (answer ≡ error.OutOfMemory) ⊎ (due ≡ Err answer) → Gives {X = X} (Err answer) due
+gives-stopped due answer (inl e) = rw e tt
+gives-stopped due (error.Unreadable place) (inr e) = e
+gives-stopped due error.TooManyLines (inr e) = e
+gives-stopped due error.OutOfMemory (inr e) = tt
+
 -- what the answer after some lines says of the records that are left
 abbrev AfterMeans : {L : Type 0} → Reading L → List L → List Row → Result (List L) LineError → Type 0
 AfterMeans {L} read done rows (Ok lines) = (more : List L) × AreLines read done rows more × (done ++ more ≡ lines) × (length lines ≤ 1000)
@@ -101,3 +152,7 @@ means-start read rows (Err error.OutOfMemory) h = tt
 -- an answer that is due says what it means
 pub due-means : {L : Type 0} (read : Reading L) (rows : List Row) (r : Result (List L) LineError) → lines_of read rows ≡ r → Means read rows r
 due-means read rows r h = rw h at (means-start read rows (lines_of read rows) (after-means read [] rows (omega arith)))
+
+pub means-stopped : {L : Type 0} (read : Reading L) (rows : List Row) (answer : LineError) → (answer ≡ error.OutOfMemory) ⊎ (lines_of read rows ≡ Err answer) → Means read rows (Err answer)
+means-stopped read rows answer (inl e) = rw e tt
+means-stopped read rows answer (inr e) = due-means read rows (Err answer) e

@@ -1,6 +1,9 @@
 -- The bytes in sight after a read
 use Rattle.std.proofs.Common.{◌≡◌, ◌≤◌, ◌+◌, ◌-◌, ◌∙◌, ℕ, List, [], ◌++◌, length, take, drop, min, Option, Some, None, Result, sym, ap, refl, arith, append_assoc}
-use Rattle.std.specs.Prelude.{slice_range}
+use Rattle.std.specs.Prelude.{◌∷◌, option_map, slice_range}
+use Rattle.cell_rows.specs.Rows.{rows_of}
+use Rattle.cell_rows.specs.Sights.{FeedsTwice}
+use Rattle.cell_rows.proofs.RowFacts.{after_feed, unmarked}
 use Rattle.std.specs.List.{copy_within}
 use Rattle.std.specs.Io.KnownBytes.{Consumes, Keeps, ReadConsumes, prepend_known}
 use Rattle.std.proofs.lemmas.List.Edits.{length-between}
@@ -49,3 +52,11 @@ pub none_in_sight : (xs : List ℕ) (at filled : ℕ) → min filled (length xs)
 none_in_sight xs at filled h =
     let none : min (filled - at) (length xs - at) ≡ 0 = omega arith in
     nil_from_length (slice_range xs at filled) (length-take (filled - at) (drop at xs) ∙ ap (λ (n : ℕ). min (filled - at) n) (length-drop at xs) ∙ none)
+
+-- a blank line is passed over
+pub blank_passed : (known : Option (List ℕ)) (xs : List ℕ) (at filled : ℕ) → FeedsTwice xs at filled
+    → option_map rows_of (prepend_known (slice_range xs (at + 1) filled) known) ≡ option_map rows_of (prepend_known (slice_range xs at filled) known)
+blank_passed None xs at filled feeds = refl
+blank_passed (Some bs) xs at filled (more, first, second) =
+    let rest = slice_range xs (at + 2) filled ++ bs in
+    rw (first, second) (ap Some (unmarked 10 rest (λ e. cc e) ∙ sym (after_feed (10 ∷ rest))))

@@ -1,6 +1,7 @@
 -- Scripts: texts each of whose records is a line, and what the answer of their reader says
-use Rattle.std.specs.Prelude.{◌≡◌, ◌≤◌, ◌+◌, ℕ, List, [], ◌∷◌, ◌++◌, length, nat_lt, Option, Some, None, Result, Ok, Err, ⊤, if◌then◌else◌}
+use Rattle.std.specs.Prelude.{◌≡◌, ◌≤◌, ◌+◌, ℕ, List, [], ◌∷◌, ◌++◌, length, nat_lt, Option, Some, None, IsSome, Result, Ok, Err, ⊤, if◌then◌else◌}
 use Rattle.cell_rows.specs.Texts.{Row}
+use Rattle.cell_rows.specs.Fitting.{Fits}
 use Rattle.cell_rows.specs.declared.script.LineError.{LineError}
 use Rattle.cell_rows.specs.declared.script.LineError.TheVariants as error
 
@@ -12,6 +13,10 @@ Reading L = List L → List ℕ → List ℕ → List ℕ → List ℕ → Optio
 abbrev pub line_of_row : {L : Type 0} → Reading L → List L → Row → Option L
 line_of_row read before (first ∷ second ∷ third ∷ fourth ∷ []) = read before first second third fourth
 line_of_row read before _ = None
+
+-- the fields that write a line are short
+abbrev pub FitLines : {L : Type 0} → Reading L → Type 0
+FitLines {L} read = (before : List L) (first second third fourth : List ℕ) → IsSome (read before first second third fourth) → Fits (first ∷ second ∷ third ∷ fourth ∷ [])
 
 -- the most lines that a script may have
 abbrev pub max_lines : ℕ

@@ -1,14 +1,14 @@
 //! A reader whose next bytes are in sight, so that plain lines are taken straight from them.
-ghost use Rattle.std.specs.Prelude.{◌≡◌, ◌≤◌, length, true, false, option_map, IfOk, IfErr, IfSome, IsErr, OnOk, ◌∷◌, [], slice_range};
+ghost use Rattle.std.specs.Prelude.{◌≡◌, ◌≤◌, length, true, false, IfOk, IfSome, IsErr, IsErrOf, OnOk, ◌∷◌, [], slice_range};
 ghost use Rattle.std.specs.Io.KnownBytes.{Keeps, ReadConsumes};
 ghost use Rattle.std.specs.Io.{ReadsAtMost};
-ghost use Rattle.cell_rows.specs.Rows.{TakesRow, rows_of};
-ghost use Rattle.cell_rows.specs.Plain.{row_at};
-ghost use Rattle.cell_rows.specs.Sights.{InSight, bytes_left, plain_row};
+ghost use Rattle.cell_rows.specs.Rows.{TakesRow};
+ghost use Rattle.cell_rows.specs.Fitting.{BeginsUnfit, Fits};
+ghost use Rattle.cell_rows.specs.Sights.{FeedsTwice, InSight, KeepsRows, bytes_left, plain_row, rows_ahead};
 
-use crate::Four;
 use crate::places::{NOWHERE, Places};
-use crate::scan::{SIZE, next_line};
+use crate::rows::{Four, RowError};
+use crate::scan::{SIZE, Stop, next_line};
 use crate::watched::Watched;
 use std::io;
 use std::io::Read;
@@ -54,25 +54,47 @@ impl<R: Read> ReadAhead<R> {
         self.source.has_failed()
     }
 
-    // Takes the next line, if it is plain and whole in sight.
-    fn take_line(&mut self) -> bool
+    // Whether two line feeds come next.
+    fn begins_blank(&self) -> bool
+        requires { InSight self.now }
+        ensures { result ≡ true → FeedsTwice self.now.buffer self.now.at self.now.filled }
+    {
+        self.at + 1 < self.filled
+            && self.buffer[self.at] == b'\n'
+            && self.buffer[self.at + 1] == b'\n'
+    }
+
+    // Passes over blank lines in sight, up to the line feed before another line.
+    fn skip_blank(&mut self)
         requires { InSight self.old }
         ensures sight { InSight self.new }
-        ensures takes { result ≡ true → TakesRow (option_map rows_of (bytes_left R.remaining self.old)) (option_map rows_of (bytes_left R.remaining self.new)) (plain_row self.new) true }
-        ensures kept { result ≡ false → bytes_left R.remaining self.new ≡ bytes_left R.remaining self.old }
+        ensures rows { rows_ahead R.remaining self.new ≡ rows_ahead R.remaining self.old }
     {
-        match next_line(&self.buffer, self.at, self.filled) {
-            Some(places) => {
-                self.places = places;
-                self.at = places.fourth;
-                true
+        for _ in 0..SIZE {
+            if !self.begins_blank() {
+                return;
             }
-            None => false,
+            self.at += 1;
         }
     }
 
-    // Reads on, so that more bytes are in sight.
-    fn refill(&mut self) -> io::Result<()>
+    // Takes the next line, if it is plain and whole in sight.
+    fn take_line(&mut self) -> Result<(), Stop>
+        requires { InSight self.old }
+        ensures sight { InSight self.new }
+        ensures takes { OnOk result (TakesRow (rows_ahead R.remaining self.old) (rows_ahead R.remaining self.new) (plain_row self.new) true) }
+        ensures fits { OnOk result (Fits (plain_row self.new)) }
+        ensures kept { IsErr result → self.new ≡ self.old }
+        ensures unfit { IsErrOf result Stop.Unfit → IfSome (rows_ahead R.remaining self.old) BeginsUnfit }
+    {
+        let places = next_line(&self.buffer, self.at, self.filled)?;
+        self.places = places;
+        self.at = places.fourth;
+        Ok(())
+    }
+
+    // Reads on, so that more bytes are in sight, and says whether any came.
+    fn refill(&mut self) -> io::Result<bool>
         requires { InSight self.old }
         ensures sight { OnOk result (InSight self.new) }
         ensures kept { OnOk result (Keeps (bytes_left R.remaining self.old) (bytes_left R.remaining self.new)) }
@@ -81,23 +103,37 @@ impl<R: Read> ReadAhead<R> {
         self.buffer.copy_within(self.at..self.filled, 0);
         self.filled -= self.at;
         self.at = 0;
-        self.filled += self.source.read(&mut self.buffer[self.filled..])?;
-        Ok(())
+        let count = self.source.read(&mut self.buffer[self.filled..])?;
+        self.filled += count;
+        Ok(count > 0)
     }
 
-    /// Takes the next line, if it is plain and comes into sight in one read.
-    pub(crate) fn advance(&mut self) -> io::Result<bool>
+    /// Takes the next line, if it is plain, over as many reads as it takes. It reads no more of a line that is plain so far
+    /// and none of a record that fits.
+    pub(crate) fn advance(&mut self) -> Result<bool, RowError>
         requires { InSight self.old }
         ensures sight { OnOk result (InSight self.new) }
-        ensures takes { IfOk result (λ found. found ≡ true → TakesRow (option_map rows_of (bytes_left R.remaining self.old)) (option_map rows_of (bytes_left R.remaining self.new)) (plain_row self.new) true) }
-        ensures kept { IfOk result (λ found. found ≡ false → Keeps (bytes_left R.remaining self.old) (bytes_left R.remaining self.new)) }
-        ensures failed { IsErr result → self.new.source.failed ≡ true }
+        ensures takes { IfOk result (λ found. found ≡ true → TakesRow (rows_ahead R.remaining self.old) (rows_ahead R.remaining self.new) (plain_row self.new) true) }
+        ensures fits { IfOk result (λ found. found ≡ true → Fits (plain_row self.new)) }
+        ensures kept { IfOk result (λ found. found ≡ false → KeepsRows (rows_ahead R.remaining self.old) (rows_ahead R.remaining self.new)) }
+        ensures unfit { IsErrOf result RowError.Unfit → IfSome (rows_ahead R.remaining self.old) BeginsUnfit }
+        ensures fault { IsErrOf result RowError.ReadFault → self.new.source.failed ≡ true }
     {
-        if self.take_line() {
-            return Ok(true);
+        for _ in 0..u64::MAX {
+            self.skip_blank();
+            match self.take_line() {
+                Ok(()) => return Ok(true),
+                Err(Stop::Unfit) => return Err(RowError::Unfit),
+                Err(Stop::Odd) => return Ok(false),
+                Err(Stop::Cut) => {}
+            }
+            match self.refill() {
+                Ok(true) => {}
+                Ok(false) => return Ok(false),
+                Err(_) => return Err(RowError::ReadFault),
+            }
         }
-        self.refill()?;
-        Ok(self.take_line())
+        Ok(false)
     }
 
     /// The fields of the line that was taken last.

@@ -1,7 +1,8 @@
 //! The records of a reader's text.
-ghost use Rattle.std.specs.Prelude.{◌≡◌, ◌<◌, Some, ◌≢◌, ◌∷◌, [], true, false, length, IfOk, IfSome, IsErrOf, IsNone, OnOk, option_map};
+ghost use Rattle.std.specs.Prelude.{◌≡◌, ◌<◌, Some, ◌≢◌, ◌∷◌, [], true, false, length, Err, IfOk, IfSome, IsErrOf, IsNone, OnOk, option_map};
 ghost use Rattle.csv.specs.Records.{field_at, fields_of};
 ghost use Rattle.cell_rows.specs.Rows.{IsOpen, TakesRow, current_row, device_failed, failed_in, is_csv, open_in, rows_in, rows_left, rows_of};
+ghost use Rattle.cell_rows.specs.Fitting.{BeginsUnfit, Fits};
 ghost use Rattle.cell_rows.specs.Sights.{bytes_left};
 ghost use Rattle.cell_rows.specs.declared.rows.Source.TheVariants as Source;
 
@@ -18,6 +19,8 @@ pub enum RowError {
     ReadFault,
     /// Memory was refused.
     OutOfMemory,
+    /// The next record isn't one of four fields of at most 20 bytes each, whatever comes after what was read of it.
+    Unfit,
 }
 
 /// The fields of a record of four.
@@ -72,6 +75,7 @@ fn read_next<R: Read>(
     ensures open { OnOk result (open_in (Source.Csv reader.new)) }
     ensures takes { IfOk result (TakesRow (rows_in R.remaining (Source.Csv reader.old)) (rows_in R.remaining (Source.Csv reader.new)) (fields_of row.new)) }
     ensures fault { IsErrOf result RowError.ReadFault → failed_in (Source.Csv reader.new) ≡ true }
+    ensures fits { result ≢ Err RowError.Unfit }
 {
     match reader.read_byte_record(row) {
         Ok(found) => Ok(found),
@@ -148,6 +152,8 @@ impl<R: Read> RowReader<R> {
         ensures open { OnOk result (IsOpen self.new) }
         ensures takes { IfOk result (TakesRow (rows_left R.remaining self.old) (rows_left R.remaining self.new) (current_row self.new)) }
         ensures fault { IsErrOf result RowError.ReadFault → device_failed self.new ≡ true }
+        ensures csv { is_csv self.new.source ≡ true }
+        ensures fits { result ≢ Err RowError.Unfit }
     {
         let Source::Csv(reader) = &mut self.source else {
             unreachable!();
@@ -157,18 +163,22 @@ impl<R: Read> RowReader<R> {
 
     /// Reads the next record, and says whether there was one.
     ///
-    /// After an error the reader may stand inside a record, and is open no more.
+    /// A line that is plain so far is read no further than its fourth comma, or the 21st byte of a field of it: then it is
+    /// `Unfit`. After an error the reader may stand inside a record, and is open no more.
     pub fn advance(&mut self) -> Result<bool, RowError>
         requires { IsOpen self.old }
         ensures open { OnOk result (IsOpen self.new) }
         ensures takes { IfOk result (TakesRow (rows_left R.remaining self.old) (rows_left R.remaining self.new) (current_row self.new)) }
+        // The next record, which there is, isn't one of four short fields.
+        ensures unfit { IsErrOf result RowError.Unfit → IfSome (rows_left R.remaining self.old) BeginsUnfit }
+        // As long as csv doesn't read, a record that comes is one of four short fields.
+        ensures fits { IfOk result (λ found. found ≡ true → is_csv self.new.source ≡ false → Fits (current_row self.new)) }
         ensures fault { IsErrOf result RowError.ReadFault → device_failed self.new ≡ true }
     {
         if let Source::Plain(ahead) = &mut self.source {
             match ahead.advance() {
-                Ok(true) => return Ok(true),
                 Ok(false) => {}
-                Err(_) => return Err(RowError::ReadFault),
+                answer => return answer,
             }
         }
         self.give_to_csv();

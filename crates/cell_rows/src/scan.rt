@@ -1,12 +1,26 @@
 //! Finding the four fields of a plain line.
-ghost use Rattle.std.specs.Prelude.{◌≡◌, ◌≤◌, ◌<◌, false, length, take, slice_range, IfSome};
+ghost use Rattle.std.specs.Prelude.{◌≡◌, ◌≢◌, ◌≤◌, ◌<◌, ◌⊎◌, false, length, take, get_or, slice_range, Err, IfOk, IsErrOf};
 ghost use Rattle.csv.specs.Writing.{default_writer, needs_byte, needs_quotes};
-ghost use Rattle.cell_rows.specs.Plain.{BeginsLine, EndsField, IsLineAt, TakesLine};
+ghost use Rattle.cell_rows.specs.Plain.{BeginsLine, BeginsLong, EndsField, HasComma, IsLineAt, IsUnfitAt, IsUnfitLine, TakesLine};
 
 use crate::places::Places;
 
 /// How many bytes of a text are kept at once.
 pub const SIZE: usize = 16384;
+
+// The most bytes of a field of a record that fits.
+const LONGEST_FIELD: usize = 20;
+
+/// Why no line was taken from the bytes in sight.
+#[derive(Clone, Copy, Debug, PartialEq, Eq)]
+pub enum Stop {
+    /// The next line is plain so far and no record of four short fields, whatever comes after these bytes.
+    Unfit,
+    /// The next line is plain so far, and isn't whole in sight.
+    Cut,
+    /// The next line isn't four plain fields: csv has to read it.
+    Odd,
+}
 
 // Whether a byte can't stand in a field without quotes: a comma, a quote or a line end.
 fn ends_field(byte: u8) -> bool
@@ -28,29 +42,59 @@ fn plain_len(text: &[u8]) -> usize
     text.len()
 }
 
-// Where the plain field that begins at a place ends, if this byte ends it.
-fn field_end(text: &[u8], from: usize, to: usize, end: u8) -> Option<usize>
+// Where the plain field that begins at a place ends.
+fn field_end(text: &[u8], from: usize, to: usize) -> Result<usize, Stop>
     requires { (from ≤ to) × (to ≤ length text.now) }
-    ensures { IfSome result (λ at. EndsField text.now from to end at) }
+    ensures end { IfOk result (λ at. (at < to) × EndsField text.now from to (get_or text.now at 0) at) }
+    ensures long { IsErrOf result Stop.Unfit → BeginsLong text.now from to }
 {
-    let at = from + plain_len(&text[from..to]);
-    if at < to && text[at] == end {
-        Some(at)
+    let len = plain_len(&text[from..to]);
+    if len > LONGEST_FIELD {
+        return Err(Stop::Unfit);
+    }
+    let at = from + len;
+    if at < to { Ok(at) } else { Err(Stop::Cut) }
+}
+
+// Where the plain field that begins at a place ends at a comma.
+fn comma(text: &[u8], from: usize, to: usize) -> Result<usize, Stop>
+    requires { (from ≤ to) × (to ≤ length text.now) }
+    ensures end { IfOk result (λ at. EndsField text.now from to 44 at) }
+    ensures long { IsErrOf result Stop.Unfit → BeginsLong text.now from to }
+{
+    let at = field_end(text, from, to)?;
+    if text[at] == b',' {
+        Ok(at)
     } else {
-        None
+        Err(Stop::Odd)
+    }
+}
+
+// Where the plain field that begins at a place ends at a line feed. A comma there is that of a fifth field.
+fn line_feed(text: &[u8], from: usize, to: usize) -> Result<usize, Stop>
+    requires { (from ≤ to) × (to ≤ length text.now) }
+    ensures end { IfOk result (λ at. EndsField text.now from to 10 at) }
+    ensures unfit { IsErrOf result Stop.Unfit → BeginsLong text.now from to ⊎ HasComma text.now from to }
+{
+    let at = field_end(text, from, to)?;
+    match text[at] {
+        b'\n' => Ok(at),
+        b',' => Err(Stop::Unfit),
+        _ => Err(Stop::Odd),
     }
 }
 
 // The places of the fields of the line that begins at `start`, if it has four plain fields and ends before `to`.
-fn places_of(text: &[u8], start: usize, to: usize) -> Option<Places>
+fn places_of(text: &[u8], start: usize, to: usize) -> Result<Places, Stop>
     requires { (start ≤ to) × (to ≤ length text.now) × (to ≤ 16384) }
-    ensures { IfSome result (λ places. IsLineAt text.now start to places) }
+    ensures line { IfOk result (λ places. IsLineAt text.now start to places) }
+    ensures unfit { IsErrOf result Stop.Unfit → IsUnfitLine text.now start to }
 {
-    let first = field_end(text, start, to, b',')?;
-    let second = field_end(text, first + 1, to, b',')?;
-    let third = field_end(text, second + 1, to, b',')?;
-    let fourth = field_end(text, third + 1, to, b'\n')?;
-    Some(Places {
+    let first = comma(text, start, to)?;
+    let second = comma(text, first + 1, to)?;
+    let third = comma(text, second + 1, to)?;
+    let fourth = line_feed(text, third + 1, to)?;
+    Ok(Places {
         start,
         first,
         second,
@@ -59,26 +103,28 @@ fn places_of(text: &[u8], start: usize, to: usize) -> Option<Places>
     })
 }
 
-// Where the next line begins: after the line feed that ended the last one, if there is one. None where no line begins
-// before `to`, or it might begin with a byte order mark.
-fn line_start(text: &[u8], at: usize, to: usize) -> Option<usize>
+// Where the next line begins: after the line feed that ended the last one, if there is one. A line that might begin with
+// a byte order mark is odd.
+fn line_start(text: &[u8], at: usize, to: usize) -> Result<usize, Stop>
     requires { (at ≤ to) × (to ≤ length text.now) }
-    ensures { IfSome result (λ start. BeginsLine text.now at to start) }
+    ensures start { IfOk result (λ start. BeginsLine text.now at to start) }
+    ensures fits { result ≢ Err Stop.Unfit }
 {
     if at >= to {
-        return None;
+        return Err(Stop::Cut);
     }
     match text[at] {
-        b'\n' => Some(at + 1),
-        0xEF => None,
-        _ => Some(at),
+        b'\n' => Ok(at + 1),
+        0xEF => Err(Stop::Odd),
+        _ => Ok(at),
     }
 }
 
 /// The places of the next line from `at` on, if it has four plain fields and ends before `to`.
-pub fn next_line(text: &[u8], at: usize, to: usize) -> Option<Places>
+pub fn next_line(text: &[u8], at: usize, to: usize) -> Result<Places, Stop>
     requires { (at ≤ to) × (to ≤ length text.now) × (to ≤ 16384) }
-    ensures { IfSome result (λ places. TakesLine text.now at to places) }
+    ensures line { IfOk result (λ places. TakesLine text.now at to places) }
+    ensures unfit { IsErrOf result Stop.Unfit → IsUnfitAt text.now at to }
 {
     let start = line_start(text, at, to)?;
     places_of(text, start, to)

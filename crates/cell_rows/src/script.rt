@@ -1,10 +1,10 @@
 //! Scripts: texts each of whose records is a line.
-ghost use Rattle.std.specs.Prelude.{◌≡◌, vec_items};
+ghost use Rattle.std.specs.Prelude.{◌≡◌, ◌≢◌, ◌≤◌, ◌<◌, ◌+◌, vec_items};
 ghost use Rattle.std.specs.Result.{result_map_both};
 ghost use Rattle.cell_rows.specs.Rows.{current_row, rows_of};
-ghost use Rattle.cell_rows.specs.Scripts.{Gives, Means, line_of_row, lines_of};
+ghost use Rattle.cell_rows.specs.Scripts.{FitLines, Gives, Means, line_of_row, lines_of};
 
-use crate::rows::{Four, RowReader};
+use crate::rows::{Four, RowError, RowReader};
 use std::alloc::Global;
 use std::io::Read;
 
@@ -25,6 +25,7 @@ pub enum LineError {
 /// A line of a script, which four fields write.
 pub trait ScriptLine: Sized {
     ghost use Rattle.std.specs.Prelude.{◌≡◌, ℕ, List, Option};
+    ghost use Rattle.cell_rows.specs.Scripts.{FitLines};
 
     /// The line that four fields write after these lines, if they write one.
     ghost line_of: { List Self → List ℕ → List ℕ → List ℕ → List ℕ → Option Self };
@@ -32,6 +33,26 @@ pub trait ScriptLine: Sized {
     /// The line that these fields write after these lines; `None` where they write none.
     fn read_line(before: &[Self], fields: Four<'_>) -> Option<Self>
         ensures { result ≡ line_of before.now fields.entry.first.now fields.entry.second.now fields.entry.third.now fields.entry.fourth.now };
+
+    /// Fields that write a line are short: the contract is this law, and a body does nothing.
+    fn lines_fit()
+        ensures { FitLines line_of };
+}
+
+// The answer where the record at a place, counted from 0, is none that can be a line, or couldn't be read.
+fn stopped<L: ScriptLine>(place: u32, why: RowError) -> LineError
+    requires { place ≤ 1000 }
+    ensures unread { why ≡ RowError.Unfit → place < 1000 → result ≡ LineError.Unreadable (place + 1) }
+    ensures many { why ≡ RowError.Unfit → place ≡ 1000 → result ≡ LineError.TooManyLines }
+    ensures memory { why ≢ RowError.Unfit → result ≡ LineError.OutOfMemory }
+    ensures fits { FitLines L.line_of }
+{
+    L::lines_fit();
+    match why {
+        RowError::Unfit if place == MAX_LINES => LineError::TooManyLines,
+        RowError::Unfit => LineError::Unreadable(place + 1),
+        RowError::ReadFault | RowError::OutOfMemory => LineError::OutOfMemory,
+    }
 }
 
 // The line of the record that was read, after these lines.
@@ -62,7 +83,7 @@ pub fn read_script<L: ScriptLine + Drop>(alloc: Global, text: &[u8]) -> Result<V
                     return Ok(lines);
                 }
             }
-            Err(_) => return Err(LineError::OutOfMemory),
+            Err(why) => return Err(stopped::<L>(place, why)),
         }
         if place == MAX_LINES {
             return Err(LineError::TooManyLines);

@@ -96,6 +96,8 @@ impl ScriptLine for PlannedFault {
             Some(fault)
         }
     }
+
+    fn lines_fit() {}
 }
 
 impl FaultScript {

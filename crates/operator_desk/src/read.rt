@@ -74,4 +74,6 @@ impl ScriptLine for Line {
             _ => None,
         }
     }
+
+    fn lines_fit() {}
 }

@@ -4,6 +4,8 @@
 #[cfg(test)]
 mod audit;
 #[cfg(test)]
+mod endless;
+#[cfg(test)]
 mod lines;
 #[cfg(test)]
 mod rows;

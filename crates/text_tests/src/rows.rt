@@ -89,6 +89,7 @@ fn listed<R: Read + Drop>(alloc: Global, reader: R) -> Result<Vec<u8>, Fail> {
                 list.extend_from_slice(match error {
                     RowError::ReadFault => b"fault".as_slice(),
                     RowError::OutOfMemory => b"memory".as_slice(),
+                    RowError::Unfit => b"unfit".as_slice(),
                 })?;
                 return Ok(list);
             }
@@ -150,6 +151,71 @@ fn reads_records(rt: HostRuntime) -> Result<(), Fail> {
             "quoted fields between plain lines",
             b"a,b,c,d\n\"e\",f,g,h\ni,j,k,l\n",
             b"a|b|c|d|;e|f|g|h|;i|j|k|l|;",
+        ),
+    ] {
+        let at_once = listed(alloc, text)?;
+        assert_eq!(rt; at_once.as_slice(), wanted, "{name}");
+        let bytewise = listed(alloc, Slow::new(text, usize::MAX))?;
+        assert_eq!(rt; bytewise.as_slice(), wanted, "{name}, byte by byte");
+    }
+    Ok(())
+}
+
+#[test]
+fn refuses_plain_lines_that_are_no_record_of_four_short_fields(
+    rt: HostRuntime,
+) -> Result<(), Fail> {
+    let alloc = rt.alloc();
+    for (name, text, wanted) in [
+        (
+            "a fifth field",
+            b"a,b,c,d\ne,f,g,h,i\nj".as_slice(),
+            b"a|b|c|d|;unfit".as_slice(),
+        ),
+        (
+            "a fourth comma at the end",
+            b"a,b,c,d\ne,f,g,h,",
+            b"a|b|c|d|;unfit",
+        ),
+        (
+            "after blank lines",
+            b"\n\n\na,b,c,d\n\n\ne,f,g,h,i",
+            b"a|b|c|d|;unfit",
+        ),
+        (
+            "a field of 20 bytes",
+            b"a,b,c,12345678901234567890\n12345678901234567890,,,\n",
+            b"a|b|c|12345678901234567890|;12345678901234567890||||;",
+        ),
+        (
+            "a first field of 21 bytes",
+            b"123456789012345678901",
+            b"unfit",
+        ),
+        (
+            "a second field of 21 bytes",
+            b"a,123456789012345678901\n",
+            b"unfit",
+        ),
+        (
+            "a third field of 21 bytes",
+            b"a,b,123456789012345678901,",
+            b"unfit",
+        ),
+        (
+            "a fourth field of 21 bytes",
+            b"a,b,c,123456789012345678901\n",
+            b"unfit",
+        ),
+        (
+            "a quote before the fifth field",
+            b"\"a\",b,c,d\ne,f,g,h,i\n",
+            b"a|b|c|d|;?;",
+        ),
+        (
+            "a quote in mid-line",
+            b"a,b\"c,d,e\nf,g,h,i,j\n",
+            b"a|b\"c|d|e|;?;",
         ),
     ] {
         let at_once = listed(alloc, text)?;

@@ -1,6 +1,7 @@
-use Rattle.std.proofs.Common.{◌≡◌, ◌≤◌, ◌<◌, length, rules, arith, true, ◌∷◌, [], length-append}
+use Rattle.std.proofs.Common.{◌≡◌, ◌≤◌, ◌<◌, length, rules, arith, true, Some, ◌∷◌, [], length-append}
 use Rattle.std.specs.Result.{is_ok}
-use Rattle.cell_rows.proofs.Scripts.{due-end, due-many, due-means, due-more, due-unread}
+use Rattle.cell_rows.specs.Rows.{rows_left, rows_of}
+use Rattle.cell_rows.proofs.Scripts.{due-end, due-many, due-means, due-more, due-stopped, due-unread, gives-stopped, means-stopped}
 use Rattle.cell_rows.proofs.script.read_script.Goals as goal
 
 pub returns-then-not-found : goal.returns-then-not-found
@@ -31,3 +32,11 @@ loop-place-preserved g c =
       few = omega (arith, few, c.loop-place.invariant.counted);
       due = rw items (due-more _ _ _ _ _ _ c.in-Some.line c.loop-place.invariant.due c.in-Ok.found (search rules) c.in-Ok.ensures.takes few (search rules));
     }
+
+pub returns-in-Err : goal.returns-in-Err
+returns-in-Err g c =
+    let lines = c.loop-place.lines.items in
+    let stopped = due-stopped g.L.ScriptLine.line_of (rows_of c.args.text.now) (rows_left (λ s. Some s.now) c.loop-place.rows) lines c.loop-place.place c.in-Err.why c.stopped.result
+    c.stopped.ensures.fits c.loop-place.invariant.due c.in-Err.ensures.unfit c.loop-place.invariant.counted c.loop-place.invariant.few
+    c.stopped.ensures.unread c.stopped.ensures.many c.stopped.ensures.memory in
+    record { exact = gives-stopped _ c.stopped.result stopped; means = means-stopped g.L.ScriptLine.line_of (rows_of c.args.text.now) c.stopped.result stopped }

@@ -1,0 +1,5 @@
+use Rattle.operator_desk.proofs.Fit.{lines_fit}
+use Rattle.operator_desk.proofs.read.LineScriptLine.lines_fit.Goals as goal
+
+pub returns : goal.returns
+returns c = lines_fit
