@@ -45,8 +45,8 @@ enum Source<R> {
 
 /// The records of a reader's text, with the one that was read last.
 ///
-/// Lines of four plain fields are taken straight from the bytes, which is what csv reads there. From the first other line
-/// on, csv reads all that is left.
+/// Lines of four plain fields are taken straight from the bytes, which is what csv reads there. From the first line on that
+/// has a quote, a carriage return or fewer fields, csv reads all that is left.
 #[derive(Drop)]
 pub struct RowReader<R> {
     alloc: Global,
