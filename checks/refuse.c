@@ -5,14 +5,15 @@
  * With REFUSE_WHOLE=1 the calls of the whole program count. Else those count that lie between the begin and the end of a marked
  * call; the marks are the allocations of module `marks` of cell_samples, by their sizes.
  *
- * At the program's end it writes three numbers into the file REFUSE_COUNTS: how many calls counted, how many of them were
- * refused, and how many marked calls answered want of memory.
+ * It keeps three numbers in the file REFUSE_COUNTS, which stay however the program ends: how many calls counted, how many of
+ * them were refused, and how many marked calls answered want of memory.
  */
 #include <errno.h>
 #include <fcntl.h>
 #include <stdatomic.h>
-#include <stdio.h>
 #include <stdlib.h>
+#include <sys/mman.h>
+#include <unistd.h>
 
 enum { BEGIN = 770001, END = 770002, WANTED = 770003 };
 
@@ -20,10 +21,14 @@ extern void *__libc_malloc(size_t size);
 extern void *__libc_calloc(size_t count, size_t size);
 extern void *__libc_realloc(void *block, size_t size);
 
+struct counts {
+	atomic_ulong counted, refused, wanted;
+};
+
 static unsigned long first;
 static int onward;
 static atomic_int counting;
-static atomic_ulong counted, refused, wanted;
+static struct counts none, *counts = &none;
 
 static int is_set(const char *name)
 {
@@ -32,23 +37,30 @@ static int is_set(const char *name)
 	return text && *text == '1';
 }
 
+/* Keeps the counts in a file. */
+static void keep(const char *path)
+{
+	int file = open(path, O_RDWR | O_CREAT, 0666);
+	void *kept;
+
+	if (file < 0 || ftruncate(file, sizeof(struct counts)) != 0)
+		return;
+	kept = mmap(NULL, sizeof(struct counts), PROT_READ | PROT_WRITE, MAP_SHARED, file, 0);
+	if (kept != MAP_FAILED)
+		counts = kept;
+	close(file);
+}
+
 __attribute__((constructor)) static void start(void)
 {
 	const char *number = getenv("REFUSE_FIRST");
+	const char *path = getenv("REFUSE_COUNTS");
 
+	if (path)
+		keep(path);
 	first = number ? strtoul(number, NULL, 10) : 0;
 	onward = is_set("REFUSE_ONWARD");
 	counting = is_set("REFUSE_WHOLE");
-}
-
-__attribute__((destructor)) static void end(void)
-{
-	const char *path = getenv("REFUSE_COUNTS");
-	int file = path ? open(path, O_WRONLY | O_CREAT | O_TRUNC, 0666) : -1;
-
-	counting = 0;
-	if (file >= 0)
-		dprintf(file, "%lu %lu %lu\n", counted, refused, wanted);
 }
 
 /* Whether the size is a mark, which is noted. */
@@ -60,7 +72,7 @@ static int is_mark(size_t size)
 		counting = 0;
 	else
 		return 0;
-	wanted += size == WANTED;
+	counts->wanted += size == WANTED;
 	return 1;
 }
 
@@ -71,10 +83,10 @@ static int refuses(size_t size)
 
 	if (is_mark(size) || !counting)
 		return 0;
-	number = atomic_fetch_add(&counted, 1) + 1;
+	number = atomic_fetch_add(&counts->counted, 1) + 1;
 	if (first == 0 || number < first || (number > first && !onward))
 		return 0;
-	refused++;
+	counts->refused++;
 	errno = ENOMEM;
 	return 1;
 }
