@@ -1,15 +1,17 @@
-//! Samples for the test crates: the journal of one plate, entries and books by their records, scripts, and
-//! readers and writers that fail. No test stands here, and no crate but the test crates uses it.
+//! Samples for the test crates: the journal of one plate, entries and books by their records, scripts, readers
+//! and writers that fail, and marks around a call. No test stands here, and no crate but the test crates uses it.
 #![tactic(auto)]
 
 mod books;
 mod journals;
+mod marks;
 mod records;
 mod scripts;
 mod streams;
 
 pub use books::{begun, book_all};
 pub use journals::entries_of;
+pub use marks::{call_begins, call_ends};
 pub use records::{ONE_PLATE, entry_of, one_plate_text, plate};
 pub use scripts::{CLEARED_PRESS, STUCK_PRESS};
 pub use streams::{Bytewise, Full};

@@ -1,3 +1,5 @@
+mod refused;
+
 use crate::order::{Order, Paths, read_words};
 use clap::error::ErrorKind;
 

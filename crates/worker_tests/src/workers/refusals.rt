@@ -1,20 +1,20 @@
-//! Workers that may be refused memory. Each of these tests passes with ample memory, and in a run that refuses any one
-//! allocation: then the worker, or the whole run, ends for want of memory, or as it does with ample memory.
+//! Workers and a whole run that may be refused memory, at any allocation: they end for want of memory, or as they do with
+//! ample memory. Each test marks one call, to which a library below the program can refuse memory (docs/HOSTILE.md).
 use crate::workers::cell::{ample_plan, faults_of, ports_of, script_of};
-use crate::workers::reports::{check_end, check_lists};
+use crate::workers::reports::{check_end, check_report};
 use crate::workers::rooms::{
-    NONE, OPERATOR, Play, all_but, check_hall, check_list, play_in_room, set_hall,
+    NONE, OPERATOR, Play, all_but, check_hall, check_length, check_worked, play_in_room, set_hall,
 };
 use cell_ledger::{Run, Shares};
-use cell_samples::ONE_PLATE;
+use cell_samples::{CLEARED_PRESS, ONE_PLATE, STUCK_PRESS, call_begins, call_ends};
 use cell_sim::{SimOperator, SimPort, World};
 use cell_types::Machine;
-use cell_workers::{End, Ended, Plan, Room, RunError, Worked, run_cell, run_operator, run_worker};
+use cell_workers::{End, Ended, Plan, Room, RunError, Worked};
 use std::process::Abort;
 use std::sync::{Mutex, Wait};
 
 // A worker alone that isn't lost, as the others are, ends for want of memory after some of these entries, or as told after
-// all of them.
+// all of them. The book has the entries of its list, and its shares count them.
 fn check_refused<R: Run, W: Abort + Wait>(
     rt: &W,
     room: &Room<R>,
@@ -26,12 +26,13 @@ fn check_refused<R: Run, W: Abort + Wait>(
     assert!(rt; length <= records.len());
     if worked.ended == Ended::Memory {
         assert!(rt; length < records.len());
-        check_list(rt, worked, Ended::Memory, &records[..length]);
+        check_worked(rt, worked, Ended::Memory, &records[..length]);
         assert_eq!(rt; room.hall.lock(rt).end, Some(End::Memory));
     } else {
-        check_list(rt, worked, Ended::Told, records);
+        check_worked(rt, worked, Ended::Told, records);
         check_hall(rt, room, Some(End::Stalled), [true; 7], all_but(place));
     }
+    check_length(rt, room, length as u32);
 }
 
 struct Feeds;
@@ -49,13 +50,24 @@ impl Play for Feeds {
         let faults = faults_of(rt, "");
         let mut port = SimPort::new(rt, &world, Machine::Feed, &faults);
         set_hall(rt, room, NONE, all_but(0));
-        let worked = run_worker(rt, rt.alloc(), Machine::Feed, &mut port, room, first, plan);
+        let alloc = rt.alloc();
+        call_begins(alloc);
+        let worked = cell_workers::run_worker(
+            rt,
+            alloc,
+            Machine::Feed,
+            &mut port,
+            room,
+            first,
+            plan,
+        );
+        call_ends(alloc, worked.ended == Ended::Memory);
         check_refused(rt, room, 0, &worked, &ONE_PLATE[..8]);
     }
 }
 
 #[test]
-fn a_worker_is_refused_memory(rt: HostRuntime) {
+fn run_worker(rt: HostRuntime) {
     play_in_room(&rt, &Feeds, &ample_plan(&rt, 1));
 }
 
@@ -74,30 +86,41 @@ impl Play for Stops {
         let mut hands = SimOperator::new(rt, &world);
         let script = script_of(rt, "always,,stop,press1\nalways,,stop,robot\n");
         set_hall(rt, room, NONE, all_but(OPERATOR));
-        let worked = run_operator(rt, rt.alloc(), &mut hands, script, room, first, plan);
+        let alloc = rt.alloc();
+        call_begins(alloc);
+        let worked = cell_workers::run_operator(rt, alloc, &mut hands, script, room, first, plan);
+        call_ends(alloc, worked.ended == Ended::Memory);
         let records = ["stop_asked,press1,,", "stop_asked,robot,,"];
         check_refused(rt, room, OPERATOR, &worked, &records);
     }
 }
 
 #[test]
-fn the_operator_is_refused_memory(rt: HostRuntime) {
+fn run_operator(rt: HostRuntime) {
     play_in_room(&rt, &Stops, &ample_plan(&rt, 1));
 }
 
+// Of six plates one stays in the second press, and is cleared.
 #[test]
-fn a_run_is_refused_memory(rt: HostRuntime) {
-    let plan = ample_plan(&rt, 5);
-    let faults = faults_of(&rt, "");
-    let script = script_of(&rt, "");
+fn run_cell(rt: HostRuntime) {
+    let alloc = rt.alloc();
+    let plan = ample_plan(&rt, 6);
+    let faults = faults_of(&rt, STUCK_PRESS);
+    let script = script_of(&rt, CLEARED_PRESS);
     let world = Mutex::new(World::new(plan.plates));
     let mut ports = ports_of(&rt, &world, &faults);
     let mut hands = SimOperator::new(&rt, &world);
-    match run_cell(&rt, rt.alloc(), &mut ports, &mut hands, script, &plan) {
+    call_begins(alloc);
+    let answer = cell_workers::run_cell(&rt, alloc, &mut ports, &mut hands, script, &plan);
+    call_ends(
+        alloc,
+        !matches!(&answer, Ok(report) if report.end != End::Memory),
+    );
+    match answer {
         Ok(report) => {
-            check_lists(&rt, &report);
+            check_report(&rt, &report, &plan);
             if report.end != End::Memory {
-                check_end(&rt, &report, End::Finished, [5, 5, 0, 5]);
+                check_end(&rt, &report, End::Finished, [6, 5, 1, 5]);
             }
         }
         Err(why) => assert!(rt; why != RunError::JournalDisagrees),

@@ -1,0 +1,173 @@
+#!/usr/bin/env bash
+# Refuses memory: to each call that takes memory (calls) and to the program (program), its first allocation, then its second,
+# and so on until a run ends with none refused; and once more with all allocations refused from that one on. Each run has to
+# give want of memory, or the answer with ample memory. docs/HOSTILE.md says how.
+# The crates' tests and the program have to be built: by `rt ci`, or by `rt test` in the crates' folders and `rt run` in
+# cellctl's.
+# Usage: checks/refused.sh [calls|program]     both by default
+set -euo pipefail
+here=$(cd "$(dirname "$0")" && pwd)
+crates=$here/../crates
+examples=$here/../examples
+cellctl=$crates/cellctl/out/cellctl
+folder=$(mktemp -d)
+trap 'rm -r "$folder"' EXIT
+gcc -O2 -Wall -shared -fPIC -o "$folder/refuse.so" "$here/refuse.c"
+most=5000
+wrong=0
+
+# Runs a command with the allocation of a number refused, or all from there on. Standard input is $folder/input.
+# Sets the status, and how many allocations counted, how many were refused and how many marked calls wanted memory.
+run_refused() {
+    local first=$1 onward=$2 whole=$3
+    shift 3
+    rm -f "$folder/counts"
+    status=0
+    timeout 30 env LD_PRELOAD="$folder/refuse.so" REFUSE_FIRST="$first" REFUSE_ONWARD="$onward" REFUSE_WHOLE="$whole" \
+        REFUSE_COUNTS="$folder/counts" "$@" < "$folder/input" > "$folder/output" 2> "$folder/errors" || status=$?
+    read -r counted refused wanted < <(od -An -v -tu8 -w24 "$folder/counts")
+}
+
+# Runs a command until a run has none refused. Each run is judged by a function, which says whether it is right.
+# Sets how many runs had memory refused, and how many of them told it.
+refuse_each() {
+    local judge=$1 name=$2 onward=$3 whole=$4 first
+    shift 4
+    runs=0 told=0
+    for ((first = 1; first <= most; first++)); do
+        run_refused "$first" "$onward" "$whole" "$@"
+        if ! "$judge"; then
+            wrong=$((wrong + 1))
+            echo "$name: wrong with number $first of $counted refused (and all after it: $onward): status $status"
+            head -c 2000 "$folder/errors" "$folder/output"
+        fi
+        [ "$refused" != 0 ] || return 0
+        runs=$((runs + 1))
+        [ "$wanted" = 0 ] || told=$((told + 1))
+    done
+    wrong=$((wrong + 1))
+    echo "$name: memory was still refused after $most runs"
+}
+
+# Refuses memory to a command in both ways, and prints how many runs that took, and how many of them told want of memory. A
+# test without marks doesn't say that.
+refuse_both() {
+    local judge=$1 name=$2 once onward
+    shift 2
+    refuse_each "$judge" "$name" 0 "$@"
+    once="$runs runs with one refused ($told told it)"
+    refuse_each "$judge" "$name" 1 "$@"
+    onward="$runs with all from one on ($told told it)"
+    [ "$judge$1" != test_is_right1 ] || once=${once% (*} onward=${onward% (*}
+    echo "$name: $once, $onward"
+    if [ "$runs" = 0 ]; then
+        wrong=$((wrong + 1))
+        echo "$name: no allocation was refused"
+    fi
+}
+
+# A test passed, and it told want of memory only where memory was refused.
+test_is_right() {
+    [ "$status" = 0 ] && { [ "$refused" != 0 ] || [ "$wanted" = 0 ]; }
+}
+
+# The tests of a crate whose names have a word.
+refuse_tests() {
+    local crate=$1 word=$2 whole=$3 program test
+    program=$crates/$crate/out/${crate}_tests
+    : > "$folder/input"
+    for test in $("$program" --list | sed -n "/$word/s/: test\$//p"); do
+        refuse_both test_is_right "${test##*:}" "$whole" "$program" "$test"
+    done
+}
+
+refuse_calls() {
+    refuse_tests refused_tests '::' 0
+    refuse_tests worker_tests 'refusals::' 0
+    refuse_tests cellctl 'refused::' 1
+}
+
+# The program told want of memory: by its status and on standard error, and it had written a first part of what is due, or
+# the lines of a run that ended so.
+tells_want() {
+    [ "$status" = 4 ] && [ "$(cat "$folder/errors")" = "out of memory" ] || return 1
+    wanted=1
+    [ "$(sed 's/ [0-9]*$//' "$folder/output" | tr '\n' ' ')" = "memory admitted forged quarantined delivered " ] ||
+        head -c "$(wc -c < "$folder/output")" "$folder/due.output" | cmp -s - "$folder/output"
+}
+
+# The program gave the answer with ample memory, or told want of it where it was refused.
+answer_is_right() {
+    if [ "$status" = "$due" ] && cmp -s "$folder/output" "$folder/due.output" && cmp -s "$folder/errors" "$folder/due.errors"
+    then
+        return 0
+    fi
+    [ "$refused" != 0 ] && tells_want
+}
+
+# The same of a run on threads, whose journal isn't the same each time: where it is whole it has the totals that are due,
+# and no entry of it is refused where it is cut.
+journal_is_right() {
+    "$cellctl" audit < "$folder/output" > "$folder/audited" || true
+    if [ "$status" = "$due" ] && tail -n +2 "$folder/audited" | cmp -s - "$folder/due.totals"; then
+        return 0
+    fi
+    [ "$refused" != 0 ] && [ "$status" = 4 ] && [ "$(cat "$folder/errors")" = "out of memory" ] || return 1
+    wanted=1
+    ! grep -q '^refused' "$folder/audited"
+}
+
+# Refuses memory to the program on some words, after a run with ample memory.
+refuse_words() {
+    local judge=$1 name=$2
+    shift 2
+    run_refused 0 0 1 "$cellctl" "$@"
+    due=$status
+    cp "$folder/output" "$folder/due.output"
+    cp "$folder/errors" "$folder/due.errors"
+    refuse_both "$judge" "cellctl $name" 1 "$cellctl" "$@"
+}
+
+# The files of a short run in rounds, whose only plate is taken from the feed belt by hand.
+write_files() {
+    echo 'plates = 1' > "$folder/short.toml"
+    echo '"press_two",1,no_motion,' > "$folder/short.faults"
+    printf '%s\n' admitted,1,stop,feed failed,feed,clear,feed_in '"failed",feed,repair,feed' > "$folder/short.operator"
+    : > "$folder/input"
+}
+
+refuse_program() {
+    local short=("$folder/short.toml" "$folder/short.faults" "$folder/short.operator")
+    local none=$examples/no_faults.faults
+    local run=("$examples/press_fails.toml" "$examples/press_fails.faults" "$examples/press_fails.operator")
+    write_files
+    refuse_words answer_is_right "--help" --help
+    refuse_words answer_is_right "brew (no such command)" brew
+    refuse_words answer_is_right "check" check "$examples/cell.toml"
+    refuse_words answer_is_right "check (settings that are refused)" check "$examples/press_fails.faults"
+    refuse_words answer_is_right "check (no such file)" check "$folder/none.toml"
+    refuse_words answer_is_right "sim" sim "${short[@]}"
+    refuse_words answer_is_right "sim --journal" sim --journal "${short[@]}"
+    cp "$folder/due.output" "$folder/input"
+    refuse_words answer_is_right "audit" audit
+    sed -i '3,$s/^\([a-z_]*\),/"\1",/' "$folder/input"
+    refuse_words answer_is_right "audit (quoted fields)" audit
+    refuse_words answer_is_right "run" run "${run[@]}"
+    printf '%s\n' 'admitted 1' 'forged 1' 'quarantined 0' 'delivered 1' > "$folder/due.totals"
+    refuse_words journal_is_right "run --journal" run --journal "$folder/short.toml" "$none" "$none"
+}
+
+case ${1:-both} in
+    calls) refuse_calls ;;
+    program) refuse_program ;;
+    both)
+        refuse_calls
+        refuse_program
+        ;;
+    *)
+        sed -n "s/^# Usage/usage/p" "$0" >&2
+        exit 2
+        ;;
+esac
+echo "refused memory: $wrong runs wrong"
+[ "$wrong" = 0 ]

@@ -1,0 +1,140 @@
+//! Whole runs by their texts, in rounds on one thread and on threads.
+use cell_audit::{AuditError, audit};
+use cell_lines::WriteFault;
+use cell_samples::{CLEARED_PRESS, STUCK_PRESS, call_begins, call_ends};
+use cell_types::Totals;
+use std::process::Abort;
+use std::sync::Wait;
+use std::test::Fail;
+use std::thread::Threads;
+
+// Room for all that a run writes, so that the writer asks for no memory.
+const ROOM: usize = 100_000;
+
+// The texts of a run: its settings, its faults and the operator's script.
+type Texts = [&'static [u8]; 3];
+
+// In rounds the only plate is cleared from the feed belt, which is repaired. This takes few rounds, each of which takes
+// memory for its lists.
+const SHORT: Texts = [
+    b"plates = 1",
+    b"\"press_two\",1,no_motion,\n",
+    b"admitted,1,stop,feed\nfailed,feed,clear,feed_in\n\"failed\",feed,repair,feed\n",
+];
+
+// On threads one of six plates stays in the second press, and is cleared.
+const LONG: Texts = [
+    b"plates = 6",
+    STUCK_PRESS.as_bytes(),
+    CLEARED_PRESS.as_bytes(),
+];
+
+// One plate is carried through the cell.
+const PLAIN: Texts = [b"plates = 1", b"", b""];
+
+// What a run writes, and its status. Where the run is marked, memory may be refused to it.
+fn run<R: AllocGlobal + Abort + Threads + Wait + Sync>(
+    rt: &R,
+    texts: Texts,
+    threads: bool,
+    journal: bool,
+    marked: bool,
+) -> Result<(Vec<u8>, Result<u8, WriteFault>), Fail> {
+    let alloc = rt.alloc();
+    let [settings, faults, operator] = texts;
+    let mut written = Vec::with_capacity(alloc, ROOM)?;
+    if marked {
+        call_begins(alloc);
+    }
+    let answer = cell_runs::run_texts(
+        rt,
+        settings,
+        faults,
+        operator,
+        threads,
+        journal,
+        &mut written,
+    );
+    if marked {
+        call_ends(alloc, answer == Ok(4));
+    }
+    Ok((written, answer))
+}
+
+// Whether these are the five lines of a run that ended for want of memory.
+fn tells_memory(written: &[u8]) -> bool {
+    let ends = written.iter().filter(|byte| **byte == b'\n').count();
+    written.starts_with(b"memory\nadmitted ") && written.ends_with(b"\n") && ends == 5
+}
+
+// The lines of a run, which are these where it has memory.
+fn check_lines<R: AllocGlobal + Abort + Threads + Wait + Sync>(
+    rt: &R,
+    texts: Texts,
+    threads: bool,
+    due: &[u8],
+) -> Result<(), Fail> {
+    let (written, answer) = run(rt, texts, threads, false, true)?;
+    let lines = written.as_slice();
+    if answer == Ok(4) {
+        assert!(rt; lines.is_empty() || tells_memory(lines));
+    } else {
+        assert_eq!(rt; answer, Ok(0));
+        assert_eq!(rt; lines, due);
+    }
+    Ok(())
+}
+
+#[test]
+fn run_texts_in_rounds(rt: HostRuntime) -> Result<(), Fail> {
+    let due = b"finished\nadmitted 1\nforged 0\nquarantined 1\ndelivered 0\n";
+    check_lines(&rt, SHORT, false, due)
+}
+
+#[test]
+fn run_texts_on_threads(rt: HostRuntime) -> Result<(), Fail> {
+    let due = b"finished\nadmitted 6\nforged 5\nquarantined 1\ndelivered 5\n";
+    check_lines(&rt, LONG, true, due)
+}
+
+// The journal of a run in rounds is the same each time.
+#[test]
+fn run_texts_in_rounds_with_journal(rt: HostRuntime) -> Result<(), Fail> {
+    let (due, status) = run(&rt, SHORT, false, true, false)?;
+    assert_eq!(rt; status, Ok(0));
+    let (written, answer) = run(&rt, SHORT, false, true, true)?;
+    let (text, due) = (written.as_slice(), due.as_slice());
+    if answer == Ok(4) {
+        assert!(rt; due.starts_with(text));
+    } else {
+        assert_eq!(rt; answer, Ok(0));
+        assert_eq!(rt; text, due);
+    }
+    Ok(())
+}
+
+// That of a run on threads isn't. No entry of it is refused, and a whole one has the plate's counts.
+#[test]
+fn run_texts_on_threads_with_journal(rt: HostRuntime) -> Result<(), Fail> {
+    let (written, answer) = run(&rt, PLAIN, true, true, true)?;
+    let audited = audit(rt.alloc(), written.as_slice());
+    if answer == Ok(4) {
+        assert!(rt; matches!(audited, Ok(_) | Err(AuditError::Unreadable(_))));
+    } else {
+        assert_eq!(rt; answer, Ok(0));
+        match audited {
+            Ok(totals) => {
+                let Totals {
+                    admitted,
+                    forged,
+                    quarantined,
+                    delivered,
+                    ..
+                } = totals;
+                assert_eq!(rt; [admitted, forged, quarantined, delivered], [1, 1, 0, 1]);
+            }
+            Err(why) => panic!(rt; "the journal is legal: {why:?}"),
+        }
+    }
+    Ok(())
+}

@@ -1,0 +1,229 @@
+//! Texts that are read, judged and written.
+use cell_audit::{AuditError, WriteError};
+use cell_diagnosis::Limits;
+use cell_lines::WriteFault;
+use cell_samples::{ONE_PLATE, begun, call_begins, call_ends, one_plate_text};
+use cell_settings::SettingsError;
+use cell_sim::{FaultError, FaultScript, SimPort, World};
+use cell_turns::Port;
+use cell_types::{Axis, Command, Machine, Pose, Totals};
+use operator_desk::{Action, Script, ScriptError};
+use std::alloc::{AllocError, Global};
+use std::process::Abort;
+use std::sync::Mutex;
+use std::test::Fail;
+
+// Room for all that a call writes, so that the writer asks for no memory.
+const ROOM: usize = 10_000;
+
+// The first line is plain and the second is quoted.
+const STOPS: &[u8] = b"admitted,1,stop,feed\n\"failed\",press2,repair,press2\n";
+
+#[test]
+fn script_read(rt: HostRuntime) {
+    let alloc = rt.alloc();
+    let book = begun(alloc, 100, 10, 2).expect(&rt, "a book");
+    call_begins(alloc);
+    let answer = Script::read(alloc, STOPS);
+    call_ends(alloc, answer.is_err());
+    match answer {
+        Ok(script) => {
+            assert_eq!(rt; script.next(&book), Some(Action::Stop(Machine::Feed)));
+        }
+        Err(why) => assert_eq!(rt; why, ScriptError::OutOfMemory),
+    }
+}
+
+// The same of faults. The feed belt's first motion is refused.
+const REFUSED: &[u8] = b"feed_belt,1,refuse_command,\n\"press_two\",1,both,\n";
+
+#[test]
+fn fault_script_read(rt: HostRuntime) {
+    let alloc = rt.alloc();
+    call_begins(alloc);
+    let answer = FaultScript::read(alloc, REFUSED);
+    call_ends(alloc, answer.is_err());
+    match answer {
+        Ok(faults) => {
+            let world = Mutex::new(World::new(1));
+            let mut feed = SimPort::new(&rt, &world, Machine::Feed, &faults);
+            let on = Command::On(Axis::FeedBelt, Pose::ToEnd);
+            assert!(rt; feed.command(on).is_err());
+            assert!(rt; feed.command(on).is_ok());
+        }
+        Err(why) => assert_eq!(rt; why, FaultError::OutOfMemory),
+    }
+}
+
+const SETTINGS: &[u8] = b"plates = 5\nturns = 7\n[watch.press_one]\nleave = 4\nlimit = 9\n";
+
+#[test]
+fn read_settings(rt: HostRuntime) {
+    let alloc = rt.alloc();
+    call_begins(alloc);
+    let answer = cell_settings::read_settings(alloc, SETTINGS);
+    call_ends(alloc, matches!(&answer, Err(SettingsError::OutOfMemory)));
+    match &answer {
+        Ok(plan) => {
+            assert_eq!(rt;
+                [plan.plates, plan.turns, plan.journal_limit],
+                [5, 7, 100_000]
+            );
+            let limits = plan.limits[Axis::PressOne as usize];
+            assert_eq!(rt; Some(limits), Limits::new(4, 9));
+        }
+        Err(why) => assert!(rt; matches!(why, SettingsError::OutOfMemory), "{why:?}"),
+    }
+}
+
+// The limit of the first press isn't above its leave.
+const OUT_OF_RANGE: &[u8] = b"plates = 1\n[watch.press_one]\nleave = 20\n";
+
+#[test]
+fn read_settings_out_of_range(rt: HostRuntime) {
+    let alloc = rt.alloc();
+    call_begins(alloc);
+    let answer = cell_settings::read_settings(alloc, OUT_OF_RANGE);
+    call_ends(alloc, matches!(&answer, Err(SettingsError::OutOfMemory)));
+    match &answer {
+        Ok(_) => panic!(rt; "the limit is out of range"),
+        Err(SettingsError::OutOfRange(path)) => {
+            assert_eq!(rt; path.as_str(), "watch.press_one.limit");
+        }
+        Err(why) => assert!(rt; matches!(why, SettingsError::OutOfMemory), "{why:?}"),
+    }
+}
+
+// Whether a call's status is that of refused memory.
+fn is_wanted(answer: Result<u8, WriteFault>) -> bool {
+    answer == Ok(4)
+}
+
+// What was written is all that is due, with its status, or a first part of it, where memory was refused.
+fn check_written(
+    rt: &impl Abort,
+    answer: Result<u8, WriteFault>,
+    written: &[u8],
+    status: u8,
+    due: &[u8],
+) {
+    if is_wanted(answer) {
+        assert!(rt; due.starts_with(written));
+    } else {
+        assert_eq!(rt; answer, Ok(status));
+        assert_eq!(rt; written, due);
+    }
+}
+
+#[test]
+fn check_lines(rt: HostRuntime) -> Result<(), Fail> {
+    let alloc = rt.alloc();
+    let mut written = Vec::with_capacity(alloc, ROOM)?;
+    call_begins(alloc);
+    let answer = cell_settings::check_lines(alloc, SETTINGS, &mut written);
+    call_ends(alloc, is_wanted(answer));
+    check_written(&rt, answer, written.as_slice(), 0, b"settings ok\n");
+    Ok(())
+}
+
+#[test]
+fn check_lines_out_of_range(rt: HostRuntime) -> Result<(), Fail> {
+    let alloc = rt.alloc();
+    let mut written = Vec::with_capacity(alloc, ROOM)?;
+    call_begins(alloc);
+    let answer = cell_settings::check_lines(alloc, OUT_OF_RANGE, &mut written);
+    call_ends(alloc, is_wanted(answer));
+    let due = b"settings OutOfRange watch.press_one.limit\n";
+    check_written(&rt, answer, written.as_slice(), 1, due);
+    Ok(())
+}
+
+#[test]
+fn write_journal(rt: HostRuntime) -> Result<(), Fail> {
+    let alloc = rt.alloc();
+    let book = begun(alloc, 100, 10, 62).expect(&rt, "a book");
+    let due = one_plate_text(alloc)?;
+    let mut written = Vec::with_capacity(alloc, ROOM)?;
+    call_begins(alloc);
+    let answer = cell_audit::write_journal(alloc, book.journal(), &mut written);
+    call_ends(alloc, answer.is_err());
+    match answer {
+        Ok(()) => assert_eq!(rt; written.as_slice(), due.as_slice()),
+        Err(why) => {
+            assert_eq!(rt; why, WriteError::OutOfMemory);
+            assert!(rt; due.as_slice().starts_with(written.as_slice()));
+        }
+    }
+    Ok(())
+}
+
+const PLAIN: &[u8] = b"quarantined,1,table,\n";
+
+const QUOTED: &[u8] = b"\"quarantined\",1,table,\n";
+
+// The text of a journal of ten entries, in which the first plate is cleared from the table by this last record.
+fn clearing(alloc: Global, last: &[u8]) -> Result<Vec<u8>, AllocError> {
+    let mut text = Vec::new(alloc);
+    text.extend_from_slice(b"profile,1,,\n")?;
+    for record in ONE_PLATE.iter().take(7) {
+        text.extend_from_slice(record.as_bytes())?;
+        text.push(b'\n')?;
+    }
+    text.extend_from_slice(b"yielded,feed,z1,\ndeclared,table,operator_stop,\n")?;
+    text.extend_from_slice(last)?;
+    Ok(text)
+}
+
+// Audits that text.
+fn check_audit<R: AllocGlobal + Abort>(rt: &R, last: &[u8]) -> Result<(), Fail> {
+    let alloc = rt.alloc();
+    let text = clearing(alloc, last)?;
+    call_begins(alloc);
+    let answer = cell_audit::audit(alloc, text.as_slice());
+    call_ends(alloc, answer == Err(AuditError::OutOfMemory));
+    let due = Totals {
+        entries: 10,
+        admitted: 1,
+        forged: 0,
+        quarantined: 1,
+        delivered: 0,
+    };
+    match answer {
+        Ok(totals) => assert_eq!(rt; totals, due),
+        Err(why) => assert_eq!(rt; why, AuditError::OutOfMemory),
+    }
+    Ok(())
+}
+
+#[test]
+fn audit(rt: HostRuntime) -> Result<(), Fail> {
+    check_audit(&rt, PLAIN)
+}
+
+#[test]
+fn audit_quoted(rt: HostRuntime) -> Result<(), Fail> {
+    check_audit(&rt, QUOTED)
+}
+
+// What is printed for the audit of that text.
+fn check_audit_lines<R: AllocGlobal + Abort>(rt: &R, last: &[u8]) -> Result<(), Fail> {
+    let alloc = rt.alloc();
+    let text = clearing(alloc, last)?;
+    let mut written = Vec::with_capacity(alloc, ROOM)?;
+    call_begins(alloc);
+    let answer = cell_lines::audit_lines(alloc, text.as_slice(), &mut written);
+    call_ends(alloc, is_wanted(answer));
+    let due = b"legal 10\nadmitted 1\nforged 0\nquarantined 1\ndelivered 0\n";
+    check_written(rt, answer, written.as_slice(), 0, due);
+    Ok(())
+}
+
+#[test]
+fn audit_lines(rt: HostRuntime) -> Result<(), Fail> {
+    check_audit_lines(&rt, PLAIN)
+}
+
+#[test]
+fn audit_lines_quoted(rt: HostRuntime) -> Result<(), Fail> {
+    check_audit_lines(&rt, QUOTED)
+}
