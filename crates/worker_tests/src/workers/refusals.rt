@@ -1,6 +1,6 @@
 //! Workers that may be refused memory. Each of these tests passes with ample memory, and in a run that refuses any one
 //! allocation: then the worker, or the whole run, ends for want of memory, or as it does with ample memory.
-use crate::workers::cell::{ample_plan, faults_of, ports_of, script_of};
+use crate::workers::cell::{ample_plan, faults_of, script_of};
 use crate::workers::reports::{check_end, check_lists};
 use crate::workers::rooms::{
     NONE, OPERATOR, Play, all_but, check_hall, check_list, play_in_room, set_hall,
@@ -10,6 +10,7 @@ use cell_samples::ONE_PLATE;
 use cell_sim::{SimOperator, SimPort, World};
 use cell_types::Machine;
 use cell_workers::{End, Ended, Plan, Room, RunError, Worked, run_cell, run_operator, run_worker};
+use port_samples::sim_ports;
 use std::process::Abort;
 use std::sync::{Mutex, Wait};
 
@@ -91,7 +92,7 @@ fn a_run_is_refused_memory(rt: HostRuntime) {
     let faults = faults_of(&rt, "");
     let script = script_of(&rt, "");
     let world = Mutex::new(World::new(plan.plates));
-    let mut ports = ports_of(&rt, &world, &faults);
+    let mut ports = sim_ports(&rt, &world, &faults);
     let mut hands = SimOperator::new(&rt, &world);
     match run_cell(&rt, rt.alloc(), &mut ports, &mut hands, script, &plan) {
         Ok(report) => {

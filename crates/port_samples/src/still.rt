@@ -1,0 +1,34 @@
+//! A port and hands that reach no machine.
+use cell_diagnosis::Reading;
+use cell_turns::{OperatorPort, Port, PortFault};
+use cell_types::{Command, Machine, Station};
+
+/// A port that shows the same reading for ever, and takes every command.
+#[derive(Clone, Copy, PartialEq, Eq, Debug)]
+pub struct StillPort {
+    pub shown: Option<Reading>,
+}
+
+impl Port for StillPort {
+    fn read(&mut self) -> Option<Reading> {
+        self.shown
+    }
+
+    fn command(&mut self, _command: Command) -> Result<(), PortFault> {
+        Ok(())
+    }
+}
+
+/// Hands that do every act.
+#[derive(Clone, Copy, PartialEq, Eq, Debug)]
+pub struct StillHands;
+
+impl OperatorPort for StillHands {
+    fn remove(&mut self, _station: Station) -> Result<(), PortFault> {
+        Ok(())
+    }
+
+    fn home(&mut self, _machine: Machine) -> Result<(), PortFault> {
+        Ok(())
+    }
+}
