@@ -10,8 +10,8 @@ mod scripts;
 mod streams;
 
 pub use books::{begun, book_all};
-pub use journals::entries_of;
+pub use journals::{entries_of, is_list_of};
 pub use marks::{call_begins, call_ends};
 pub use records::{ONE_PLATE, entry_of, one_plate_text, plate};
 pub use scripts::{CLEARED_PRESS, STUCK_PRESS};
-pub use streams::{Bytewise, Full};
+pub use streams::{FailingReader, FailingWriter, Interrupted, Pieces, Unwilling};

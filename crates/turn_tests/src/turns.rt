@@ -3,7 +3,6 @@ ghost use Rattle.std.specs.Prelude.{◌≡◌, ◌<◌, ◌≤◌};
 ghost use Rattle.cell_turns.specs.Minds.{machine_of_watch};
 ghost use Rattle.cell_ledger.specs.New.{AreBlank};
 
-mod memory_ports;
 mod schedules;
 
 use cell_diagnosis::{Limits, Reading};

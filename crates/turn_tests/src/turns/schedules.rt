@@ -2,7 +2,6 @@
 ghost use Rattle.std.specs.Prelude.{◌≡◌, ◌<◌};
 ghost use Rattle.cell_ledger.specs.New.{AreBlank};
 
-use crate::turns::memory_ports::{MemoryHands, MemoryPort};
 use crate::turns::{plan_of, showing};
 use cell_diagnosis::Reading;
 use cell_ledger::{Blanks, Kept, Run};
@@ -10,9 +9,14 @@ use cell_samples::{begun, entry_of};
 use cell_turns::{Act, Plan, Ran, Six, Step, Watches, run_schedule};
 use cell_types::{Belt, Cause, Colour, Command, Entry, MACHINES, Machine, Station};
 use plate_book::Book;
+use port_samples::{Failing, StillHands, StillPort, TellingHands, TellingPort, telling_ports};
 use std::alloc::Global;
 use std::marker::Brand;
 use std::process::Abort;
+
+type MemoryPort = TellingPort<StillPort>;
+
+type MemoryHands = TellingHands<StillHands>;
 
 // What is left after a schedule.
 #[derive(Drop)]
@@ -23,24 +27,21 @@ struct Played {
     book: Book,
 }
 
-const NEVER: usize = 1_000_000;
-
-fn port(rt: &impl Abort, alloc: Global, room: usize, fails_at: usize) -> MemoryPort {
-    let Ok(port) = MemoryPort::new(alloc, None, room, fails_at) else {
+// Ports in memory with room for so many commands, each of which fails so.
+fn ports(rt: &impl Abort, alloc: Global, room: usize, failing: Failing) -> Six<MemoryPort> {
+    let still = StillPort { shown: None };
+    let still = Six {
+        feed: still,
+        table: still,
+        robot: still,
+        press1: still,
+        press2: still,
+        deposit: still,
+    };
+    let Ok(ports) = telling_ports(alloc, still, [failing; 6], room) else {
         panic!(rt; "there is memory");
     };
-    port
-}
-
-fn ports(rt: &impl Abort, alloc: Global, room: usize, fails_at: usize) -> Six<MemoryPort> {
-    Six {
-        feed: port(rt, alloc, room, fails_at),
-        table: port(rt, alloc, room, fails_at),
-        robot: port(rt, alloc, room, fails_at),
-        press1: port(rt, alloc, room, fails_at),
-        press2: port(rt, alloc, room, fails_at),
-        deposit: port(rt, alloc, room, fails_at),
-    }
+    ports
 }
 
 fn play_over<R: Run>(
@@ -81,34 +82,34 @@ fn play_over<R: Run>(
     }
 }
 
-// A schedule on a book, over these ports. The operator's hands fail at one of their acts.
+// A schedule on a book, over these ports. The operator's hands fail so.
 fn play_with(
     rt: &impl Abort,
     alloc: Global,
     book: Book,
     steps: &[Step],
     ports: Six<MemoryPort>,
-    hands_fail_at: usize,
+    hands_failing: Failing,
 ) -> Played {
-    let Ok(hands) = MemoryHands::new(alloc, 100, hands_fail_at) else {
+    let Ok(hands) = MemoryHands::new(alloc, StillHands, hands_failing, hands_failing, 100) else {
         panic!(rt; "there is memory");
     };
     let plan = plan_of(rt, 5);
     play_over::<Brand>(rt, alloc, book, Blanks::new(1), &plan, steps, ports, hands)
 }
 
-// A schedule on a book, over ports with room for 100 commands, each of which fails at one of its own; the operator's hands
-// fail at one of their acts.
+// A schedule on a book, over ports with room for 100 commands, each of which fails so; the operator's hands fail in their own
+// way.
 fn play(
     rt: &impl Abort,
     alloc: Global,
     book: Book,
     steps: &[Step],
-    fails_at: usize,
-    hands_fail_at: usize,
+    failing: Failing,
+    hands_failing: Failing,
 ) -> Played {
-    let ports = ports(rt, alloc, 100, fails_at);
-    play_with(rt, alloc, book, steps, ports, hands_fail_at)
+    let ports = ports(rt, alloc, 100, failing);
+    play_with(rt, alloc, book, steps, ports, hands_failing)
 }
 
 const FEED_GREEN: Command = Command::Lamp(Belt::Feed, Colour::Green);
@@ -123,7 +124,14 @@ fn a_plate_is_laid_in(rt: HostRuntime) {
         Step::Turn(Machine::Feed, showing(1)),
         Step::Turn(Machine::Feed, showing(1)),
     ];
-    let played = play(&rt, rt.alloc(), book, &steps, NEVER, NEVER);
+    let played = play(
+        &rt,
+        rt.alloc(),
+        book,
+        &steps,
+        Failing::Never,
+        Failing::Never,
+    );
     let journal = [
         entry_of("lamp,feed,green,").expect(&rt, "a record"),
         entry_of("admitted,1,,").expect(&rt, "a record"),
@@ -133,7 +141,7 @@ fn a_plate_is_laid_in(rt: HostRuntime) {
     assert!(rt; played.book.journal().get(0) == Some(journal[0]));
     assert!(rt; played.book.journal().get(1) == Some(journal[1]));
     let wanted = [FEED_GREEN, FEED_RED];
-    assert!(rt; played.ports.feed.sent.as_slice() == wanted.as_slice());
+    assert!(rt; played.ports.feed.sent() == Some(wanted.as_slice()));
     assert!(rt; played.ran.refused == 0 && played.ran.operator.is_empty());
 }
 
@@ -146,7 +154,14 @@ fn a_command_that_fails_is_declared(rt: HostRuntime) {
         Step::Turn(Machine::Feed, showing(1)),
         Step::Turn(Machine::Feed, showing(1)),
     ];
-    let played = play(&rt, rt.alloc(), book, &steps, 1, NEVER);
+    let played = play(
+        &rt,
+        rt.alloc(),
+        book,
+        &steps,
+        Failing::At(2),
+        Failing::Never,
+    );
     let fault = Entry::Declared {
         machine: Machine::Feed,
         cause: Cause::CommandFault,
@@ -154,8 +169,8 @@ fn a_command_that_fails_is_declared(rt: HostRuntime) {
     assert!(rt; played.ran.machines.feed.len() == 3);
     assert!(rt; played.book.journal().get(2) == Some(fault));
     let wanted = [FEED_GREEN, Command::AllOff(Machine::Feed)];
-    assert!(rt; played.ports.feed.sent.as_slice() == wanted.as_slice());
-    assert!(rt; played.ports.feed.failures == 1);
+    assert!(rt; played.ports.feed.sent() == Some(wanted.as_slice()));
+    assert!(rt; played.ports.feed.failures() == 1);
 }
 
 #[test]
@@ -167,40 +182,62 @@ fn a_full_journal_refuses_a_turn(rt: HostRuntime) {
         Step::Hand(entry_of("stop_asked,feed,,").expect(&rt, "a record")),
         Step::Turn(Machine::Feed, showing(0)),
     ];
-    let played = play(&rt, rt.alloc(), book, &steps, NEVER, NEVER);
+    let played = play(
+        &rt,
+        rt.alloc(),
+        book,
+        &steps,
+        Failing::Never,
+        Failing::Never,
+    );
     assert!(rt; played.ran.refused == 3);
     assert!(rt; played.book.journal().len() == 1);
     assert!(rt; played.ran.operator.is_empty() && played.ran.machines.feed.is_empty());
-    assert!(rt; played.ports.feed.asked == 0);
+    assert!(rt; played.ports.feed.asked() == 0);
+}
+
+// A feed belt whose port takes no command is declared once, and no plate is laid in.
+fn check_deaf(rt: &impl Abort, played: &Played) {
+    let listed = [
+        entry_of("lamp,feed,green,").expect(rt, "a record"),
+        entry_of("declared,feed,command_fault,").expect(rt, "a record"),
+    ];
+    assert!(rt; played.ran.machines.feed.as_slice() == listed.as_slice());
+    assert!(rt; played.ports.feed.sent() == Some([].as_slice()));
+    assert!(rt; played.ports.feed.failures() == 2);
+    assert!(rt; played.book.totals().admitted == 0);
 }
 
 #[test]
 fn a_port_that_always_fails_only_stops_its_machine(rt: HostRuntime) {
-    let book = begun(rt.alloc(), 100, 10, 0).expect(&rt, "a book");
     let steps = [Step::Turn(Machine::Feed, showing(1)); 6];
-    let ports = ports(&rt, rt.alloc(), 0, NEVER);
-    let played = play_with(&rt, rt.alloc(), book, &steps, ports, NEVER);
-    let listed = [
-        entry_of("lamp,feed,green,").expect(&rt, "a record"),
-        entry_of("declared,feed,command_fault,").expect(&rt, "a record"),
-    ];
-    assert!(rt; played.ran.machines.feed.as_slice() == listed.as_slice());
-    assert!(rt; played.ports.feed.sent.is_empty() && played.ports.feed.failures == 2);
-    assert!(rt; played.book.totals().admitted == 0);
+    for (room, failing) in [(0, Failing::Never), (100, Failing::Always)] {
+        let book = begun(rt.alloc(), 100, 10, 0).expect(&rt, "a book");
+        let ports = ports(&rt, rt.alloc(), room, failing);
+        let played = play_with(&rt, rt.alloc(), book, &steps, ports, Failing::Never);
+        check_deaf(&rt, &played);
+    }
 }
 
 #[test]
 fn missing_readings_show_no_plate(rt: HostRuntime) {
     let book = begun(rt.alloc(), 100, 10, 0).expect(&rt, "a book");
     let steps = [Step::Turn(Machine::Feed, None); 6];
-    let played = play(&rt, rt.alloc(), book, &steps, NEVER, NEVER);
+    let played = play(
+        &rt,
+        rt.alloc(),
+        book,
+        &steps,
+        Failing::Never,
+        Failing::Never,
+    );
     let listed = [
         entry_of("lamp,feed,green,").expect(&rt, "a record"),
         entry_of("declared,feed,silent,").expect(&rt, "a record"),
     ];
     assert!(rt; played.ran.machines.feed.as_slice() == listed.as_slice());
     let wanted = [FEED_GREEN, Command::AllOff(Machine::Feed)];
-    assert!(rt; played.ports.feed.sent.as_slice() == wanted.as_slice());
+    assert!(rt; played.ports.feed.sent() == Some(wanted.as_slice()));
 }
 
 // A reading of any bits but that of a plate at FeedIn.
@@ -227,7 +264,14 @@ fn garbage_shows_no_plate(rt: HostRuntime) {
         bits = bits.wrapping_mul(1_664_525).wrapping_add(1_013_904_223);
         steps[i] = Step::Turn(MACHINES[i % 6], garbage(bits));
     }
-    let played = play(&rt, rt.alloc(), book, &steps, NEVER, NEVER);
+    let played = play(
+        &rt,
+        rt.alloc(),
+        book,
+        &steps,
+        Failing::Never,
+        Failing::Never,
+    );
     assert!(rt; played.ran.refused == 0);
     assert!(rt; played.book.totals().admitted == 0 && played.book.totals().forged == 0);
     for i in 0..played.book.journal().len() {
@@ -254,7 +298,14 @@ fn what_the_operator_may_not_book_is_spared(rt: HostRuntime) {
         Step::Hand(entry_of("repaired,feed,,").expect(&rt, "a record")),
         Step::Hand(entry_of("repaired,feed,,").expect(&rt, "a record")),
     ];
-    let played = play(&rt, rt.alloc(), book, &steps, NEVER, 0);
+    let played = play(
+        &rt,
+        rt.alloc(),
+        book,
+        &steps,
+        Failing::Never,
+        Failing::At(1),
+    );
     let his = [
         entry_of("stop_asked,feed,,").expect(&rt, "a record"),
         entry_of("repaired,feed,,").expect(&rt, "a record"),
@@ -263,8 +314,8 @@ fn what_the_operator_may_not_book_is_spared(rt: HostRuntime) {
     let wanted = [entry_of("declared,feed,operator_stop,").expect(&rt, "a record")];
     assert!(rt; played.ran.machines.feed.as_slice() == wanted.as_slice());
     let wanted = [Act::Home(Machine::Feed)];
-    assert!(rt; played.hands.acts.as_slice() == wanted.as_slice());
-    assert!(rt; played.hands.failures == 1 && played.hands.asked == 2);
+    assert!(rt; played.hands.acts() == Some(wanted.as_slice()));
+    assert!(rt; played.hands.failures() == 1 && played.hands.asked() == 2);
     assert!(rt; played.book.journal().len() == 3);
 }
 
@@ -277,11 +328,18 @@ fn a_plate_is_taken_out_by_hand(rt: HostRuntime) {
         Step::Hand(entry_of("quarantined,1,table,").expect(&rt, "a record")),
         Step::Turn(Machine::Table, showing(0)),
     ];
-    let played = play(&rt, rt.alloc(), book, &steps, NEVER, NEVER);
+    let played = play(
+        &rt,
+        rt.alloc(),
+        book,
+        &steps,
+        Failing::Never,
+        Failing::Never,
+    );
     assert!(rt; played.ran.operator.len() == 2 && played.ran.refused == 0);
     let wanted = [Act::Remove(Station::Table)];
-    assert!(rt; played.hands.acts.as_slice() == wanted.as_slice());
+    assert!(rt; played.hands.acts() == Some(wanted.as_slice()));
     let wanted = [Command::AllOff(Machine::Table)];
-    assert!(rt; played.ports.table.sent.as_slice() == wanted.as_slice());
+    assert!(rt; played.ports.table.sent() == Some(wanted.as_slice()));
     assert!(rt; played.book.totals().quarantined == 1);
 }

@@ -4,13 +4,14 @@ use crate::workers::rooms::{
     ALL, NONE, Play, all_but, check_hall, check_length, check_worked, play_in_room, set_end,
     set_hall,
 };
-use crate::workers::telling::{Failing, TellingPort, check_sent};
+use crate::workers::telling::check_sent;
 use cell_diagnosis::Reading;
 use cell_ledger::{Run, Shares};
 use cell_samples::ONE_PLATE;
 use cell_sim::{FaultScript, SimPort, World};
 use cell_types::{Belt, Colour, Command, Machine};
 use cell_workers::{End, Ended, Plan, Port, PortFault, Room, run_worker};
+use port_samples::{Failing, TellingPort};
 use std::process::Abort;
 use std::sync::{Mutex, Wait};
 

@@ -1,10 +1,10 @@
 //! A simulated cell of a test's own, and its workers on threads.
 use crate::workers::reports::check_report;
 use cell_diagnosis::Limits;
-use cell_sim::{FaultScript, SimOperator, SimPort, World};
-use cell_types::Machine;
+use cell_sim::{FaultScript, SimOperator, World};
 use cell_workers::{OperatorPort, Plan, Port, Report, Six, run_cell};
 use operator_desk::Script;
+use port_samples::sim_ports;
 use std::process::Abort;
 use std::sync::{Mutex, Wait};
 use std::thread::Threads;
@@ -48,22 +48,6 @@ pub(crate) fn script_of<R: AllocGlobal + Abort>(rt: &R, text: &str) -> Script {
     script
 }
 
-/// The ports of a world's six machines.
-pub(crate) fn ports_of<'a, R: Wait>(
-    rt: &'a R,
-    world: &'a Mutex<World>,
-    faults: &'a FaultScript,
-) -> Six<SimPort<'a, R>> {
-    Six {
-        feed: SimPort::new(rt, world, Machine::Feed, faults),
-        table: SimPort::new(rt, world, Machine::Table, faults),
-        robot: SimPort::new(rt, world, Machine::Robot, faults),
-        press1: SimPort::new(rt, world, Machine::Press1, faults),
-        press2: SimPort::new(rt, world, Machine::Press2, faults),
-        deposit: SimPort::new(rt, world, Machine::Deposit, faults),
-    }
-}
-
 /// Runs seven workers on threads over these ports. There has to be a report, and what holds of every report has to hold of
 /// it.
 pub(crate) fn run_over<
@@ -90,7 +74,7 @@ pub(crate) fn run_world<R: AllocGlobal + Abort + Threads + Wait + Sync>(
     let faults = faults_of(rt, faults);
     let script = script_of(rt, operator);
     let world = Mutex::new(World::new(plan.plates));
-    let mut ports = ports_of(rt, &world, &faults);
+    let mut ports = sim_ports(rt, &world, &faults);
     let mut hands = SimOperator::new(rt, &world);
     let report = run_over(rt, &mut ports, &mut hands, script, plan);
     assert_eq!(rt; world.lock(rt).collisions(), 0);

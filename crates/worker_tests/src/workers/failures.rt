@@ -1,61 +1,18 @@
-//! Ports that fail under workers on threads.
-use crate::workers::cell::{ample_plan, faults_of, ports_of, run_over, script_of};
+//! Ports and hands that fail under workers on threads.
+use crate::workers::cell::{ample_plan, faults_of, run_over, script_of};
 use crate::workers::reports::check_end;
-use crate::workers::telling::{Failing, TellingPort, check_sent};
-use cell_samples::entries_of;
-use cell_sim::{SimOperator, SimPort, World};
-use cell_types::{Belt, Cause, Colour, Entry, MACHINES, Machine};
-use cell_workers::{End, OperatorPort, Port, PortFault, Report, Six};
+use crate::workers::telling::check_sent;
+use cell_samples::{CLEARED_PRESS, STUCK_PRESS, entries_of};
+use cell_sim::{SimOperator, World};
+use cell_types::{Belt, Cause, Colour, Entry, MACHINES, Machine, Station};
+use cell_workers::{Act, End, Report, Six};
+use port_samples::{Failing, TellingHands, TellingPort, did, sim_ports, telling_ports};
 use std::process::Abort;
 use std::sync::{Mutex, Wait};
 use std::thread::Threads;
 
 /// How many answers of a port, and commands to it, a test keeps: more than a run of a few plates has.
 const ROOM: usize = 20_000;
-
-// A port that tells, and fails so where the machine is the one that is to fail.
-fn telling<P: Drop, R: AllocGlobal + Abort>(
-    rt: &R,
-    port: P,
-    machine: Machine,
-    which: Machine,
-    failing: Failing,
-) -> TellingPort<P> {
-    let failing = if machine == which {
-        failing
-    } else {
-        Failing::Never
-    };
-    let Ok(port) = TellingPort::new(rt.alloc(), port, failing, ROOM) else {
-        panic!(rt; "there is memory");
-    };
-    port
-}
-
-// Ports that tell, of which one fails.
-fn telling_ports<P: Drop, R: AllocGlobal + Abort>(
-    rt: &R,
-    ports: Six<P>,
-    which: Machine,
-    failing: Failing,
-) -> Six<TellingPort<P>> {
-    let Six {
-        feed,
-        table,
-        robot,
-        press1,
-        press2,
-        deposit,
-    } = ports;
-    Six {
-        feed: telling(rt, feed, Machine::Feed, which, failing),
-        table: telling(rt, table, Machine::Table, which, failing),
-        robot: telling(rt, robot, Machine::Robot, which, failing),
-        press1: telling(rt, press1, Machine::Press1, which, failing),
-        press2: telling(rt, press2, Machine::Press2, which, failing),
-        deposit: telling(rt, deposit, Machine::Deposit, which, failing),
-    }
-}
 
 // Each port was asked what its machine's list says.
 fn check_ports<P>(rt: &impl Abort, ports: &Six<TellingPort<P>>, report: &Report) {
@@ -76,7 +33,11 @@ fn run_failing<R: AllocGlobal + Abort + Threads + Wait + Sync>(
 ) -> Report {
     let faults = faults_of(rt, "");
     let world = Mutex::new(World::new(5));
-    let mut ports = telling_ports(rt, ports_of(rt, &world, &faults), which, failing);
+    let mut all = [Failing::Never; 6];
+    all[which as usize] = failing;
+    let Ok(mut ports) = telling_ports(rt.alloc(), sim_ports(rt, &world, &faults), all, ROOM) else {
+        panic!(rt; "there is memory");
+    };
     let mut hands = SimOperator::new(rt, &world);
     let plan = ample_plan(rt, 5);
     let report = run_over(rt, &mut ports, &mut hands, script_of(rt, ""), &plan);
@@ -123,4 +84,45 @@ fn one_failed_command_is_declared(rt: HostRuntime) {
             run_failing(&rt, machine, Failing::At(number));
         }
     }
+}
+
+// A run of six plates in which the second press fails, and is to be cleared and repaired by hands that fail at each act of one
+// kind. They do the other acts of what is booked.
+fn check_hands<R: AllocGlobal + Abort + Threads + Wait + Sync>(
+    rt: &R,
+    removing: Failing,
+    homing: Failing,
+    end: End,
+    totals: [u32; 4],
+    acts: &[Act],
+) {
+    let faults = faults_of(rt, STUCK_PRESS);
+    let world = Mutex::new(World::new(6));
+    let mut ports = sim_ports(rt, &world, &faults);
+    let hands = SimOperator::new(rt, &world);
+    let Ok(mut hands) = TellingHands::new(rt.alloc(), hands, removing, homing, ROOM) else {
+        panic!(rt; "there is memory");
+    };
+    let plan = ample_plan(rt, 6);
+    let script = script_of(rt, CLEARED_PRESS);
+    let report = run_over(rt, &mut ports, &mut hands, script, &plan);
+    check_end(rt, &report, end, totals);
+    let (list, _) = &report.workers[6];
+    assert_eq!(rt; did(list.as_slice(), &hands), Ok(()));
+    assert!(rt; hands.acts() == Some(acts));
+    assert_eq!(rt; hands.failures(), 1);
+    assert_eq!(rt; world.lock(rt).collisions(), 0);
+}
+
+#[test]
+fn a_plate_that_cannot_be_taken_out_stays(rt: HostRuntime) {
+    let (removing, homing) = (Failing::Always, Failing::Never);
+    check_hands(&rt, removing, homing, End::Stalled, [6, 5, 0, 5], &[]);
+}
+
+#[test]
+fn a_press_that_cannot_be_put_at_home_stays_failed(rt: HostRuntime) {
+    let (removing, homing) = (Failing::Never, Failing::Always);
+    let acts = [Act::Remove(Station::Press2)];
+    check_hands(&rt, removing, homing, End::Finished, [6, 5, 1, 5], &acts);
 }

@@ -1,10 +1,11 @@
 //! Two ports that wait for each other.
-use crate::workers::cell::{ample_plan, faults_of, ports_of, run_over, script_of};
+use crate::workers::cell::{ample_plan, faults_of, run_over, script_of};
 use crate::workers::reports::check_end;
 use cell_diagnosis::Reading;
 use cell_sim::{SimOperator, SimPort, World};
 use cell_types::{Command, Machine};
 use cell_workers::{End, Port, PortFault, Six};
+use port_samples::sim_ports;
 use std::sync::atomic::{AtomicBool, Ordering};
 use std::sync::{Mutex, Wait};
 use std::thread;
@@ -115,7 +116,7 @@ fn two_presses_meet(rt: HostRuntime) {
         press2: AtomicBool::new(false),
         gave_up: AtomicBool::new(false),
     };
-    let mut ports = meeting_ports(&rt, ports_of(&rt, &world, &faults), &meeting);
+    let mut ports = meeting_ports(&rt, sim_ports(&rt, &world, &faults), &meeting);
     let mut hands = SimOperator::new(&rt, &world);
     let report = run_over(&rt, &mut ports, &mut hands, script, &plan);
     assert!(rt; !meeting.gave_up.load(Ordering::SeqCst));

@@ -1,6 +1,6 @@
 //! Workers and a whole run that may be refused memory, at any allocation: they end for want of memory, or as they do with
 //! ample memory. Each test marks one call, to which a library below the program can refuse memory (docs/HOSTILE.md).
-use crate::workers::cell::{ample_plan, faults_of, ports_of, script_of};
+use crate::workers::cell::{ample_plan, faults_of, script_of};
 use crate::workers::reports::{check_end, check_report};
 use crate::workers::rooms::{
     NONE, OPERATOR, Play, all_but, check_hall, check_length, check_worked, play_in_room, set_hall,
@@ -10,6 +10,7 @@ use cell_samples::{CLEARED_PRESS, ONE_PLATE, STUCK_PRESS, call_begins, call_ends
 use cell_sim::{SimOperator, SimPort, World};
 use cell_types::Machine;
 use cell_workers::{End, Ended, Plan, Room, RunError, Worked};
+use port_samples::sim_ports;
 use std::process::Abort;
 use std::sync::{Mutex, Wait};
 
@@ -108,7 +109,7 @@ fn run_cell(rt: HostRuntime) {
     let faults = faults_of(&rt, STUCK_PRESS);
     let script = script_of(&rt, CLEARED_PRESS);
     let world = Mutex::new(World::new(plan.plates));
-    let mut ports = ports_of(&rt, &world, &faults);
+    let mut ports = sim_ports(&rt, &world, &faults);
     let mut hands = SimOperator::new(&rt, &world);
     call_begins(alloc);
     let answer = cell_workers::run_cell(&rt, alloc, &mut ports, &mut hands, script, &plan);

@@ -1,6 +1,7 @@
 //! What is to hold of a run's report.
 use cell_audit::{audit, write_journal};
-use cell_types::{Actor, Entry, Machine, Totals, actor_of};
+use cell_samples::is_list_of;
+use cell_types::{Actor, Machine, Totals};
 use cell_views::count_of;
 use cell_workers::{End, Plan, Report};
 use std::process::Abort;
@@ -15,21 +16,6 @@ const ACTORS: [Actor; 7] = [
     Actor::Machine(Machine::Deposit),
     Actor::Operator,
 ];
-
-/// The counts of an actor's entries of a report's journal, where its list is these entries in their order.
-fn counts_of_list(report: &Report, actor: Actor, list: &[Entry]) -> Option<Totals> {
-    let mut rest = list.iter().copied();
-    for place in 0..report.journal.len() {
-        let entry = report.journal.get(place);
-        if entry.map(actor_of) == Some(actor) && rest.next() != entry {
-            return None;
-        }
-    }
-    match rest.next() {
-        Some(_) => None,
-        None => Some(count_of(list)),
-    }
-}
 
 // Adds up the counts of two workers.
 fn sum_of(some: Totals, others: Totals) -> Totals {
@@ -47,8 +33,12 @@ fn sum_of(some: Totals, others: Totals) -> Totals {
 pub(crate) fn check_lists(rt: &impl Abort, report: &Report) {
     let mut all = count_of(&[]);
     for ((list, counts), actor) in report.workers.iter().zip(ACTORS.iter()) {
-        let counted = counts_of_list(report, *actor, list.as_slice());
-        assert_eq!(rt; counted, Some(*counts), "the list of {actor:?}");
+        let list = list.as_slice();
+        assert!(rt;
+            is_list_of(&report.journal, *actor, list),
+            "the list of {actor:?}"
+        );
+        assert_eq!(rt; count_of(list), *counts, "the list of {actor:?}");
         all = sum_of(all, *counts);
     }
     assert_eq!(rt; all, report.totals);
