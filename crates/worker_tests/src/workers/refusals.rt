@@ -32,7 +32,8 @@ fn check_refused<R: Run, W: Abort + Wait>(
         check_worked(rt, worked, Ended::Told, records);
         check_hall(rt, room, Some(End::Stalled), [true; 7], all_but(place));
     }
-    check_length(rt, room, length as u32);
+    let booked = u32::try_from(length).expect(rt, "few entries");
+    check_length(rt, room, booked);
 }
 
 struct Feeds;
