@@ -13,8 +13,9 @@ use cell_workers::{End, Ended, Plan, Room, RunError, Worked};
 use std::process::Abort;
 use std::sync::{Mutex, Wait};
 
-// A worker alone that isn't lost, as the others are, ends for want of memory after some of these entries, or as told after
-// all of them. The book has the entries of its list, and its shares count them.
+// A worker alone that isn't lost, as the others are, ends for want of memory after some or all of these entries (its list
+// needs room for one more at each turn), or as told after all of them. The book has the entries of its list, and its shares
+// count them.
 fn check_refused<R: Run, W: Abort + Wait>(
     rt: &W,
     room: &Room<R>,
@@ -25,7 +26,6 @@ fn check_refused<R: Run, W: Abort + Wait>(
     let length = worked.entries.len();
     assert!(rt; length <= records.len());
     if worked.ended == Ended::Memory {
-        assert!(rt; length < records.len());
         check_worked(rt, worked, Ended::Memory, &records[..length]);
         assert_eq!(rt; room.hall.lock(rt).end, Some(End::Memory));
     } else {
