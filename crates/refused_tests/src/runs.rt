@@ -12,25 +12,21 @@ use std::thread::Threads;
 const ROOM: usize = 100_000;
 
 // The texts of a run: its settings, its faults and the operator's script.
-type Texts = [&'static [u8]; 3];
+type Texts = [&'static str; 3];
 
 // In rounds the only plate is cleared from the feed belt, which is repaired. This takes few rounds, each of which takes
 // memory for its lists.
 const SHORT: Texts = [
-    b"plates = 1",
-    b"\"press_two\",1,no_motion,\n",
-    b"admitted,1,stop,feed\nfailed,feed,clear,feed_in\n\"failed\",feed,repair,feed\n",
+    "plates = 1",
+    "\"press_two\",1,no_motion,\n",
+    "admitted,1,stop,feed\nfailed,feed,clear,feed_in\n\"failed\",feed,repair,feed\n",
 ];
 
 // On threads one of six plates stays in the second press, and is cleared.
-const LONG: Texts = [
-    b"plates = 6",
-    STUCK_PRESS.as_bytes(),
-    CLEARED_PRESS.as_bytes(),
-];
+const LONG: Texts = ["plates = 6", STUCK_PRESS, CLEARED_PRESS];
 
 // One plate is carried through the cell.
-const PLAIN: Texts = [b"plates = 1", b"", b""];
+const PLAIN: Texts = ["plates = 1", "", ""];
 
 // What a run writes, and its status. Where the run is marked, memory may be refused to it.
 fn run<R: AllocGlobal + Abort + Threads + Wait + Sync>(
@@ -48,9 +44,9 @@ fn run<R: AllocGlobal + Abort + Threads + Wait + Sync>(
     }
     let answer = cell_runs::run_texts(
         rt,
-        settings,
-        faults,
-        operator,
+        settings.as_bytes(),
+        faults.as_bytes(),
+        operator.as_bytes(),
         threads,
         journal,
         &mut written,

@@ -14,8 +14,9 @@ use port_samples::sim_ports;
 use std::process::Abort;
 use std::sync::{Mutex, Wait};
 
-// A worker alone that isn't lost, as the others are, ends for want of memory after some of these entries, or as told after
-// all of them. The book has the entries of its list, and its shares count them.
+// A worker alone that isn't lost, as the others are, ends for want of memory after some or all of these entries (its list
+// needs room for one more at each turn), or as told after all of them. The book has the entries of its list, and its shares
+// count them.
 fn check_refused<R: Run, W: Abort + Wait>(
     rt: &W,
     room: &Room<R>,
@@ -26,14 +27,14 @@ fn check_refused<R: Run, W: Abort + Wait>(
     let length = worked.entries.len();
     assert!(rt; length <= records.len());
     if worked.ended == Ended::Memory {
-        assert!(rt; length < records.len());
         check_worked(rt, worked, Ended::Memory, &records[..length]);
         assert_eq!(rt; room.hall.lock(rt).end, Some(End::Memory));
     } else {
         check_worked(rt, worked, Ended::Told, records);
         check_hall(rt, room, Some(End::Stalled), [true; 7], all_but(place));
     }
-    check_length(rt, room, length as u32);
+    let booked = u32::try_from(length).expect(rt, "few entries");
+    check_length(rt, room, booked);
 }
 
 struct Feeds;
