@@ -1,7 +1,7 @@
 //! Worked examples: one plate carried whole through the cell, and what is answered on the way.
 mod order_of_refusals;
 
-use cell_samples::{ONE_PLATE, begun, book_all, entry_of};
+use cell_samples::{ONE_PLATE, Told, begun, book_all, entry_of};
 use cell_types::{Axis, Belt, Entry, Machine, Place, PlateId, Pose, Station, Zone};
 use plate_book::{Book, OpenError, Records, Refusal};
 use std::alloc::Global;
@@ -25,7 +25,16 @@ fn begun_with(rt: &impl Abort, alloc: Global, count: usize, records: &[&str]) ->
     book
 }
 
-// What a book with the first entries of the journal, and these besides, answers to a last one.
+// All that a book tells.
+fn told_by(rt: &impl Abort, alloc: Global, book: &Book) -> Told {
+    let Ok(told) = Told::of(alloc, book) else {
+        panic!(rt; "there is memory");
+    };
+    told
+}
+
+// What a book with the first entries of the journal, and these besides, answers to a last one. A refusal leaves the book as it
+// was, and an entry that is booked changes it.
 fn answer(
     rt: &impl Abort,
     alloc: Global,
@@ -34,12 +43,12 @@ fn answer(
     last: &str,
 ) -> Result<(), Refusal> {
     let mut book = begun_with(rt, alloc, count, records);
-    let before = book.journal().len();
+    let before = told_by(rt, alloc, &book);
     let allowed = book.allows(entry_of(last).expect(rt, last));
     let applied = book.apply(entry_of(last).expect(rt, last));
     assert!(rt; allowed == applied, "{last}");
-    let added = book.journal().len() != before;
-    assert!(rt; added == applied.is_ok(), "{last}");
+    let is_same = told_by(rt, alloc, &book).is_same(&before);
+    assert!(rt; is_same == applied.is_err(), "{last}");
     applied
 }
 

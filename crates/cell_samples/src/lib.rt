@@ -1,5 +1,6 @@
-//! Samples for the test crates: the journal of one plate, entries and books by their records, scripts, readers
-//! and writers that fail, and marks around a call. No test stands here, and no crate but the test crates uses it.
+//! Samples for the test crates: the journal of one plate, entries and books by their records, scripts, readers and writers
+//! that fail, are slow or are interrupted, all that a book tells, and marks around a call. No test stands here, and no
+//! crate but the test crates uses it.
 #![tactic(auto)]
 
 mod books;
@@ -8,6 +9,7 @@ mod marks;
 mod records;
 mod scripts;
 mod streams;
+mod told;
 
 pub use books::{begun, book_all};
 pub use journals::{entries_of, is_list_of};
@@ -15,3 +17,4 @@ pub use marks::{call_begins, call_ends};
 pub use records::{ONE_PLATE, entry_of, one_plate_text, plate};
 pub use scripts::{CLEARED_PRESS, STUCK_PRESS};
 pub use streams::{FailingReader, FailingWriter, Interrupted, Pieces, Unwilling};
+pub use told::Told;

@@ -1,7 +1,7 @@
 //! What settings say, and what is printed for them.
 use cell_diagnosis::Limits;
 use cell_lines::WriteFault;
-use cell_samples::Full;
+use cell_samples::{FailingWriter, Unwilling};
 use cell_settings::{KeyPath, SettingsError, check_lines, read_settings};
 use std::alloc::Global;
 use std::test::Fail;
@@ -191,10 +191,14 @@ fn says_what_is_wrong(rt: HostRuntime) -> Result<(), Fail> {
 
 #[test]
 fn tells_that_the_writer_failed(rt: HostRuntime) {
+    let text = b"plates = 5".as_slice();
     for left in 0..12usize {
-        let answer = check_lines(rt.alloc(), b"plates = 5", &mut Full::new(rt.alloc(), left));
+        let mut writer = FailingWriter::new(Vec::new(rt.alloc()), left);
+        let answer = check_lines(rt.alloc(), text, &mut writer);
         assert_eq!(rt; answer, Err(WriteFault), "after {left} bytes");
     }
-    let answer = check_lines(rt.alloc(), b"plates = 5", &mut Full::new(rt.alloc(), 12));
-    assert_eq!(rt; answer, Ok(0));
+    let mut writer = FailingWriter::new(Vec::new(rt.alloc()), 12);
+    assert_eq!(rt; check_lines(rt.alloc(), text, &mut writer), Ok(0));
+    let answer = check_lines(rt.alloc(), text, &mut Unwilling);
+    assert_eq!(rt; answer, Err(WriteFault), "nothing was taken");
 }

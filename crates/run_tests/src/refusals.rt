@@ -2,7 +2,7 @@
 use crate::rounds::told;
 use cell_lines::WriteFault;
 use cell_runs::run_texts;
-use cell_samples::Full;
+use cell_samples::{FailingWriter, Unwilling};
 use std::process::Abort;
 use std::sync::Wait;
 use std::test::Fail;
@@ -69,14 +69,18 @@ fn tells_scripts_that_are_too_long(rt: HostRuntime) -> Result<(), Fail> {
 fn a_failed_write_is_told(rt: HostRuntime) {
     let lines = b"finished\nadmitted 1\nforged 1\nquarantined 0\ndelivered 1\n".len();
     for left in 0..lines + 1 {
-        let mut writer = Full::new(rt.alloc(), left);
+        let mut writer = FailingWriter::new(Vec::new(rt.alloc()), left);
         let answer = run_texts(&rt, GOOD, b"", b"", false, false, &mut writer);
         let wanted = if left < lines { Err(WriteFault) } else { Ok(0) };
         assert_eq!(rt; answer, wanted, "after {left} bytes");
     }
     for left in 0..40usize {
-        let mut writer = Full::new(rt.alloc(), left);
+        let mut writer = FailingWriter::new(Vec::new(rt.alloc()), left);
         let answer = run_texts(&rt, GOOD, b"", b"", false, true, &mut writer);
         assert_eq!(rt; answer, Err(WriteFault), "after {left} bytes");
+    }
+    for journal in [false, true] {
+        let answer = run_texts(&rt, GOOD, b"", b"", false, journal, &mut Unwilling);
+        assert_eq!(rt; answer, Err(WriteFault), "nothing was taken");
     }
 }

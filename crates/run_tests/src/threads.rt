@@ -1,11 +1,10 @@
 //! Runs on threads by their texts: what is written, and the status.
 use cell_lines::{WriteFault, audit_lines};
 use cell_runs::run_texts;
-use cell_samples::{CLEARED_PRESS, STUCK_PRESS};
-use std::io;
-use std::io::Write;
+use cell_samples::{CLEARED_PRESS, FailingWriter, STUCK_PRESS, Unwilling};
 use std::process::Abort;
 use std::sync::Wait;
+use std::test::Fail;
 use std::thread::Threads;
 
 // What is written of a run on threads, or its journal, has this status; and that is what is written.
@@ -71,11 +70,42 @@ fn writes_how_a_run_ends(rt: HostRuntime) {
     check_run(&rt, one_turn, 1, "turn limit\n", nothing);
 }
 
+// How many lines a text has.
+fn count_lines(text: &[u8]) -> usize {
+    text.iter().filter(|byte| **byte == b'\n').count()
+}
+
+// A run whose journal takes so many entries, which five plates fill. Its journal, after the line of its profile, has at most
+// six entries more, and audits as legal.
+fn check_full<R: AllocGlobal + Abort + Threads + Wait + Sync>(
+    rt: &R,
+    limit: usize,
+) -> Result<(), Fail> {
+    let settings = format!(in rt.alloc(); "plates = 5\njournal_limit = {limit}\n")?;
+    let texts = [settings.as_str(), "", ""];
+    let written = written_of(rt, texts, false, 1);
+    assert!(rt;
+        written.as_slice().starts_with(b"full\nadmitted "),
+        "with {limit}"
+    );
+    let journal = written_of(rt, texts, true, 1);
+    let entries = count_lines(journal.as_slice()).saturating_sub(1);
+    assert!(rt;
+        limit <= entries && entries <= limit.saturating_add(6),
+        "with {limit}"
+    );
+    let mut audited = Vec::new(rt.alloc());
+    let answer = audit_lines(rt.alloc(), journal.as_slice(), &mut audited);
+    assert_eq!(rt; answer, Ok(0), "with {limit}");
+    Ok(())
+}
+
 #[test]
-fn writes_that_the_journal_was_full(rt: HostRuntime) {
-    let texts = ["plates = 5\njournal_limit = 10", "", ""];
-    let written = written_of(&rt, texts, false, 1);
-    assert!(rt; written.as_slice().starts_with(b"full\nadmitted "));
+fn writes_that_the_journal_was_full(rt: HostRuntime) -> Result<(), Fail> {
+    for limit in 1..101usize {
+        check_full(&rt, limit)?;
+    }
+    Ok(())
 }
 
 #[test]
@@ -91,24 +121,13 @@ fn refuses_texts_before_a_thread_is_started(rt: HostRuntime) {
     assert_eq!(rt; written.as_slice(), b"operator unreadable 1\n".as_slice());
 }
 
-// A writer that takes nothing.
-#[derive(Drop)]
-struct Closed;
-
-impl Write for Closed {
-    fn write(&mut self, _buf: &[u8]) -> io::Result<usize> {
-        Err(io::Error::from(io::ErrorKind::StorageFull))
-    }
-
-    fn flush(&mut self) -> io::Result<()> {
-        Ok(())
-    }
-}
-
 #[test]
 fn a_failed_write_is_told(rt: HostRuntime) {
     for journal in [false, true] {
-        let answer = run_texts(&rt, b"plates = 1", b"", b"", true, journal, &mut Closed);
+        let mut writer = FailingWriter::new(Vec::new(rt.alloc()), 0);
+        let answer = run_texts(&rt, b"plates = 1", b"", b"", true, journal, &mut writer);
         assert_eq!(rt; answer, Err(WriteFault));
+        let answer = run_texts(&rt, b"plates = 1", b"", b"", true, journal, &mut Unwilling);
+        assert_eq!(rt; answer, Err(WriteFault), "nothing was taken");
     }
 }

@@ -1,7 +1,9 @@
 //! The audit of texts, whole, cut and from readers that fail, and the writing of journals.
 use cell_audit::{AuditError, WriteError, audit, write_journal};
 use cell_journal::Journal;
-use cell_samples::{Bytewise, Full, begun, one_plate_text};
+use cell_samples::{
+    FailingReader, FailingWriter, Interrupted, Pieces, Unwilling, begun, one_plate_text,
+};
 use cell_types::{Axis, Belt, Machine, Station, Totals};
 use plate_book::Refusal;
 use std::alloc::{AllocError, Global};
@@ -62,6 +64,28 @@ fn joined(alloc: Global, first: &[u8], second: &[u8]) -> Result<Vec<u8>, AllocEr
     Ok(text)
 }
 
+// A text is judged so, at once and byte by byte, and where each read is interrupted once before.
+fn is_judged(
+    rt: &impl Abort,
+    alloc: Global,
+    text: &[u8],
+    wanted: Result<Totals, AuditError>,
+) -> Result<(), Fail> {
+    let shown = String::from_utf8_lossy(alloc, text)?;
+    assert_eq!(rt; audit(alloc, text), wanted, "{shown}");
+    let bytewise = Pieces::new(text, 1);
+    assert_eq!(rt; audit(alloc, bytewise), wanted, "{shown}, byte by byte");
+    let interrupted = Interrupted::new(text);
+    assert_eq!(rt; audit(alloc, interrupted), wanted, "{shown}, interrupted");
+    let both = Interrupted::new(Pieces::new(text, 1));
+    assert_eq!(rt;
+        audit(alloc, both),
+        wanted,
+        "{shown}, byte by byte and interrupted"
+    );
+    Ok(())
+}
+
 // Each of these texts is judged so.
 fn all_are_judged(
     rt: &impl Abort,
@@ -69,8 +93,7 @@ fn all_are_judged(
     cases: &[(&[u8], Result<Totals, AuditError>)],
 ) -> Result<(), Fail> {
     for (text, wanted) in cases {
-        let shown = String::from_utf8_lossy(alloc, text)?;
-        assert_eq!(rt; audit(alloc, *text), *wanted, "{shown}");
+        is_judged(rt, alloc, text, *wanted)?;
     }
     Ok(())
 }
@@ -134,17 +157,10 @@ fn judges_texts(rt: HostRuntime) -> Result<(), Fail> {
 fn judges_a_plate_that_is_carried_through_the_cell(rt: HostRuntime) -> Result<(), Fail> {
     let alloc = rt.alloc();
     let carried = one_plate_text(alloc)?;
-    assert_eq!(rt; audit(alloc, carried.as_slice()), totals(62, 1, 1, 0, 1));
-    let slow = Bytewise {
-        text: carried.as_slice(),
-        at: 0,
-        fails_at: usize::MAX,
-    };
-    assert_eq!(rt; audit(alloc, slow), totals(62, 1, 1, 0, 1));
     let more = joined(alloc, carried.as_slice(), b"delivered,1,,\n")?;
     let refused = Err(AuditError::Refused(63, Refusal::LampRed(Belt::Deposit)));
-    assert_eq!(rt; audit(alloc, more.as_slice()), refused);
-    Ok(())
+    is_judged(&rt, alloc, carried.as_slice(), totals(62, 1, 1, 0, 1))?;
+    is_judged(&rt, alloc, more.as_slice(), refused)
 }
 
 #[test]
@@ -168,19 +184,15 @@ fn takes_a_million_entries_and_the_faults_of_a_full_journal(rt: HostRuntime) {
 
 #[test]
 fn tells_that_the_reader_failed_after_any_number_of_bytes(rt: HostRuntime) -> Result<(), Fail> {
-    let carried = one_plate_text(rt.alloc())?;
+    let alloc = rt.alloc();
+    let carried = one_plate_text(alloc)?;
     let text = carried.as_slice();
-    for fails_at in 0..text.len() + 1 {
-        let reader = Bytewise {
-            text,
-            at: 0,
-            fails_at,
-        };
-        assert_eq!(rt;
-            audit(rt.alloc(), reader),
-            Err(AuditError::ReadFault),
-            "after {fails_at} bytes"
-        );
+    for left in 0..text.len() + 1 {
+        let wanted = Err(AuditError::ReadFault);
+        let reader = FailingReader::new(text, left);
+        assert_eq!(rt; audit(alloc, reader), wanted, "after {left} bytes");
+        let slow = FailingReader::new(Interrupted::new(Pieces::new(text, 1)), left);
+        assert_eq!(rt; audit(alloc, slow), wanted, "after {left} bytes one by one");
     }
     Ok(())
 }
@@ -284,20 +296,42 @@ fn tells_that_the_writer_failed_after_any_number_of_bytes(rt: HostRuntime) -> Re
     let whole = one_plate_text(alloc)?;
     let text = whole.as_slice();
     for left in 0..text.len() {
-        let mut full = Full {
-            left,
-            written: Vec::new(alloc),
-        };
-        let answer = write_journal(alloc, book.journal(), &mut full);
+        let mut writer = FailingWriter::new(Vec::new(alloc), left);
+        let answer = write_journal(alloc, book.journal(), &mut writer);
         assert_eq!(rt; answer, Err(WriteError::WriteFault), "after {left} bytes");
         let (written, _) = text.split_at(left);
-        assert_eq!(rt; full.written.as_slice(), written, "after {left} bytes");
+        assert_eq!(rt; writer.inner().as_slice(), written, "after {left} bytes");
     }
-    let mut full = Full {
-        left: text.len(),
-        written: Vec::new(alloc),
-    };
-    assert_eq!(rt; write_journal(alloc, book.journal(), &mut full), Ok(()));
-    assert_eq!(rt; full.written.as_slice(), text);
+    let mut writer = FailingWriter::new(Vec::new(alloc), text.len());
+    assert_eq!(rt; write_journal(alloc, book.journal(), &mut writer), Ok(()));
+    assert_eq!(rt; writer.inner().as_slice(), text);
     Ok(())
+}
+
+#[test]
+fn writes_to_slow_and_interrupted_writers(rt: HostRuntime) -> Result<(), Fail> {
+    let alloc = rt.alloc();
+    let book = begun(alloc, 100, 10, 62).expect(&rt, "a book");
+    let whole = one_plate_text(alloc)?;
+    let text = whole.as_slice();
+    let mut bytewise = Pieces::new(Vec::new(alloc), 1);
+    assert_eq!(rt; write_journal(alloc, book.journal(), &mut bytewise), Ok(()));
+    assert_eq!(rt; bytewise.inner().as_slice(), text);
+    let mut interrupted = Interrupted::new(Vec::new(alloc));
+    assert_eq!(rt;
+        write_journal(alloc, book.journal(), &mut interrupted),
+        Ok(())
+    );
+    assert_eq!(rt; interrupted.inner().as_slice(), text);
+    let mut both = Interrupted::new(Pieces::new(Vec::new(alloc), 1));
+    assert_eq!(rt; write_journal(alloc, book.journal(), &mut both), Ok(()));
+    assert_eq!(rt; both.inner().inner().as_slice(), text);
+    Ok(())
+}
+
+#[test]
+fn tells_that_a_writer_took_nothing(rt: HostRuntime) {
+    let book = begun(rt.alloc(), 100, 10, 62).expect(&rt, "a book");
+    let answer = write_journal(rt.alloc(), book.journal(), &mut Unwilling);
+    assert_eq!(rt; answer, Err(WriteError::WriteFault));
 }

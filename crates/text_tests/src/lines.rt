@@ -1,6 +1,6 @@
 //! What is printed for an audit of texts, and what readers and writers that fail leave of it.
 use cell_lines::{WriteFault, audit_lines};
-use cell_samples::{Bytewise, Full, one_plate_text};
+use cell_samples::{FailingReader, FailingWriter, Interrupted, Pieces, Unwilling, one_plate_text};
 use std::alloc::{AllocError, Global};
 use std::test::Fail;
 
@@ -171,19 +171,44 @@ fn prints_what_an_audit_finds_in_texts_of_other_makers(rt: HostRuntime) -> Resul
 }
 
 #[test]
+fn prints_the_same_for_slow_and_interrupted_readers_and_writers(
+    rt: HostRuntime,
+) -> Result<(), Fail> {
+    let alloc = rt.alloc();
+    let refused = journal(alloc, b"lamp,feed,green,\nadmitted,2,,\n")?;
+    let cut = journal(alloc, b"lamp,fe")?;
+    let carried = one_plate_text(alloc)?;
+    for (text, status, wanted) in [
+        (
+            carried.as_slice(),
+            0,
+            b"legal 62\nadmitted 1\nforged 1\nquarantined 0\ndelivered 1\n".as_slice(),
+        ),
+        (refused.as_slice(), 1, b"refused 2 WrongPlate\n"),
+        (cut.as_slice(), 1, b"unreadable 1\n"),
+    ] {
+        let mut writer = Pieces::new(Vec::new(alloc), 1);
+        let answer = audit_lines(alloc, Pieces::new(text, 1), &mut writer);
+        assert_eq!(rt; answer, Ok(status));
+        assert_eq!(rt; writer.inner().as_slice(), wanted);
+        let mut writer = Interrupted::new(Pieces::new(Vec::new(alloc), 1));
+        let answer = audit_lines(alloc, Interrupted::new(text), &mut writer);
+        assert_eq!(rt; answer, Ok(status));
+        assert_eq!(rt; writer.inner().inner().as_slice(), wanted);
+    }
+    Ok(())
+}
+
+#[test]
 fn prints_nothing_where_the_reader_fails(rt: HostRuntime) -> Result<(), Fail> {
     let alloc = rt.alloc();
     let carried = one_plate_text(alloc)?;
-    for fails_at in 0..carried.len() + 1 {
-        let reader = Bytewise {
-            text: carried.as_slice(),
-            at: 0,
-            fails_at,
-        };
+    for left in 0..carried.len() + 1 {
+        let reader = FailingReader::new(Pieces::new(carried.as_slice(), 1), left);
         let mut written = Vec::new(alloc);
         let answer = audit_lines(alloc, reader, &mut written);
-        assert_eq!(rt; answer, Ok(3), "after {fails_at} bytes");
-        assert!(rt; written.is_empty(), "after {fails_at} bytes");
+        assert_eq!(rt; answer, Ok(3), "after {left} bytes");
+        assert!(rt; written.is_empty(), "after {left} bytes");
     }
     Ok(())
 }
@@ -192,9 +217,12 @@ fn prints_nothing_where_the_reader_fails(rt: HostRuntime) -> Result<(), Fail> {
 fn tells_that_the_writer_failed(rt: HostRuntime) {
     let text = b"profile,1,,\n".as_slice();
     for left in 0..54usize {
-        let answer = audit_lines(rt.alloc(), text, &mut Full::new(rt.alloc(), left));
+        let mut writer = FailingWriter::new(Vec::new(rt.alloc()), left);
+        let answer = audit_lines(rt.alloc(), text, &mut writer);
         assert_eq!(rt; answer, Err(WriteFault), "after {left} bytes");
     }
-    let answer = audit_lines(rt.alloc(), text, &mut Full::new(rt.alloc(), 54));
-    assert_eq!(rt; answer, Ok(0));
+    let mut writer = FailingWriter::new(Vec::new(rt.alloc()), 54);
+    assert_eq!(rt; audit_lines(rt.alloc(), text, &mut writer), Ok(0));
+    let answer = audit_lines(rt.alloc(), text, &mut Unwilling);
+    assert_eq!(rt; answer, Err(WriteFault), "nothing was taken");
 }

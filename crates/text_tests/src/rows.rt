@@ -1,62 +1,15 @@
 //! The records of texts, read at once and byte by byte, and readers that fail.
 use cell_rows::{Four, RowError, RowReader};
+use cell_samples::{FailingReader, Interrupted, Pieces};
 use std::alloc::Global;
-use std::io;
 use std::io::Read;
 use std::test::Fail;
 
-// A reader that hands out one byte at a time, is interrupted once, and fails after a number of bytes.
-#[derive(Drop)]
-struct Slow {
-    text: &'static [u8],
-    at: usize,
-    fails_at: usize,
-    interrupted: bool,
-}
+// A reader of a text that hands out one byte at a time, is interrupted before each, and fails after a number of bytes.
+type Slow = FailingReader<Interrupted<Pieces<&'static [u8]>>>;
 
-impl Slow {
-    fn new(text: &'static [u8], fails_at: usize) -> Slow {
-        Slow {
-            text,
-            at: 0,
-            fails_at,
-            interrupted: false,
-        }
-    }
-}
-
-impl Read for Slow {
-    fn read(&mut self, buf: &mut [u8]) -> io::Result<usize> {
-        if !self.interrupted {
-            self.interrupted = true;
-            return Err(io::Error::from(io::ErrorKind::Interrupted));
-        }
-        if self.at >= self.fails_at {
-            return Err(io::Error::from(io::ErrorKind::Other));
-        }
-        match (self.text.get(self.at), buf.first_mut()) {
-            (Some(byte), Some(cell)) => {
-                *cell = *byte;
-                self.at = self.at.saturating_add(1);
-                Ok(1)
-            }
-            _ => Ok(0),
-        }
-    }
-}
-
-// A reader that hands out so many bytes at a time at most.
-#[derive(Drop)]
-struct Pieces<'a> {
-    text: &'a [u8],
-    size: usize,
-}
-
-impl Read for Pieces<'_> {
-    fn read(&mut self, buf: &mut [u8]) -> io::Result<usize> {
-        let end = buf.len().min(self.size);
-        self.text.read(&mut buf[..end])
-    }
+fn slow(text: &'static [u8], fails_at: usize) -> Slow {
+    FailingReader::new(Interrupted::new(Pieces::new(text, 1)), fails_at)
 }
 
 // Writes each field of a record with a bar after it, or a question mark where there aren't four.
@@ -155,7 +108,7 @@ fn reads_records(rt: HostRuntime) -> Result<(), Fail> {
     ] {
         let at_once = listed(alloc, text)?;
         assert_eq!(rt; at_once.as_slice(), wanted, "{name}");
-        let bytewise = listed(alloc, Slow::new(text, usize::MAX))?;
+        let bytewise = listed(alloc, slow(text, usize::MAX))?;
         assert_eq!(rt; bytewise.as_slice(), wanted, "{name}, byte by byte");
     }
     Ok(())
@@ -236,7 +189,7 @@ fn tells_that_the_reader_failed(rt: HostRuntime) -> Result<(), Fail> {
         (15, b"a|b|c|d|;fault"),
         (16, b"a|b|c|d|;e|f|g|h|;fault"),
     ] {
-        let list = listed(rt.alloc(), Slow::new(text, fails_at))?;
+        let list = listed(rt.alloc(), slow(text, fails_at))?;
         assert_eq!(rt; list.as_slice(), wanted, "after {fails_at} bytes");
     }
     Ok(())
@@ -282,10 +235,7 @@ fn count_rows<R: Read + Drop>(alloc: Global, reader: R) -> Result<(u32, u32), Fa
 fn pieces_of_any_size_give_the_same_records(rt: HostRuntime) -> Result<(), Fail> {
     let text = long_text(rt.alloc())?;
     for size in [1, 2, 17, 18, 1000, 16_383, 16_384, 16_385, 100_000].as_slice() {
-        let pieces = Pieces {
-            text: text.as_slice(),
-            size: *size,
-        };
+        let pieces = Pieces::new(text.as_slice(), *size);
         let counts = count_rows(rt.alloc(), pieces)?;
         assert_eq!(rt; counts, (3000, 2998), "{size} bytes at a time");
     }

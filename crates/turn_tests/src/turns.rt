@@ -7,7 +7,7 @@ mod schedules;
 
 use cell_diagnosis::{Limits, Reading};
 use cell_ledger::{Blanks, Kept, Run, Shares};
-use cell_samples::{begun, book_all};
+use cell_samples::{Told, begun, book_all};
 use cell_turns::{Plan, TurnError, Watch, turn};
 use cell_types::{Belt, Colour, Command, Entry, Machine, read_fields};
 use plate_book::{Book, Refusal};
@@ -40,8 +40,17 @@ pub(crate) fn showing(presence: u8) -> Option<Reading> {
     })
 }
 
+// All that a book tells.
+pub(crate) fn told_by(rt: &impl Abort, alloc: Global, book: &Book) -> Told {
+    let Ok(told) = Told::of(alloc, book) else {
+        panic!(rt; "there is memory");
+    };
+    told
+}
+
 // The length of the journal after turns of one machine at these readings, each of which answers what is wanted. Before turn
-// number `fault` (counted from 0) the port's failure is told.
+// number `fault` (counted from 0) the port's failure is told. A turn that is refused leaves the book, the shares, the watch and
+// the list as they were.
 fn take_turns<R: Run>(
     rt: &impl Abort,
     alloc: Global,
@@ -65,6 +74,8 @@ fn take_turns<R: Run>(
         if i == fault {
             watch.command_failed();
         }
+        let told = told_by(rt, alloc, kept.book());
+        let (was, listed) = (watch, entries.len());
         let answer = turn(
             machine,
             &mut kept,
@@ -75,8 +86,12 @@ fn take_turns<R: Run>(
             plan,
         );
         assert!(rt; answer == turns[i].1, "turn {i}");
+        assert!(rt; shares.counts() == kept.book().totals(), "turn {i}");
+        if answer.is_err() {
+            assert!(rt; told_by(rt, alloc, kept.book()).is_same(&told), "turn {i}");
+            assert!(rt; watch == was && entries.len() == listed, "turn {i}");
+        }
     }
-    assert!(rt; shares.counts() == kept.book().totals());
     let length = kept.book().journal().len() as usize;
     assert!(rt; before <= length && length - before == entries.len());
     length

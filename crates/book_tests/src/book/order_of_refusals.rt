@@ -1,5 +1,6 @@
 //! The one order of refusals: for each two refusals that an entry can meet together, a case in which the first is
 //! answered while both conditions hold. docs/ORDER.md lists the pairs, in the order of these cases.
+use crate::book::told_by;
 use cell_samples::{begun, book_all, entry_of};
 use plate_book::{Book, Refusal};
 use std::alloc::Global;
@@ -308,16 +309,18 @@ fn is_wanted(rt: &impl Abort, refusal: Refusal, wanted: &str, case: &str) {
     assert!(rt; refusal.word() == words.next(), "{case}");
 }
 
-// Books all but the last record of a case, and compares the answer to it.
+// Books all but the last record of a case, and compares the answer to it. The refusal leaves the book as it was.
 fn answers(rt: &impl Abort, alloc: Global, case: &str) {
     let mut parts = case.split('|');
     let mut book = book_of(rt, alloc, parts.next().unwrap_or(""));
     book_line(rt, &mut book, parts.next().unwrap_or(""));
+    let before = told_by(rt, alloc, &book);
     let Err(refusal) = book.apply(entry_of(parts.next().unwrap_or("")).expect(rt, "a record"))
     else {
         panic!(rt; "{case}");
     };
     is_wanted(rt, refusal, parts.next().unwrap_or(""), case);
+    assert!(rt; told_by(rt, alloc, &book).is_same(&before), "{case}");
 }
 
 fn all_answer(rt: &impl Abort, alloc: Global, cases: &[&str]) {

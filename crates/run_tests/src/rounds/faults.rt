@@ -1,17 +1,45 @@
 //! Each motion of a run with each fault.
-use crate::rounds::run_in_world;
+use crate::rounds::{run_in_world, told};
+use cell_audit::audit;
 use cell_types::AXES;
 use cell_types::texts::axis_word;
 use cell_workers::End;
 use std::process::Abort;
 use std::sync::Wait;
 use std::test::Fail;
+use std::thread::Threads;
 
 const TEN: &[u8] = b"plates = 10";
 
+// A run of ten plates with a line of faults. It prints that it finished or stalled, its journal's text is legal with the totals
+// of its book, and no machines meet.
+fn check_line<R: AllocGlobal + Abort + Threads + Wait + Sync>(rt: &R, line: &str) {
+    let faults = line.as_bytes();
+    let left = run_in_world(rt, TEN, faults, b"");
+    assert_eq!(rt; left.collisions, 0, "{line}");
+    let (first, wanted) = match left.end {
+        End::Finished => (b"finished\n".as_slice(), 0),
+        End::Stalled => (b"stalled\n".as_slice(), 1),
+        end => panic!(rt; "{line}: {end:?}"),
+    };
+    let (written, status) = told(rt, TEN, faults, b"", false);
+    assert_eq!(rt; status, Ok(wanted), "{line}");
+    assert!(rt; written.as_slice().starts_with(first), "{line}");
+    let (journal, status) = told(rt, TEN, faults, b"", true);
+    assert_eq!(rt; status, Ok(wanted), "{line}");
+    assert_eq!(rt;
+        audit(rt.alloc(), journal.as_slice()),
+        Ok(left.totals),
+        "{line}"
+    );
+}
+
 // Runs of ten plates, each with this fault in another motion. Each finishes or stalls, its journal is legal, and no
 // machines meet.
-fn check_fault<R: AllocGlobal + Wait + Abort>(rt: &R, fault: &str) -> Result<(), Fail> {
+fn check_fault<R: AllocGlobal + Abort + Threads + Wait + Sync>(
+    rt: &R,
+    fault: &str,
+) -> Result<(), Fail> {
     let alloc = rt.alloc();
     let whole = run_in_world(rt, TEN, b"", b"");
     assert_eq!(rt; whole.end, End::Finished);
@@ -21,9 +49,7 @@ fn check_fault<R: AllocGlobal + Wait + Abort>(rt: &R, fault: &str) -> Result<(),
         assert!(rt; most > 0, "{word} moves");
         for motion in 0..most {
             let line = format!(in alloc; "{word},{},{fault}\n", u64::from(motion) + 1)?;
-            let left = run_in_world(rt, TEN, line.as_str().as_bytes(), b"");
-            assert!(rt; matches!(left.end, End::Finished | End::Stalled), "{line}");
-            assert_eq!(rt; left.collisions, 0, "{line}");
+            check_line(rt, line.as_str());
         }
     }
     Ok(())

@@ -2,38 +2,17 @@
 use cell_runs::{Inputs, read_inputs, simulate};
 use cell_samples::{CLEARED_PRESS, STUCK_PRESS};
 use cell_sim::{SimOperator, World};
-use cell_types::{Machine, Station};
-use cell_workers::{End, OperatorPort, PortFault};
+use cell_types::Machine;
+use cell_workers::End;
+use port_samples::{Failing, TellingHands};
 use std::process::Abort;
 use std::sync::{Mutex, Wait};
-
-// Hands of which one act always fails.
-#[derive(Drop)]
-struct Failing<'a, R: Wait> {
-    hands: SimOperator<'a, R>,
-    fails_to_remove: bool,
-}
-
-impl<R: Wait> OperatorPort for Failing<'_, R> {
-    fn remove(&mut self, station: Station) -> Result<(), PortFault> {
-        if self.fails_to_remove {
-            return Err(PortFault);
-        }
-        self.hands.remove(station)
-    }
-
-    fn home(&mut self, machine: Machine) -> Result<(), PortFault> {
-        if self.fails_to_remove {
-            return self.hands.home(machine);
-        }
-        Err(PortFault)
-    }
-}
 
 // A run of six plates in which the second press fails and is to be cleared and repaired by such hands.
 fn check_failing<R: AllocGlobal + Wait + Abort>(
     rt: &R,
-    fails_to_remove: bool,
+    removing: Failing,
+    homing: Failing,
     end: End,
     quarantined: u32,
 ) {
@@ -49,9 +28,9 @@ fn check_failing<R: AllocGlobal + Wait + Abort>(
         script,
     } = inputs;
     let world = Mutex::new(World::new(plan.plates));
-    let mut hands = Failing {
-        hands: SimOperator::new(rt, &world),
-        fails_to_remove,
+    let hands = SimOperator::new(rt, &world);
+    let Ok(mut hands) = TellingHands::new(alloc, hands, removing, homing, 10) else {
+        panic!(rt; "there is memory");
     };
     let Ok(outcome) = simulate(rt, &plan, &faults, script, &world, &mut hands) else {
         panic!(rt; "there is memory");
@@ -67,10 +46,10 @@ fn check_failing<R: AllocGlobal + Wait + Abort>(
 
 #[test]
 fn a_plate_that_cannot_be_taken_out_stays(rt: HostRuntime) {
-    check_failing(&rt, true, End::Stalled, 0);
+    check_failing(&rt, Failing::Always, Failing::Never, End::Stalled, 0);
 }
 
 #[test]
 fn a_press_that_cannot_be_put_at_home_stays_failed(rt: HostRuntime) {
-    check_failing(&rt, false, End::Finished, 1);
+    check_failing(&rt, Failing::Never, Failing::Always, End::Finished, 1);
 }

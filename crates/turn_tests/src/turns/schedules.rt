@@ -2,10 +2,10 @@
 ghost use Rattle.std.specs.Prelude.{◌≡◌, ◌<◌};
 ghost use Rattle.cell_ledger.specs.New.{AreBlank};
 
-use crate::turns::{plan_of, showing};
+use crate::turns::{plan_of, showing, told_by};
 use cell_diagnosis::Reading;
 use cell_ledger::{Blanks, Kept, Run};
-use cell_samples::{begun, entry_of};
+use cell_samples::{begun, book_all, entry_of};
 use cell_turns::{Act, Plan, Ran, Six, Step, Watches, run_schedule};
 use cell_types::{Belt, Cause, Colour, Command, Entry, MACHINES, Machine, Station};
 use plate_book::Book;
@@ -29,15 +29,7 @@ struct Played {
 
 // Ports in memory with room for so many commands, each of which fails so.
 fn ports(rt: &impl Abort, alloc: Global, room: usize, failing: Failing) -> Six<MemoryPort> {
-    let still = StillPort { shown: None };
-    let still = Six {
-        feed: still,
-        table: still,
-        robot: still,
-        press1: still,
-        press2: still,
-        deposit: still,
-    };
+    let still = StillPort { shown: None }.for_all();
     let Ok(ports) = telling_ports(alloc, still, [failing; 6], room) else {
         panic!(rt; "there is memory");
     };
@@ -342,4 +334,101 @@ fn a_plate_is_taken_out_by_hand(rt: HostRuntime) {
     let wanted = [Command::AllOff(Machine::Table)];
     assert!(rt; played.ports.table.sent() == Some(wanted.as_slice()));
     assert!(rt; played.book.totals().quarantined == 1);
+}
+
+// After some steps, one more that is refused: the book, the shares, the machine's watch, the lists and the ports are as they were
+// before it.
+fn refuse_over<R: Run>(
+    rt: &impl Abort,
+    alloc: Global,
+    book: Book,
+    blanks: Blanks,
+    first: &[Step],
+    machine: Machine,
+    reading: Option<Reading>,
+)
+    requires parts { 0 < R.parts }
+    requires limits { book.limits ≡ R.limits }
+    requires ledgers { AreBlank R.Run blanks }
+{
+    let plan = plan_of(rt, 5);
+    let mut ports = ports(rt, alloc, 100, Failing::Never);
+    let mut hands = StillHands;
+    let (mut kept, mut shares) = Kept::<R>::new(book, blanks);
+    let mut watches = Watches::start(kept.book());
+    let ran = run_schedule(
+        alloc,
+        first,
+        &mut ports,
+        &mut hands,
+        &mut kept,
+        &mut shares,
+        &mut watches,
+        &plan,
+    );
+    assert!(rt; ran.is_ok(), "there is memory");
+    let told = told_by(rt, alloc, kept.book());
+    let (counts, asked) = (shares.counts(), ports.pick(machine).asked());
+    let watch = *watches.pick(machine);
+    let ran = run_schedule(
+        alloc,
+        &[Step::Turn(machine, reading)],
+        &mut ports,
+        &mut hands,
+        &mut kept,
+        &mut shares,
+        &mut watches,
+        &plan,
+    );
+    let Ok(mut ran) = ran else {
+        panic!(rt; "there is memory");
+    };
+    assert_eq!(rt; ran.refused, 1);
+    assert!(rt; ran.machines.pick(machine).is_empty() && ran.operator.is_empty());
+    assert!(rt; told_by(rt, alloc, kept.book()).is_same(&told));
+    assert!(rt; shares.counts() == counts && ports.pick(machine).asked() == asked);
+    assert!(rt; *watches.pick(machine) == watch);
+}
+
+fn leave_all(
+    rt: &impl Abort,
+    alloc: Global,
+    book: Book,
+    first: &[Step],
+    machine: Machine,
+    reading: Option<Reading>,
+) {
+    refuse_over::<Brand>(rt, alloc, book, Blanks::new(1), first, machine, reading);
+}
+
+#[test]
+fn a_turn_that_is_refused_leaves_all_as_it_was(rt: HostRuntime) {
+    let alloc = rt.alloc();
+    let full = begun(alloc, 1, 10, 0).expect(&rt, "a book");
+    let twice = [
+        Step::Turn(Machine::Feed, showing(0)),
+        Step::Turn(Machine::Feed, showing(1)),
+    ];
+    leave_all(&rt, alloc, full, &twice, Machine::Feed, showing(1));
+    let laid = [Step::Turn(Machine::Feed, showing(1))];
+    let mut past = begun(alloc, 100, 1, 8).expect(&rt, "a book");
+    assert_eq!(rt; book_all(&mut past, &["lamp,feed,green,"]), Ok(()));
+    leave_all(&rt, alloc, past, &laid, Machine::Feed, showing(1));
+    let moving = begun(alloc, 11, 10, 11).expect(&rt, "a book");
+    let low = Some(Reading {
+        switches: [1, 1, 0],
+        presence: 1,
+    });
+    let high = Some(Reading {
+        switches: [2, 1, 0],
+        presence: 1,
+    });
+    leave_all(
+        &rt,
+        alloc,
+        moving,
+        &[Step::Turn(Machine::Table, low)],
+        Machine::Table,
+        high,
+    );
 }
