@@ -110,7 +110,7 @@ outputs_that_fail() {
             unwritten "cellctl $words, output closed" $?
             "$cellctl" $words < /dev/null 2> told > /dev/full
             unwritten "cellctl $words, output full" $?
-            { sleep 0.2; "$cellctl" $words < /dev/null 2> told; echo $? > status; } | true
+            { sleep 1; "$cellctl" $words < /dev/null 2> told; echo $? > status; } | true
             while [ ! -s status ]; do sleep 0.1; done
             unwritten "cellctl $words, a pipe that ended" "$(cat status)"
             : > status
