@@ -173,7 +173,7 @@ fn refuses_plain_lines_that_are_no_record_of_four_short_fields(
     ] {
         let at_once = listed(alloc, text)?;
         assert_eq!(rt; at_once.as_slice(), wanted, "{name}");
-        let bytewise = listed(alloc, Slow::new(text, usize::MAX))?;
+        let bytewise = listed(alloc, slow(text, usize::MAX))?;
         assert_eq!(rt; bytewise.as_slice(), wanted, "{name}, byte by byte");
     }
     Ok(())
