@@ -25,7 +25,10 @@ run_refused() {
     status=0
     timeout 30 env LD_PRELOAD="$folder/refuse.so" REFUSE_FIRST="$first" REFUSE_ONWARD="$onward" REFUSE_WHOLE="$whole" \
         REFUSE_COUNTS="$folder/counts" "$@" < "$folder/input" > "$folder/output" 2> "$folder/errors" || status=$?
-    read -r counted refused wanted < <(od -An -v -tu8 -w24 "$folder/counts")
+    # By a file: bash keeps the status of a process substitution under its number, and takes it for that of a later process
+    # which gets the same number.
+    od -An -v -tu8 -w24 "$folder/counts" > "$folder/numbers"
+    read -r counted refused wanted < "$folder/numbers"
 }
 
 # Runs a command until a run has none refused. Each run is judged by a function, which says whether it is right.
