@@ -6,7 +6,7 @@ use crate::turns::{plan_of, showing, told_by};
 use cell_diagnosis::Reading;
 use cell_ledger::{Blanks, Kept, Run};
 use cell_samples::{begun, book_all, entry_of};
-use cell_turns::{Act, Plan, Ran, Six, Step, Watches, run_schedule};
+use cell_turns::{Act, Plan, Ran, Six, Step, Watch, Watches, run_schedule};
 use cell_types::{Belt, Cause, Colour, Command, Entry, MACHINES, Machine, Station};
 use plate_book::Book;
 use port_samples::{Failing, StillHands, StillPort, TellingHands, TellingPort, telling_ports};
@@ -336,6 +336,18 @@ fn a_plate_is_taken_out_by_hand(rt: HostRuntime) {
     assert!(rt; played.book.totals().quarantined == 1);
 }
 
+// A machine's watch.
+fn watch_of(watches: &Watches, machine: Machine) -> Watch {
+    match machine {
+        Machine::Feed => watches.feed,
+        Machine::Table => watches.table,
+        Machine::Robot => watches.robot,
+        Machine::Press1 => watches.press1,
+        Machine::Press2 => watches.press2,
+        Machine::Deposit => watches.deposit,
+    }
+}
+
 // After some steps, one more that is refused: the book, the shares, the machine's watch, the lists and the ports are as they were
 // before it.
 fn refuse_over<R: Run>(
@@ -369,7 +381,7 @@ fn refuse_over<R: Run>(
     assert!(rt; ran.is_ok(), "there is memory");
     let told = told_by(rt, alloc, kept.book());
     let (counts, asked) = (shares.counts(), ports.pick(machine).asked());
-    let watch = *watches.pick(machine);
+    let watch = watch_of(&watches, machine);
     let ran = run_schedule(
         alloc,
         &[Step::Turn(machine, reading)],
@@ -387,7 +399,7 @@ fn refuse_over<R: Run>(
     assert!(rt; ran.machines.pick(machine).is_empty() && ran.operator.is_empty());
     assert!(rt; told_by(rt, alloc, kept.book()).is_same(&told));
     assert!(rt; shares.counts() == counts && ports.pick(machine).asked() == asked);
-    assert!(rt; *watches.pick(machine) == watch);
+    assert!(rt; watch_of(&watches, machine) == watch);
 }
 
 fn leave_all(
