@@ -1,6 +1,6 @@
 //! Whether two words of the cell, or two entries, are the same.
 ghost use Rattle.std.specs.Prelude.{◌≡◌, true};
-ghost use Rattle.cell_types.specs.declared.words.Entry.TheVariants.{Lamp, Admitted, Claimed, Yielded, Started, Arrived, Conveyed, Forged, Gripped, Dropped, Delivered, Declared, StopAsked, Quarantined, Repaired};
+ghost use Rattle.cell_types.specs.declared.words.Entry.TheVariants.{Lamp, Admitted, Claimed, Yielded, Started, Arrived, Conveyed, Forged, Gripped, Dropped, Delivered, Declared, StopAsked, Quarantined, Repaired, Expected, Reinstated};
 
 use crate::{Arm, Axis, Belt, Cause, Colour, Entry, Machine, PlateId, Pose, Station, Zone};
 
@@ -274,6 +274,26 @@ fn is_repaired(entry: &Entry, machine: Machine) -> bool
     }
 }
 
+fn is_expected(entry: &Entry, plate: PlateId) -> bool
+    ensures yes { result ≡ true → entry.now ≡ Expected plate }
+    ensures no { entry.now ≡ Expected plate → result ≡ true }
+{
+    match *entry {
+        Entry::Expected { plate: its_plate } => is_plate(its_plate, plate),
+        _ => false,
+    }
+}
+
+fn is_reinstated(entry: &Entry, plate: PlateId) -> bool
+    ensures yes { result ≡ true → entry.now ≡ Reinstated plate }
+    ensures no { entry.now ≡ Reinstated plate → result ≡ true }
+{
+    match *entry {
+        Entry::Reinstated { plate: its_plate } => is_plate(its_plate, plate),
+        _ => false,
+    }
+}
+
 /// Whether two entries are the same.
 pub fn is_entry(some: &Entry, other: &Entry) -> bool
     ensures yes { result ≡ true → some.now ≡ other.now }
@@ -295,5 +315,7 @@ pub fn is_entry(some: &Entry, other: &Entry) -> bool
         Entry::StopAsked { machine } => is_stop_asked(some, machine),
         Entry::Quarantined { plate, src } => is_quarantined(some, plate, src),
         Entry::Repaired { machine } => is_repaired(some, machine),
+        Entry::Expected { plate } => is_expected(some, plate),
+        Entry::Reinstated { plate } => is_reinstated(some, plate),
     }
 }
