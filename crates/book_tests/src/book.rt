@@ -1,4 +1,5 @@
 //! Worked examples: one plate carried whole through the cell, and what is answered on the way.
+mod laid_back;
 mod order_of_refusals;
 
 use cell_samples::{ONE_PLATE, Told, begun, book_all, entry_of};
@@ -344,4 +345,8 @@ fn a_refusal_is_printed_with_its_word(rt: HostRuntime) {
     assert!(rt; Refusal::LampRed(Belt::Feed).name() == "LampRed");
     assert!(rt; Refusal::LampRed(Belt::Feed).word() == Some("feed"));
     assert!(rt; Refusal::WrongPlate.word().is_none());
+    assert!(rt; Refusal::PlateExpected.name() == "PlateExpected");
+    assert!(rt; Refusal::PlateExpected.word().is_none());
+    assert!(rt; Refusal::NotReturnable.name() == "NotReturnable");
+    assert!(rt; Refusal::NotReturnable.word().is_none());
 }

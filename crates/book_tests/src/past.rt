@@ -1,12 +1,13 @@
 //! Past states, and entries as words.
 use cell_journal::laws::{pack, unpack};
 use cell_journal::{Journal, Snapshot};
-use cell_samples::{ONE_PLATE, begun, entry_of};
+use cell_samples::{LAID_BACK, ONE_PLATE, begun, book_all, entry_of};
 use cell_types::{
     AXES, Axis, BELTS, Belt, Colour, Entry, MACHINES, Machine, PlateId, Pose, STATIONS, Station,
     ZONES, Zone,
 };
 use plate_book::Book;
+use std::alloc::Global;
 use std::process::Abort;
 
 // The entry of a record.
@@ -21,6 +22,8 @@ fn entries_are_packed_by_the_table_of_bits(rt: HostRuntime) {
         ("conveyed,feed_belt,1,table", 134_218_246),
         ("started,press_one,top,", 8388),
         ("quarantined,100000,press2,", 453_853_197),
+        ("expected,1,,", 527),
+        ("reinstated,100000,,", 51_200_016),
     ] {
         assert_eq!(rt; pack(entry(&rt, record)), word, "{record}");
         assert_eq!(rt; unpack(word), Some(entry(&rt, record)), "{record}");
@@ -29,10 +32,17 @@ fn entries_are_packed_by_the_table_of_bits(rt: HostRuntime) {
 
 #[test]
 fn words_of_no_entry_are_not_unpacked(rt: HostRuntime) {
-    // No kind has the number 15, no entry has the two highest bits, a second colour is the last one, an admission has a
-    // plate from 1 to 100,000, and nothing besides.
+    // A plate that is expected or laid back has a number from 1 to 100,000, and nothing besides. No kind has a number from 17
+    // on, no entry has the two highest bits, a second colour is the last one, an admission has a plate from 1 to 100,000, and
+    // nothing besides.
     for word in [
         15,
+        16,
+        15 + (100_001 << 9),
+        15 + (1 << 5) + (1 << 9),
+        16 + (1 << 9) + (1 << 26),
+        17,
+        17 + (1 << 9),
         31,
         1 << 30,
         1 << 31,
@@ -56,6 +66,8 @@ fn each_record_is_unpacked_again(rt: HostRuntime) {
         "stop_asked,press2,,",
         "quarantined,9,dep_end,",
         "repaired,robot,,",
+        "expected,100000,,",
+        "reinstated,77,,",
     ];
     for record in ONE_PLATE.iter().chain(others.iter()) {
         let word = pack(entry(&rt, record));
@@ -81,6 +93,7 @@ fn check_told(rt: &impl Abort, snapshot: &Snapshot, book: &Book) {
     for belt in BELTS {
         assert_eq!(rt; snapshot.lamp(belt), book.lamp(belt));
     }
+    assert_eq!(rt; snapshot.expected, book.expected());
     assert_eq!(rt; snapshot.totals, book.totals());
 }
 
@@ -98,6 +111,34 @@ fn each_past_state_is_that_of_a_shorter_book(rt: HostRuntime) {
             let (snapshot, replayed) = whole.state_at(i);
             check_told(&rt, &snapshot, &book);
             assert_eq!(rt; replayed, i);
+        }
+    }
+}
+
+// A book with the first entries of the journal of a plate that is laid back.
+fn laid_back(rt: &impl Abort, alloc: Global, count: usize) -> Book {
+    let Ok(mut book) = Book::new(alloc, 100, 10) else {
+        panic!(rt; "the limits are in range, and there is memory");
+    };
+    assert_eq!(rt; book_all(&mut book, &LAID_BACK[..count.min(13)]), Ok(()));
+    book
+}
+
+#[test]
+fn each_past_state_tells_which_plate_is_expected(rt: HostRuntime) {
+    let whole = laid_back(&rt, rt.alloc(), 13);
+    for count in 0..14 {
+        let book = laid_back(&rt, rt.alloc(), count);
+        let i = book.journal().len();
+        if i <= whole.journal().len() {
+            let (snapshot, _) = whole.state_at(i);
+            check_told(&rt, &snapshot, &book);
+            let expected = if i == 11 || i == 12 {
+                PlateId::new(1)
+            } else {
+                None
+            };
+            assert_eq!(rt; snapshot.expected, expected, "after {i}");
         }
     }
 }

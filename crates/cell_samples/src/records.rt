@@ -68,15 +68,38 @@ pub const ONE_PLATE: [&str; 62] = [
     "delivered,1,,",
 ];
 
-/// The text of the journal of one plate, with its profile.
-pub fn one_plate_text(alloc: Global) -> Result<Vec<u8>, AllocError> {
+/// The records of the journal of a plate that is cleared from the table and laid back on the feed belt.
+pub const LAID_BACK: [&str; 13] = [
+    "lamp,feed,green,",
+    "admitted,1,,",
+    "started,feed_belt,to_end,",
+    "conveyed,feed_belt,1,feed_end",
+    "claimed,feed,z1,",
+    "started,feed_belt,to_table,",
+    "conveyed,feed_belt,1,table",
+    "yielded,feed,z1,",
+    "declared,table,operator_stop,",
+    "quarantined,1,table,",
+    "expected,1,,",
+    "lamp,feed,green,",
+    "reinstated,1,,",
+];
+
+/// The text of a journal of these records, in the profile of a number.
+pub fn text_of(alloc: Global, profile: u8, records: &[&str]) -> Result<Vec<u8>, AllocError> {
+    let first = format!(in alloc; "profile,{profile},,\n")?;
     let mut text = Vec::new(alloc);
-    text.extend_from_slice(b"profile,1,,\n")?;
-    for record in ONE_PLATE.iter() {
+    text.extend_from_slice(first.as_str().as_bytes())?;
+    for record in records {
         text.extend_from_slice(record.as_bytes())?;
         text.push(b'\n')?;
     }
     Ok(text)
+}
+
+/// The text of the journal of one plate, in the profile of a number.
+pub fn one_plate_text(alloc: Global, profile: u8) -> Result<Vec<u8>, AllocError> {
+    text_of(alloc, profile, &ONE_PLATE)
 }
 
 /// The plate of a number from 1 to 100,000.

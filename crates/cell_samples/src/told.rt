@@ -20,6 +20,7 @@ struct Reads {
     forged: [u32; 6],
     lamps: [Colour; 2],
     totals: Totals,
+    expected: Option<PlateId>,
 }
 
 fn place_of(book: &Book, number: u32) -> Option<Place> {
@@ -39,6 +40,7 @@ impl Reads {
             forged: MACHINES.map(|machine| book.forged_by(machine)),
             lamps: BELTS.map(|belt| book.lamp(belt)),
             totals: book.totals(),
+            expected: book.expected(),
         }
     }
 }

@@ -12,7 +12,7 @@ use Rattle.cell_types.specs.declared.words.AxisState.{AxisState}
 use Rattle.cell_types.specs.declared.words.Entry.{Entry}
 use Rattle.cell_types.specs.Same.{same_machine, same_station, same_axis}
 use Rattle.cell_types.specs.Cell.{machine_of_axis, machine_of_station, press_axis}
-use Rattle.cell_types.specs.After.{Snapshot, opening, after, without, with_plate, is_axis_of, step}
+use Rattle.cell_types.specs.After.{Snapshot, opening, after, is_plate, without, with_plate, is_axis_of, step}
 use Rattle.cell_views.specs.Situations.{Situation}
 use Rattle.cell_views.specs.Views.{place_of, is_occupied}
 use Rattle.plate_book.specs.declared.limits.BookLimits.{BookLimits}
@@ -20,9 +20,10 @@ use Rattle.plate_book.specs.Rules.First.{tests, started_tests, any_visited, stat
 use Rattle.plate_book.specs.Rules.SituationIn.{situation_in}
 use Rattle.plate_book.specs.Rules.Legal.{legal}
 use Rattle.plate_book.specs.Rules.Carrying.{carries_from, IsCarrying}
-use Rattle.plate_book.proofs.Safe.Facts.{axis_same, machine_same, pose_same, not_false, Passed, passed_last, axes_of, rest, occupied, no_other, plate_at}
+use Rattle.plate_book.proofs.Safe.Facts.{axis_same, machine_same, pose_same, not_false, is_plate_tells, Passed, passed_last, axes_of, rest, occupied, no_other, plate_at}
 use Rattle.plate_book.proofs.Safe.Motion.{Unload1, Unload2}
 use Rattle.plate_book.proofs.Safe.Plates.{without_is}
+use Rattle.plate_book.proofs.Safe.Returns.{expected_there}
 use Rattle.plate_book.proofs.Safe.Step.{Inv, hands, at_spot, green}
 use Rattle.cell_journal.proofs.JournalLaws.{after_snoc}
 use Rattle.plate_book.proofs.Safe.Bridge.{good_cell, good_passed, good_when_legal, along, marks_of}
@@ -170,12 +171,16 @@ carried_quarantined l s place marks k src v h c a q t g e f =
 repaired_healthy : (x m : Machine) (o : Option Pose) (q : Pose) (fx : Bool) → (if same_machine x m then None else o) ≡ Some q → (if same_machine m x then false else fx) ≡ false → fx ≡ false
 repaired_healthy x m o q fx g f = grind (arith, machine_same, nat_tests)
 
+-- a plate that is at no station comes in
+enters_full : (s : Snapshot) (place : ℕ → Place) (marks : ℕ → ℕ) (k : ℕ) (p : Place) → Inv s place marks → place k ≡ p → ((u : Station) → p ≢ Place.At u) → (t : Station) → Full s t → is_some (with_plate k Station.FeedIn s.plate t) ≡ true
+enters_full s place marks k p v i n t e = comes_full s.plate k Station.FeedIn t (λ d. n t (sym i ∙ v.plates.there t k d)) e
+
 carried_step : (l : BookLimits) (s : Snapshot) (place : ℕ → Place) (marks : ℕ → ℕ) (e : Entry) → Inv s place marks → Passed (tests l (situation_in s) e) → Carried s → Carried (step e s)
 carried_step l s place marks (Entry.Lamp b to) v h c = c
 carried_step l s place marks (Entry.Admitted k) v h c = λ a q t g e f.
     let n : k ≡ s.admitted + 1 = eqb-true k (s.admitted + 1) (not_false (k == s.admitted + 1) h.1.1.1.0) in
     let nowhere : place k ≡ Place.Nowhere = v.plates.outside k (inr (omega arith)) in
-    comes_full s.plate k Station.FeedIn t (λ d. let p : place k ≡ Place.At t = v.plates.there t k d in cc) (c a q t g e f)
+    enters_full s place marks k Place.Nowhere v nowhere (λ u d. cc) t (c a q t g e f)
 carried_step l s place marks (Entry.Claimed m z) v h c = c
 carried_step l s place marks (Entry.Yielded m z) v h c = c
 carried_step l s place marks (Entry.Started a to) v h c = carried_started s a to h.1.1 c
@@ -193,6 +198,10 @@ carried_step l s place marks (Entry.StopAsked m) v h c = c
 carried_step l s place marks (Entry.Quarantined k src) v h c = carried_quarantined l s place marks k src v h c
 carried_step l s place marks (Entry.Repaired m) v h c = λ a q t g e f.
     c a q t (still_goes (s.going a) q (same_machine (machine_of_axis a) m) g) e (repaired_healthy (machine_of_axis a) m (s.going a) q (s.failed (machine_of_axis a)) g f)
+carried_step l s place marks (Entry.Expected k) v h c = c
+carried_step l s place marks (Entry.Reinstated k) v h c = λ a q t g e f.
+    let x : s.expected ≡ Some k = is_plate_tells k s.expected (not_false (is_plate k s.expected) h.1.1.0) in
+    enters_full s place marks k Place.Quarantine v (expected_there s.expected s.waits place marks k v.returns x) (λ u d. cc) t (c a q t g e f)
 
 carried : (l : BookLimits) (J : List Entry) → legal l J ≡ true → Carried (after J)
 carried l J h = along l (λ K. Carried (after K)) (λ a q t g e f. cc)

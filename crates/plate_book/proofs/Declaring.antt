@@ -7,7 +7,7 @@ use Rattle.std.proofs.lemmas.Bool.Decides.{nat_tests}
 use Rattle.cell_types.specs.declared.words.Machine.{Machine}
 use Rattle.cell_types.specs.declared.words.Cause.{Cause}
 use Rattle.cell_types.specs.declared.words.Entry.{Entry}
-use Rattle.cell_types.specs.declared.words.Entry.TheVariants.{Lamp, Admitted, Claimed, Yielded, Started, Arrived, Conveyed, Forged, Gripped, Dropped, Delivered, Declared, StopAsked, Quarantined, Repaired}
+use Rattle.cell_types.specs.declared.words.Entry.TheVariants.{Lamp, Admitted, Claimed, Yielded, Started, Arrived, Conveyed, Forged, Gripped, Dropped, Delivered, Declared, StopAsked, Quarantined, Repaired, Expected, Reinstated}
 use Rattle.cell_types.specs.Same.{same_machine}
 use Rattle.cell_views.specs.Views.{fails, is_failed, is_quarantined}
 use Rattle.cell_views.specs.Situations.{situation_of}
@@ -79,6 +79,8 @@ spared_step l J (Delivered k) s h = longer J (Delivered k) l.entries _ (full_not
 spared_step l J (StopAsked m) s h = longer J (StopAsked m) l.entries _ (full_not _ _ (none_refused (tests l (situation_of J) (StopAsked m)) h).0)
 spared_step l J (Quarantined k src) s h = longer J (Quarantined k src) l.entries _ (full_not _ _ (none_refused (tests l (situation_of J) (Quarantined k src)) h).0)
 spared_step l J (Repaired m) s h = longer J (Repaired m) l.entries _ (full_not _ _ (none_refused (tests l (situation_of J) (Repaired m)) h).0)
+spared_step l J (Expected k) s h = longer J (Expected k) l.entries _ (full_not _ _ (none_refused (tests l (situation_of J) (Expected k)) h).0)
+spared_step l J (Reinstated k) s h = longer J (Reinstated k) l.entries _ (full_not _ _ (none_refused (tests l (situation_of J) (Reinstated k)) h).0)
 
 spared : (l : BookLimits) (J : List Entry) → legal l J ≡ true → IsSpared l J
 spared l = along l (IsSpared l) (omega arith) (λ J e g s a. spared_step l J e s (is_none_tells (first l (situation_of J) e) a))

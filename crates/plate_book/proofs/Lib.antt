@@ -5,6 +5,8 @@ pub mod Recording
 pub mod Safe
 pub mod Places
 pub mod Listing
+pub mod Waiting
+pub mod Profiles
 pub mod Order
 pub mod Declaring
 pub mod Carried

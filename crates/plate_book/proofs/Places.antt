@@ -6,7 +6,7 @@ use Rattle.std.specs.List.{count_by}
 use Rattle.std.proofs.lemmas.Bool.Decides.{nat_tests}
 use Rattle.cell_types.specs.declared.words.Place.{Place}
 use Rattle.cell_types.specs.declared.words.Entry.{Entry}
-use Rattle.cell_types.specs.declared.words.Entry.TheVariants.{Lamp, Admitted, Claimed, Yielded, Started, Arrived, Conveyed, Forged, Gripped, Dropped, Delivered, Declared, StopAsked, Quarantined, Repaired}
+use Rattle.cell_types.specs.declared.words.Entry.TheVariants.{Admitted, Conveyed}
 use Rattle.cell_types.specs.declared.cell.BeltMotion.{BeltMotion}
 use Rattle.cell_types.specs.Cell.{motion_to}
 use Rattle.cell_types.specs.After.{after}
@@ -45,27 +45,14 @@ somewhere_small l J k h n =
     let e : count_by is_admitted J ≡ (after J).admitted = g.agrees.admitted in
     (r.0, omega (arith, r.1, c, e))
 
--- what leaves the cell doesn't come back
-start_at : (o : Option BeltMotion) → (start_of o ≢ Place.Delivered) × (start_of o ≢ Place.Quarantine)
-start_at None = ((λ e. cc), (λ e. cc))
-start_at (Some m) = ((λ e. cc), (λ e. cc))
+-- a delivered plate doesn't come back
+start_at : (o : Option BeltMotion) → start_of o ≢ Place.Delivered
+start_at None e = cc
+start_at (Some m) e = cc
 
-pub source_inside : (e : Entry) → (source e ≢ Place.Delivered) × (source e ≢ Place.Quarantine)
+pub source_inside : (e : Entry) → source e ≢ Place.Delivered
 source_inside (Conveyed a k dest) = start_at (motion_to a dest)
-source_inside (Lamp b c) = ((λ e. cc), (λ e. cc))
-source_inside (Admitted k) = ((λ e. cc), (λ e. cc))
-source_inside (Claimed m y) = ((λ e. cc), (λ e. cc))
-source_inside (Yielded m y) = ((λ e. cc), (λ e. cc))
-source_inside (Started b to) = ((λ e. cc), (λ e. cc))
-source_inside (Arrived b p) = ((λ e. cc), (λ e. cc))
-source_inside (Forged m k) = ((λ e. cc), (λ e. cc))
-source_inside (Gripped x k src) = ((λ e. cc), (λ e. cc))
-source_inside (Dropped x k dest) = ((λ e. cc), (λ e. cc))
-source_inside (Delivered k) = ((λ e. cc), (λ e. cc))
-source_inside (Declared m cause) = ((λ e. cc), (λ e. cc))
-source_inside (StopAsked m) = ((λ e. cc), (λ e. cc))
-source_inside (Quarantined k src) = ((λ e. cc), (λ e. cc))
-source_inside (Repaired m) = ((λ e. cc), (λ e. cc))
+source_inside _ = λ e. cc
 
 put_case : (o : Option Placing) (k : ℕ) (v x : Place) → ((p : Placing) → o ≡ Some p → p.plate ≡ k → ⊥) → x ≡ v → unwrap_or (option_and_then (λ (p : Placing). when (p.plate == k) p.goes) o) x ≡ v
 put_case None k v x n e = e

@@ -4,6 +4,7 @@ pub mod Numbers
 pub mod Words
 pub mod History
 pub mod Legal
+pub mod Profiles
 pub mod Safety
 pub mod Carrying
 pub mod Invariants

@@ -1,7 +1,7 @@
 //! The tests, each with its refusal, in the words of the table.
 ghost use Rattle.std.specs.Prelude.{◌≡◌};
 ghost use Rattle.plate_book.specs.Records.Recorded.{recorded};
-ghost use Rattle.plate_book.specs.Rules.First.{not_at_rest, not_resting_at, cannot_go, not_going, zone_taken, not_holder, station_empty, station_full, plate_not_at, other_plate_at, lamp_red, lamp_already, visited, still_there, journal_full, plate_limit, machine_failed, machine_healthy, owner_failed, visits_failed, no_neighbour, wrong_number, ends_by_arrival, no_arrival};
+ghost use Rattle.plate_book.specs.Rules.First.{not_at_rest, not_resting_at, cannot_go, not_going, zone_taken, not_holder, station_empty, station_full, plate_not_at, other_plate_at, lamp_red, lamp_already, visited, still_there, journal_full, plate_limit, machine_failed, machine_healthy, owner_failed, visits_failed, no_neighbour, wrong_number, ends_by_arrival, no_arrival, is_before_press, waits_behind, not_waiting, plate_expected, not_returnable, not_expected};
 
 use crate::registers::Registers;
 use crate::{BookLimits, Refusal};
@@ -19,7 +19,49 @@ fn ends_by_arrival(axis: Axis, pose: Pose) -> bool
     )
 }
 
+/// Whether a station is before a press, so that no plate there is forged.
+fn is_before_press(station: Station) -> bool
+    ensures { result ≡ is_before_press station }
+{
+    matches!(
+        station,
+        Station::FeedIn | Station::FeedEnd | Station::Table | Station::Arm1
+    )
+}
+
 impl Registers {
+    pub fn not_waiting(&self, plate: PlateId) -> (bool, Refusal)
+        ensures { result ≡ not_waiting (recorded self.now) plate }
+    {
+        (self.waits_from(plate).is_none(), Refusal::WrongPlate)
+    }
+
+    pub fn plate_expected(&self) -> (bool, Refusal)
+        ensures { result ≡ plate_expected (recorded self.now) }
+    {
+        (self.expected().is_some(), Refusal::PlateExpected)
+    }
+
+    pub fn not_returnable(&self, plate: PlateId) -> (bool, Refusal)
+        ensures { result ≡ not_returnable (recorded self.now) plate }
+    {
+        let behind = match self.waits_from(plate) {
+            Some(station) => !is_before_press(station),
+            None => false,
+        };
+        (behind, Refusal::NotReturnable)
+    }
+
+    pub fn not_expected(&self, plate: PlateId) -> (bool, Refusal)
+        ensures { result ≡ not_expected (recorded self.now) plate }
+    {
+        let is_expected = match self.expected() {
+            Some(expected) => expected.number() == plate.number(),
+            None => false,
+        };
+        (!is_expected, Refusal::WrongPlate)
+    }
+
     pub fn wrong_number(&self, plate: PlateId) -> (bool, Refusal)
         ensures { result ≡ wrong_number (recorded self.now) plate }
     {

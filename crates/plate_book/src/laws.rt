@@ -1,6 +1,6 @@
 //! What holds of every legal journal, whatever the limits. Each function's contract is the law, and its body is empty.
 //! The safety rules are those of LNCS 891 and of this project's profile.
-ghost use Rattle.std.specs.Prelude.{◌≡◌, ◌≤◌, ◌+◌, ◌++◌, ◌||◌, not, nat_le, true, false, List, length, Some, None};
+ghost use Rattle.std.specs.Prelude.{◌≡◌, ◌≤◌, ◌+◌, ◌++◌, ◌||◌, ◌&&◌, not, nat_le, true, false, List, length, Some, None};
 ghost use Rattle.std.specs.List.{list_all};
 ghost use Rattle.cell_types.specs.declared.words.Machine.{Machine};
 ghost use Rattle.cell_types.specs.declared.words.Cause.{Cause};
@@ -13,6 +13,7 @@ ghost use Rattle.plate_book.specs.declared.refusal.Refusal.{Refusal};
 ghost use Rattle.plate_book.specs.Rules.First.{first, tests};
 ghost use Rattle.plate_book.specs.Rules.Numbers.{refusal_number, ascends_from};
 ghost use Rattle.plate_book.specs.Rules.Legal.{first_of, legal};
+ghost use Rattle.plate_book.specs.Rules.Profiles.{is_of_one, first_in_one, legal_in_one};
 ghost use Rattle.plate_book.specs.Rules.Safety.{IsSafe};
 ghost use Rattle.plate_book.specs.Rules.Invariants.{IsKept};
 ghost use Rattle.plate_book.specs.Rules.Bridged.{TellsWhatIsLeft};
@@ -69,4 +70,11 @@ pub fn tests_are_in_order()
 #[tactic(auto, using(crate::proofs::Order::first_is_least))]
 pub fn first_refusal_is_the_least()
     ensures { (l : BookLimits) (c : Situation) (e : Entry) (r : Refusal) → first l c e ≡ Some r → list_all (λ t. not t.0 || nat_le (refusal_number r) (refusal_number t.1)) (tests l c e) ≡ true }
+{}
+
+/// Profile 1, which knows no plate that is laid back, refuses in its own journals what is refused here, and its legal journals
+/// are the legal ones here of its entries alone. So what is proved of legal journals holds of those of profile 1.
+pub fn profile_one_is_kept()
+    ensures first { (l : BookLimits) (J : List Entry) (e : Entry) → list_all is_of_one J ≡ true → first_in_one l J e ≡ first_of l J e }
+    ensures legal { (l : BookLimits) (J : List Entry) → legal_in_one l J ≡ (list_all is_of_one J && legal l J) }
 {}

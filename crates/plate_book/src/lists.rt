@@ -35,7 +35,9 @@ pub fn move_plate(places: &mut [Place], entry: &Entry)
     ensures { (j : ℕ) → place_in places.new j ≡ placed_by (placing entry.now) (length places.old) (place_in places.old) j }
 {
     match entry {
-        Entry::Admitted { plate } => put(places, *plate, Place::At(Station::FeedIn)),
+        Entry::Admitted { plate } | Entry::Reinstated { plate } => {
+            put(places, *plate, Place::At(Station::FeedIn))
+        }
         Entry::Conveyed { plate, dest, .. } | Entry::Dropped { plate, dest, .. } => {
             put(places, *plate, Place::At(*dest))
         }
@@ -59,7 +61,7 @@ pub fn list_delivered(delivered: &mut Vec<PlateId>, limit: u32, entry: &Entry)
     }
 }
 
-/// Lists the plate that the operator took out.
+/// Lists the plate that the operator took out, and no longer one that is laid back.
 pub fn list_cleared(
     quarantine: &mut IndexMap<PlateId, Station>,
     entry: &Entry,
@@ -74,6 +76,10 @@ pub fn list_cleared(
             Ok(_) => Ok(()),
             Err(_) => Err(Refusal::OutOfMemory),
         },
+        Entry::Reinstated { plate } => {
+            let _ = quarantine.shift_remove(plate);
+            Ok(())
+        }
         _ => Ok(()),
     }
 }

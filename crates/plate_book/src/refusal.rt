@@ -40,6 +40,10 @@ pub enum Refusal {
     AlreadyAsked(Machine),
     /// A plate is still at a station of the machine.
     PlateStillThere(Station),
+    /// A plate is expected at FeedIn already.
+    PlateExpected,
+    /// The plate was cleared from a station that isn't before a press.
+    NotReturnable,
     /// Memory was refused.
     OutOfMemory,
 }
@@ -71,6 +75,8 @@ impl Refusal {
             Refusal::NoPress => "NoPress",
             Refusal::AlreadyAsked(_) => "AlreadyAsked",
             Refusal::PlateStillThere(_) => "PlateStillThere",
+            Refusal::PlateExpected => "PlateExpected",
+            Refusal::NotReturnable => "NotReturnable",
             Refusal::OutOfMemory => "OutOfMemory",
         }
     }

@@ -2,7 +2,7 @@
 ghost use Rattle.std.specs.Prelude.{◌≡◌, ◌+◌, ◌^◌, ◌<◌, ◌≤◌, ◌∷◌, [], ◌++◌, map, option_map};
 ghost use Rattle.plate_book.specs.Records.Recorded.{recorded};
 ghost use Rattle.cell_types.specs.Cell.{motion_to, machine_of_station, station_of_arm, faced_of, grips_at, drops_at};
-ghost use Rattle.cell_types.specs.declared.words.Entry.TheVariants.{Admitted, Quarantined, Repaired};
+ghost use Rattle.cell_types.specs.declared.words.Entry.TheVariants.{Admitted, Quarantined, Repaired, Expected, Reinstated};
 ghost use Rattle.plate_book.specs.Rules.First.{first_true, claimed_tests, parked_tests, conveyed_tests, forged_tests, handing_tests, any_visited, any_still_there, first, is_faced, faces, journal_full, machine_failed, not_holder, neighbour_tests, not_at_rest};
 
 use crate::checks::first_true;
@@ -10,7 +10,7 @@ use crate::conditions::no_neighbour;
 use crate::registers::Registers;
 use crate::{BookLimits, Refusal};
 use cell_types::{
-    Arm, Axis, Belt, Entry, Facing, Machine, PlateId, Pose, Station, ZONES, Zone, axes_of,
+    Arm, Axis, Belt, Colour, Entry, Facing, Machine, PlateId, Pose, Station, ZONES, Zone, axes_of,
     axis_of_arm, drops_at, faced, grips_at, machine_of_axis, machine_of_belt, machine_of_station,
     motion_to, press_of, station_of_arm,
 };
@@ -167,6 +167,30 @@ impl Registers {
             self.machine_failed(Machine::Feed),
             self.wrong_number(plate),
             self.lamp_red(Belt::Feed),
+            self.plate_expected(),
+        ])
+    }
+
+    fn expected_tests(&self, limits: BookLimits, plate: PlateId) -> Option<Refusal>
+        ensures { result ≡ first limits (recorded self.now) (Expected plate) }
+    {
+        first_true(&[
+            self.journal_full(limits),
+            self.not_waiting(plate),
+            self.lamp_already(Belt::Feed, Colour::Green),
+            self.plate_expected(),
+            self.not_returnable(plate),
+        ])
+    }
+
+    fn reinstated_tests(&self, limits: BookLimits, plate: PlateId) -> Option<Refusal>
+        ensures { result ≡ first limits (recorded self.now) (Reinstated plate) }
+    {
+        first_true(&[
+            self.journal_full(limits),
+            self.machine_failed(Machine::Feed),
+            self.not_expected(plate),
+            self.lamp_red(Belt::Feed),
         ])
     }
 
@@ -249,6 +273,8 @@ impl Registers {
             ]),
             Entry::Quarantined { plate, src } => self.quarantined_tests(limits, plate, src),
             Entry::Repaired { machine } => self.repaired_tests(limits, machine),
+            Entry::Expected { plate } => self.expected_tests(limits, plate),
+            Entry::Reinstated { plate } => self.reinstated_tests(limits, plate),
         }
     }
 

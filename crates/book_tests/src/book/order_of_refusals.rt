@@ -9,17 +9,22 @@ use std::process::Abort;
 // A case: the limits of entries and plates, how many entries of the one plate's journal come first, the records that
 // follow, the record that is refused, and the refusal.
 
-const ADMITTED: [&str; 10] = [
+const ADMITTED: [&str; 15] = [
     "2 1 2||admitted,1,,|JournalFull",
     "1 10 0|declared,feed,silent,|admitted,1,,|JournalFull",
     "1 10 1||admitted,2,,|JournalFull",
     "2 10 2||admitted,1,,|JournalFull",
+    "5 10 2|declared,feed,silent, quarantined,1,feed_in expected,1,,|admitted,2,,|JournalFull",
     "100 1 2|declared,feed,silent,|admitted,1,,|PlateLimit",
     "100 1 2||admitted,1,,|PlateLimit",
     "100 1 2||admitted,1,,|PlateLimit",
+    "100 1 2|declared,feed,silent, quarantined,1,feed_in expected,1,,|admitted,2,,|PlateLimit",
     "100 10 0|declared,feed,silent,|admitted,2,,|MachineFailed feed",
     "100 10 0|declared,feed,silent,|admitted,1,,|MachineFailed feed",
+    "100 10 2|declared,feed,silent, quarantined,1,feed_in expected,1,,|admitted,2,,|MachineFailed feed",
     "100 10 0||admitted,2,,|WrongPlate",
+    "100 10 2|declared,feed,silent, quarantined,1,feed_in expected,1,, repaired,feed,, lamp,feed,green,|admitted,3,,|WrongPlate",
+    "100 10 2|declared,feed,silent, quarantined,1,feed_in expected,1,, repaired,feed,,|admitted,2,,|LampRed feed",
 ];
 
 const ARRIVED: [&str; 3] = [
@@ -82,6 +87,18 @@ const DROPPED: [&str; 23] = [
     "1 10 0|declared,robot,silent,|dropped,arm1,1,feed_in|JournalFull",
     "1 10 1||dropped,arm1,1,feed_in|JournalFull",
     "100 10 0|declared,robot,silent,|dropped,arm1,1,feed_in|MachineFailed robot",
+];
+
+const EXPECTED: [&str; 9] = [
+    "1 10 0|declared,press2,silent,|expected,1,,|JournalFull",
+    "6 10 2|declared,feed,silent, quarantined,1,feed_in repaired,feed,, lamp,feed,green,|expected,1,,|JournalFull",
+    "5 10 2|declared,feed,silent, quarantined,1,feed_in expected,1,,|expected,1,,|JournalFull",
+    "34 10 32|declared,press1,silent, quarantined,1,press1|expected,1,,|JournalFull",
+    "100 10 1||expected,1,,|WrongPlate",
+    "100 10 2|declared,feed,silent, quarantined,1,feed_in expected,1,,|expected,2,,|WrongPlate",
+    "100 10 2|declared,feed,silent, quarantined,1,feed_in expected,1,, repaired,feed,, lamp,feed,green,|expected,1,,|LampAlready feed",
+    "100 10 32|declared,press1,silent, quarantined,1,press1 lamp,feed,green,|expected,1,,|LampAlready feed",
+    "100 10 32|declared,press1,silent, quarantined,1,press1 lamp,feed,green, admitted,2,, declared,feed,silent, quarantined,2,feed_in expected,2,,|expected,1,,|PlateExpected",
 ];
 
 const FORGED: [&str; 9] = [
@@ -152,6 +169,15 @@ const QUARANTINED: [&str; 9] = [
     "100 10 2||quarantined,2,feed_in|MachineHealthy feed",
     "100 10 5|declared,table,silent,|quarantined,1,table|ZoneTaken z1",
     "100 10 7|declared,table,silent,|quarantined,2,table|ZoneTaken z1",
+];
+
+const REINSTATED: [&str; 6] = [
+    "1 10 0|declared,feed,silent,|reinstated,1,,|JournalFull",
+    "1 10 1||reinstated,1,,|JournalFull",
+    "6 10 2|declared,feed,silent, quarantined,1,feed_in expected,1,, repaired,feed,,|reinstated,1,,|JournalFull",
+    "100 10 0|declared,feed,silent,|reinstated,1,,|MachineFailed feed",
+    "100 10 2|declared,feed,silent, quarantined,1,feed_in expected,1,,|reinstated,1,,|MachineFailed feed",
+    "100 10 0||reinstated,1,,|WrongPlate",
 ];
 
 const REPAIRED: [&str; 6] = [
@@ -360,6 +386,11 @@ fn dropped_meets_the_lower_first(rt: HostRuntime) {
 }
 
 #[test]
+fn expected_meets_the_lower_first(rt: HostRuntime) {
+    all_answer(&rt, rt.alloc(), &EXPECTED);
+}
+
+#[test]
 fn forged_meets_the_lower_first(rt: HostRuntime) {
     all_answer(&rt, rt.alloc(), &FORGED);
 }
@@ -377,6 +408,11 @@ fn lamp_meets_the_lower_first(rt: HostRuntime) {
 #[test]
 fn quarantined_meets_the_lower_first(rt: HostRuntime) {
     all_answer(&rt, rt.alloc(), &QUARANTINED);
+}
+
+#[test]
+fn reinstated_meets_the_lower_first(rt: HostRuntime) {
+    all_answer(&rt, rt.alloc(), &REINSTATED);
 }
 
 #[test]

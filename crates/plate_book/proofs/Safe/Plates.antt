@@ -235,7 +235,7 @@ emptied s m e t f = grind (arith, pose_same)
 abbrev pub forged_at : ℕ → (ℕ → ℕ) → ℕ → ℕ
 forged_at k marks j = if k == j then marks j + 1 else marks j
 
-forged_other : (k j : ℕ) (marks : ℕ → ℕ) → j ≢ k → forged_at k marks j ≡ marks j
+pub forged_other : (k j : ℕ) (marks : ℕ → ℕ) → j ≢ k → forged_at k marks j ≡ marks j
 forged_other k j marks n = let e : (k == j) ≡ false = ne_eqb k j (λ d. n (sym d)) in rw e
 
 pub forged_same : (k : ℕ) (marks : ℕ → ℕ) → forged_at k marks k ≡ marks k + 1

@@ -7,23 +7,25 @@ use Rattle.cell_types.specs.declared.words.Axis.{Axis}
 use Rattle.cell_types.specs.declared.words.Pose.{Pose}
 use Rattle.cell_types.specs.declared.words.Arm.{Arm}
 use Rattle.cell_types.specs.declared.words.Belt.{Belt}
+use Rattle.cell_types.specs.declared.words.Colour.{Colour}
 use Rattle.cell_types.specs.declared.words.Place.{Place}
 use Rattle.cell_types.specs.declared.words.AxisState.{AxisState}
 use Rattle.cell_types.specs.declared.words.Entry.{Entry}
-use Rattle.cell_types.specs.Same.{same_pose, pose_number}
+use Rattle.cell_types.specs.Same.{same_pose, same_colour, pose_number}
 use Rattle.cell_types.specs.Cell.{machine_of_station, poses, axis_of_arm, Faced, faced}
 use Rattle.plate_book.specs.declared.limits.BookLimits.{BookLimits}
 use Rattle.plate_book.specs.Rules.First.{any_visited, station_empty, other_plate_at, arm_tests, started_tests, tests}
-use Rattle.cell_types.specs.After.{is_machine, Snapshot, after}
+use Rattle.cell_types.specs.After.{is_machine, Snapshot, is_plate, after}
 use Rattle.plate_book.specs.Rules.SituationIn.{situation_in}
 use Rattle.std.specs.List.{Contains}
 use Rattle.std.proofs.Common.{subst}
 use Rattle.cell_views.specs.Views.{Placing, placing, place_of, source, at_of}
-use Rattle.plate_book.specs.Rules.Safety.{Rests, RestsAt, IsInside, IsEmpty, IsOccupied, SafeState, IsSafeDrop, IsSafeMove, SafeKind, IsPressDrop, SafeEntry, IsSafe}
+use Rattle.plate_book.specs.Rules.Safety.{Rests, RestsAt, IsInside, IsEmpty, IsOccupied, SafeState, IsSafeDrop, IsSafeMove, IsFeedFree, SafeKind, IsPressDrop, SafeEntry, IsSafe}
 use Rattle.plate_book.specs.Rules.Legal.{allowed, legal_from, legal}
-use Rattle.plate_book.proofs.Safe.Facts.{pose_same, Passed, passed_last, free, plate_at, occupied, no_other, resting, still, and_both, or_neither, not_false, Axes, axes_of, rest}
+use Rattle.plate_book.proofs.Safe.Facts.{pose_same, Passed, passed_last, free, plate_at, occupied, no_other, resting, still, and_both, or_neither, not_false, is_plate_tells, Axes, axes_of, rest}
 use Rattle.plate_book.proofs.Safe.Motion.{Spot, spot_arm, spot_pose, Facing, ArmSafe, MotionSafe, has_pose, fits_going, may_start}
 use Rattle.plate_book.proofs.Safe.Plates.{Counted}
+use Rattle.plate_book.proofs.Safe.Returns.{expected_there}
 use Rattle.plate_book.proofs.Safe.Step.{Inv, hands, green}
 use Rattle.plate_book.proofs.Safe.Bridge.{Good, Agrees, good_passed, good_prefix, marks_of}
 
@@ -159,6 +161,9 @@ source_is l P (Entry.Quarantined k src) w h p i =
     let t = passed_last (any_visited (situation_in s) (machine_of_station src)) (station_empty (situation_in s) src ∷ other_plate_at (situation_in s) src k ∷ []) h.1.1 in
     let o = occupied s src t.0 in
     w.safe.plates.there src k (no_other s src o.0 k o.1 t.1.0)
+source_is l P (Entry.Reinstated k) w h p i =
+    let s = after P in
+    expected_there s.expected s.waits (place_of P) (marks_of P) k w.safe.returns (is_plate_tells k s.expected (not_false (is_plate k s.expected) h.1.1.0))
 source_is l P _ w h p i = cc
 
 -- no plate comes to a press but by a drop, and to no failed one
@@ -178,6 +183,7 @@ press_is l P (Entry.Dropped Arm.Arm2 k Station.DepIn) w h p i = tt
 press_is l P (Entry.Dropped _ k _) w h p i = let e = h.1.1.0 in cc
 press_is l P (Entry.Delivered k) w h p i = tt
 press_is l P (Entry.Quarantined k src) w h p i = tt
+press_is l P (Entry.Reinstated k) w h p i = tt
 press_is l P _ w h p i = cc
 
 -- where an arm drops
@@ -237,13 +243,18 @@ started_is P Axis.PressTwo _ w h = let e = h.0 in (cc, cc)
 started_is P Axis.DepositBelt Pose.ToEnd w h = (w.agrees.going Axis.DepositBelt ∙ still (after P) Axis.DepositBelt h.0, tt)
 started_is P Axis.DepositBelt _ w h = let e = h.0 in (cc, cc)
 
-kind_is : (l : BookLimits) (P : List Entry) (e : Entry) → Good P → Passed (tests l (situation_in (after P)) e) → SafeKind P e
-kind_is l P (Entry.Dropped x k dest) w h = drop_is l P x k dest w h
-kind_is l P (Entry.Admitted k) w h =
+-- what a feed light that isn't red says
+feed_free : (P : List Entry) → Good P → same_colour ((after P).lamp Belt.Feed) Colour.Red ≡ false → IsFeedFree P
+feed_free P w h =
     let s = after P in
-    let g = green (s.lamp Belt.Feed) h.1.1.1.1.0 in
+    let g = green (s.lamp Belt.Feed) h in
     let lit = w.safe.lights.feed g in
     (w.agrees.lamp Belt.Feed ∙ g, rests_at_from P s Axis.FeedBelt Pose.Rest w.agrees lit.belt, empty_from P s Station.FeedIn w.safe lit.front, empty_from P s Station.FeedEnd w.safe lit.back)
+
+kind_is : (l : BookLimits) (P : List Entry) (e : Entry) → Good P → Passed (tests l (situation_in (after P)) e) → SafeKind P e
+kind_is l P (Entry.Dropped x k dest) w h = drop_is l P x k dest w h
+kind_is l P (Entry.Admitted k) w h = feed_free P w h.1.1.1.1.0
+kind_is l P (Entry.Reinstated k) w h = feed_free P w h.1.1.1.0
 kind_is l P (Entry.Started a to) w h = started_is P a to w h.1.1
 kind_is l P _ w h = tt
 

@@ -11,28 +11,30 @@ use Rattle.cell_types.specs.declared.words.Colour.{Colour}
 use Rattle.cell_types.specs.declared.words.Place.{Place}
 use Rattle.cell_types.specs.declared.words.AxisState.{AxisState}
 use Rattle.cell_types.specs.declared.words.Entry.{Entry}
-use Rattle.cell_types.specs.Same.{same_machine, same_station, same_axis, same_colour}
+use Rattle.cell_types.specs.Same.{same_machine, same_station, same_axis, same_belt, same_colour}
 use Rattle.cell_types.specs.Cell.{machine_of_axis, machine_of_station, home, axis_of_arm, station_of_arm, faced}
 use Rattle.plate_book.specs.declared.limits.BookLimits.{BookLimits}
-use Rattle.plate_book.specs.Rules.First.{is_pose, is_faced, not_holder, any_visited, any_still_there, parked_tests, ends_by_arrival, handing_tests, station_empty, other_plate_at, tests}
-use Rattle.cell_types.specs.After.{Snapshot, with_at, with_plate, step}
+use Rattle.plate_book.specs.Rules.First.{is_pose, is_faced, not_holder, any_visited, any_still_there, parked_tests, ends_by_arrival, handing_tests, station_empty, other_plate_at, is_before_press, tests}
+use Rattle.cell_types.specs.After.{Snapshot, with_at, is_plate, with_plate, step}
 use Rattle.plate_book.specs.Rules.SituationIn.{situation_in}
 use Rattle.std.specs.Prelude.{unwrap_or}
 use Rattle.std.proofs.Common.{subst}
 use Rattle.cell_views.specs.Views.{puts}
 use Rattle.plate_book.specs.Rules.Safety.{is_forged_as}
-use Rattle.plate_book.proofs.Safe.Facts.{pose_same, Axes, axes_of, rest, going_to, Passed, passed_first, passed_last, free, plate_at, occupied, no_other, resting, held, and_both, not_false, not_some_tells, is_pose_tells}
+use Rattle.plate_book.proofs.Safe.Facts.{pose_same, Axes, axes_of, rest, going_to, Passed, passed_first, passed_last, free, plate_at, occupied, no_other, resting, held, and_both, not_false, not_some_tells, is_plate_tells, is_pose_tells}
 use Rattle.plate_book.proofs.Safe.Motion.{Holders, Spot, Load1, Load2, Unload1, Unload2, spot_arm, spot_pose, spot_station, Facing, ArmSafe, MotionSafe, begun, homed, press_goes, may_go, has_pose, fits, motion_rests, motion_claimed, motion_yielded, motion_started, motion_repaired, Stands, stands, not_in, at_is}
 use Rattle.plate_book.proofs.Safe.Plates.{press_stage, stage, Counted, ends, PlatesSafe, placed_at, Numbered, plates_placed, plates_left, numbered, plates_begun, start_clear, plates_rests, arrived_stage, plates_homed, emptied, forged_at, forged_counted, no_end, Ending, rests_clear, stage_same}
+use Rattle.plate_book.proofs.Safe.Returns.{ReturnsSafe, returns_placed, returns_forged, returns_cleared, due_told, returns_expected, expected_there, expected_unforged, returns_back}
 use Rattle.plate_book.proofs.Safe.Lights.{FeedLit, LightsSafe, feed_without, deposit_without, lights_started, lights_rests, lights_declared, lights_repaired, deposit_placed, lights_placed}
 
-pub record Safe (ax : Axes) (holder : Holders) (plate : Station → Option ℕ) (place : ℕ → Place) (marks : ℕ → ℕ) (n : ℕ) (failed : Machine → Bool) (lamp : Belt → Colour) : Type 0 where
+pub record Safe (ax : Axes) (holder : Holders) (plate : Station → Option ℕ) (place : ℕ → Place) (marks : ℕ → ℕ) (n : ℕ) (failed : Machine → Bool) (lamp : Belt → Colour) (expected : Option ℕ) (waits : ℕ → Option Station) : Type 0 where
   pub motion : MotionSafe ax holder
   pub plates : PlatesSafe ax plate place marks n
   pub lights : LightsSafe ax plate failed lamp
+  pub returns : ReturnsSafe expected waits place marks
 
 abbrev pub Inv : Snapshot → (ℕ → Place) → (ℕ → ℕ) → Type 0
-Inv s place marks = Safe (axes_of s) s.holder s.plate place marks s.admitted s.failed s.lamp
+Inv s place marks = Safe (axes_of s) s.holder s.plate place marks s.admitted s.failed s.lamp s.expected s.waits
 
 -- where plates are, and how often they were forged, after an entry
 abbrev pub then_place : Entry → (ℕ → Place) → ℕ → Place
@@ -71,7 +73,7 @@ axes_repaired s m = λ i y. homed_at s y (same_machine (machine_of_axis y) m) i
 
 -- the invariant over other axes
 abbrev SafeWith : Snapshot → (ℕ → Place) → (ℕ → ℕ) → Axes → Type 0
-SafeWith t place marks ax = Safe ax t.holder t.plate place marks t.admitted t.failed t.lamp
+SafeWith t place marks ax = Safe ax t.holder t.plate place marks t.admitted t.failed t.lamp t.expected t.waits
 
 with_axes : (t : Snapshot) (place : ℕ → Place) (marks : ℕ → ℕ) (ax : Axes) → axes_of t ≡ ax → SafeWith t place marks ax → Inv t place marks
 with_axes t place marks ax e h = subst (λ (x : Axes). SafeWith t place marks x) (sym e) h
@@ -82,27 +84,58 @@ step_lamp l s place marks b to e f = grind (arith, pose_same)
 pub green : (c : Colour) → same_colour c Colour.Red ≡ false → c ≡ Colour.Green
 green c e = grind (arith, pose_same)
 
+-- A plate that isn't at DepEnd, has a number and was never forged comes in at FeedIn, and the feed light turns red.
+abbrev Enters : Snapshot → (ℕ → Place) → (ℕ → ℕ) → ℕ → ℕ → Option ℕ → (ℕ → Option Station) → Type 0
+Enters s place marks k n expected waits =
+    Safe (axes_of s) s.holder (with_plate k Station.FeedIn s.plate) (placed_at k (Place.At Station.FeedIn) place) marks n s.failed (with_at (same_belt Belt.Feed) Colour.Red s.lamp) expected waits
+
+enters : (s : Snapshot) (place : ℕ → Place) (marks : ℕ → ℕ) (k n : ℕ) (expected : Option ℕ) (waits : ℕ → Option Station) → Inv s place marks → s.lamp Belt.Feed ≡ Colour.Green → place k ≢ Place.At Station.DepEnd → Numbered k s.admitted n → marks k ≡ 0 → ReturnsSafe expected waits (placed_at k (Place.At Station.FeedIn) place) marks → Enters s place marks k n expected waits
+enters s place marks k n expected waits v g nd w c r =
+    let lit = v.lights.feed g in
+    record {
+      motion = v.motion;
+      plates = plates_placed (axes_of s) s.plate place marks s.admitted n k Station.FeedIn v.plates w lit.front c (no_end (axes_of s) Station.FeedIn (λ x. x));
+      lights = record {
+        feed = λ d. cc;
+        deposit = λ d. deposit_placed s.plate s.failed place k Station.FeedIn refl v.plates.there nd (v.lights.deposit d);
+      };
+      returns = r;
+    }
+
 -- a plate that is nowhere is a new one
 step_admitted : (l : BookLimits) (s : Snapshot) (place : ℕ → Place) (marks : ℕ → ℕ) (k : ℕ) → Inv s place marks → Passed (tests l (situation_in s) (Entry.Admitted k)) → Inv (step (Entry.Admitted k) s) (placed_at k (Place.At Station.FeedIn) place) marks
 step_admitted l s place marks k v h =
     let e : k ≡ s.admitted + 1 = eqb-true k (s.admitted + 1) (not_false (k == s.admitted + 1) h.1.1.1.0) in
     let g : s.lamp Belt.Feed ≡ Colour.Green = green (s.lamp Belt.Feed) h.1.1.1.1.0 in
-    let lit = v.lights.feed g in
     let nowhere : place k ≡ Place.Nowhere = v.plates.outside k (inr (omega arith)) in
     let w : Numbered k s.admitted (s.admitted + 1) = record { low = omega arith; high = omega arith; grows = omega arith; others = λ j d le. omega arith } in
     let c : Counted (axes_of s) Place.Nowhere (marks k) = rw nowhere at (v.plates.counted k) in
+    enters s place marks k (s.admitted + 1) s.expected s.waits v g (λ d. cc) w c
+    (returns_placed s.expected s.waits place marks k (Place.At Station.FeedIn) v.returns (λ d. cc))
+
+-- the expected plate is in quarantine
+step_reinstated : (l : BookLimits) (s : Snapshot) (place : ℕ → Place) (marks : ℕ → ℕ) (k : ℕ) → Inv s place marks → Passed (tests l (situation_in s) (Entry.Reinstated k)) → Inv (step (Entry.Reinstated k) s) (placed_at k (Place.At Station.FeedIn) place) marks
+step_reinstated l s place marks k v h =
+    let e : s.expected ≡ Some k = is_plate_tells k s.expected (not_false (is_plate k s.expected) h.1.1.0) in
+    let g : s.lamp Belt.Feed ≡ Colour.Green = green (s.lamp Belt.Feed) h.1.1.1.0 in
+    let there : place k ≡ Place.Quarantine = expected_there s.expected s.waits place marks k v.returns e in
+    enters s place marks k s.admitted None (with_at (λ (j : ℕ). k == j) None s.waits) v g (λ d. cc)
+    (numbered place s.admitted k v.plates.outside (λ d. cc))
+    (expected_unforged s.expected s.waits place marks k v.returns e)
+    (returns_back s.expected s.waits place marks k (Place.At Station.FeedIn) v.returns)
+
+step_expected : (l : BookLimits) (s : Snapshot) (place : ℕ → Place) (marks : ℕ → ℕ) (k : ℕ) → Inv s place marks → Passed (tests l (situation_in s) (Entry.Expected k)) → Inv (step (Entry.Expected k) s) place marks
+step_expected l s place marks k v h =
     record {
       motion = v.motion;
-      plates = plates_placed (axes_of s) s.plate place marks s.admitted (s.admitted + 1) k Station.FeedIn v.plates w lit.front c (no_end (axes_of s) Station.FeedIn (λ x. x));
-      lights = record {
-        feed = λ d. cc;
-        deposit = λ d. deposit_placed s.plate s.failed place k Station.FeedIn refl v.plates.there (λ f. cc) (v.lights.deposit d);
-      };
+      plates = v.plates;
+      lights = v.lights;
+      returns = returns_expected s.expected s.waits place marks k v.returns (due_told s.waits k h.1.0 h.1.1.1.1.0);
     }
 
 step_claimed : (l : BookLimits) (s : Snapshot) (place : ℕ → Place) (marks : ℕ → ℕ) (m : Machine) (z : Zone) → Inv s place marks → Passed (tests l (situation_in s) (Entry.Claimed m z)) → Inv (step (Entry.Claimed m z) s) place marks
 step_claimed l s place marks m z v h =
-    record { motion = motion_claimed (axes_of s) s.holder z (Some m) v.motion (not_some_tells (s.holder z) h.1.1.1.0); plates = v.plates; lights = v.lights }
+    record { motion = motion_claimed (axes_of s) s.holder z (Some m) v.motion (not_some_tells (s.holder z) h.1.1.1.0); plates = v.plates; lights = v.lights; returns = v.returns }
 
 step_yielded : (l : BookLimits) (s : Snapshot) (place : ℕ → Place) (marks : ℕ → ℕ) (m : Machine) (z : Zone) → Inv s place marks → Passed (tests l (situation_in s) (Entry.Yielded m z)) → Inv (step (Entry.Yielded m z) s) place marks
 step_yielded l s place marks m z v h =
@@ -112,6 +145,7 @@ step_yielded l s place marks m z v h =
       motion = motion_yielded s z m v.motion parked (held s m z holds.0);
       plates = v.plates;
       lights = v.lights;
+      returns = v.returns;
     }
 
 step_started : (l : BookLimits) (s : Snapshot) (place : ℕ → Place) (marks : ℕ → ℕ) (a : Axis) (to : Pose) → Inv s place marks → Passed (tests l (situation_in s) (Entry.Started a to)) → Inv (step (Entry.Started a to) s) place marks
@@ -121,6 +155,7 @@ step_started l s place marks a to v h =
       motion = motion_started s a to v.motion h.1.1;
       plates = plates_begun (axes_of s) a to s.plate place marks s.admitted v.plates (λ t. start_clear s a to t h.1.1);
       lights = lights_started s a to h.1.1 v.lights;
+      returns = v.returns;
     })
 
 -- what an axis does that is going
@@ -141,6 +176,7 @@ step_arrived l s place marks a p v h =
       plates = plates_rests (axes_of s) a p s.plate place marks s.admitted v.plates
           (λ u. arrived_stage (axes_of s) a p s.plate u g m t.1 (λ y e. v.plates.clear a p y g e));
       lights = lights_rests (axes_of s) a p p s.plate s.failed s.lamp g v.lights;
+      returns = v.returns;
     })
 
 -- A plate moves between two stations where no motion ends.
@@ -165,6 +201,7 @@ conveys s place marks a q k src dest v g t e r w c n o =
           (numbered place s.admitted k v.plates.outside (λ d. cc))
           (v.plates.clear a q dest g t) (m ∙ (c ∙ sym (w dest))) (no_end ax dest n);
       lights = o;
+      returns = returns_placed s.expected s.waits place marks k (Place.At dest) v.returns (λ d. cc);
     })
 
 -- a belt that moves puts its light out
@@ -203,6 +240,7 @@ step_conveyed l s place marks _ k _ v h = let e = h.1.1.0 in cc
 forges : (s : Snapshot) (place : ℕ → Place) (marks : ℕ → ℕ) (m : Machine) (a : Axis) (t : Station) (k : ℕ) → Inv s place marks → s.going a ≡ Some Pose.Top → s.plate t ≡ Some k → has_pose a Pose.Top ≡ true → axes_of (step (Entry.Forged m k) s) ≡ with_at (same_axis a) (rest Pose.Top) (axes_of s) → stage (axes_of s) t ≡ 0 → stage (with_at (same_axis a) (rest Pose.Top) (axes_of s)) t ≡ 1 → ((u : Station) → u ≢ t → stage (with_at (same_axis a) (rest Pose.Top) (axes_of s)) u ≡ stage (axes_of s) u) → Inv (step (Entry.Forged m k) s) place (forged_at k marks)
 forges s place marks m a t k v g e r i z one w =
     let ax = with_at (same_axis a) (rest Pose.Top) (axes_of s) in
+    let p = v.plates.there t k e in
     with_axes (step (Entry.Forged m k) s) place (forged_at k marks) ax i
     (record {
       motion = motion_rests (axes_of s) s.holder a Pose.Top Pose.Top v.motion g r;
@@ -215,6 +253,7 @@ forges s place marks m a t k v g e r i z one w =
         clear = λ y q u d f. rests_clear (axes_of s) s.plate a y Pose.Top q u (same_axis a y) refl (λ x. v.plates.clear y q u x f) d;
       };
       lights = lights_rests (axes_of s) a Pose.Top Pose.Top s.plate s.failed s.lamp g v.lights;
+      returns = returns_forged s.expected s.waits place marks k v.returns (λ d. cc);
     })
 
 rises : (q : Pose) → press_goes q Pose.Top ≡ true → press_stage q ≡ 0
@@ -279,12 +318,13 @@ not_at_end : (s : Snapshot) (place : ℕ → Place) (marks : ℕ → ℕ) (src :
 not_at_end s place marks src k v e n d = let p = v.plates.there src k e in let i : src ≡ Station.DepEnd = cc in n i
 
 -- a plate is moved to a station of no light
-moved_to : (s : Snapshot) (place : ℕ → Place) (marks : ℕ → ℕ) (e : Entry) (k : ℕ) (src dest : Station) → Inv s place marks → s.plate src ≡ Some k → s.plate dest ≡ None → src ≢ Station.DepEnd → stage (axes_of s) src ≡ stage (axes_of s) dest → (Ending (axes_of s) dest → ⊥) → same_station dest Station.FeedIn ≡ false → same_station dest Station.FeedEnd ≡ false → same_station dest Station.DepEnd ≡ false → Safe (axes_of s) s.holder (with_plate k dest s.plate) (placed_at k (Place.At dest) place) marks s.admitted s.failed s.lamp
+moved_to : (s : Snapshot) (place : ℕ → Place) (marks : ℕ → ℕ) (e : Entry) (k : ℕ) (src dest : Station) → Inv s place marks → s.plate src ≡ Some k → s.plate dest ≡ None → src ≢ Station.DepEnd → stage (axes_of s) src ≡ stage (axes_of s) dest → (Ending (axes_of s) dest → ⊥) → same_station dest Station.FeedIn ≡ false → same_station dest Station.FeedEnd ≡ false → same_station dest Station.DepEnd ≡ false → Safe (axes_of s) s.holder (with_plate k dest s.plate) (placed_at k (Place.At dest) place) marks s.admitted s.failed s.lamp s.expected s.waits
 moved_to s place marks e k src dest v f t n c o d1 d2 d3 =
     record {
       motion = v.motion;
       plates = moves s place marks k src dest v f t c o;
       lights = lights_placed (axes_of s) s.plate s.failed s.lamp place k dest d1 d2 d3 v.plates.there (not_at_end s place marks src k v f n) v.lights;
+      returns = let p = v.plates.there src k f in returns_placed s.expected s.waits place marks k (Place.At dest) v.returns (λ d. cc);
     }
 
 step_gripped : (l : BookLimits) (s : Snapshot) (place : ℕ → Place) (marks : ℕ → ℕ) (arm : Arm) (k : ℕ) (src : Station) → Inv s place marks → Passed (tests l (situation_in s) (Entry.Gripped arm k src)) → Inv (step (Entry.Gripped arm k src) s) (placed_at k (Place.At (station_of_arm arm)) place) marks
@@ -330,7 +370,12 @@ step_delivered l s place marks k v h =
         feed = λ d. feed_without (axes_of s) s.plate k (v.lights.feed d);
         deposit = λ d. cc;
       };
+      returns = returns_placed s.expected s.waits place marks k Place.Delivered v.returns (λ d. cc);
     }
+
+-- a plate before a press was never forged
+stage_before : (ax : Axes) (t : Station) → is_before_press t ≡ true → stage ax t ≡ 0
+stage_before ax t e = grind (arith, pose_same)
 
 pub stage_low : (ax : Axes) (t : Station) → stage ax t ≤ 1
 stage_low ax t = grind (arith, pose_same)
@@ -354,6 +399,7 @@ step_quarantined l s place marks k src v h =
             deposit_without s.plate s.failed place k v.plates.there
             (not_at_end s place marks src k v e (λ i. let b : s.failed (machine_of_station Station.DepEnd) ≡ true = rw i at bad in let w = y.healthy in cc)) y;
       };
+      returns = returns_cleared s.expected s.waits place marks k src v.returns (λ d. cc) (λ b. c ∙ stage_before (axes_of s) src b);
     }
 
 step_repaired : (l : BookLimits) (s : Snapshot) (place : ℕ → Place) (marks : ℕ → ℕ) (m : Machine) → Inv s place marks → Passed (tests l (situation_in s) (Entry.Repaired m)) → Inv (step (Entry.Repaired m) s) place marks
@@ -365,6 +411,7 @@ step_repaired l s place marks m v h =
       motion = motion_repaired s m v.motion a;
       plates = plates_homed (axes_of s) m s.plate place marks s.admitted v.plates (emptied s m b);
       lights = lights_repaired (axes_of s) s.plate s.failed s.lamp m v.lights;
+      returns = v.returns;
     })
 
 -- Every entry that passes its tests keeps the invariant.
@@ -381,7 +428,9 @@ inv_step l s place marks (Entry.Gripped arm k src) v h = step_gripped l s place 
 inv_step l s place marks (Entry.Dropped arm k dest) v h = step_dropped l s place marks arm k dest v h
 inv_step l s place marks (Entry.Delivered k) v h = step_delivered l s place marks k v h
 inv_step l s place marks (Entry.Declared m cause) v h =
-    record { motion = v.motion; plates = v.plates; lights = lights_declared (axes_of s) s.plate s.failed s.lamp m v.lights }
-inv_step l s place marks (Entry.StopAsked m) v h = record { motion = v.motion; plates = v.plates; lights = v.lights }
+    record { motion = v.motion; plates = v.plates; lights = lights_declared (axes_of s) s.plate s.failed s.lamp m v.lights; returns = v.returns }
+inv_step l s place marks (Entry.StopAsked m) v h = record { motion = v.motion; plates = v.plates; lights = v.lights; returns = v.returns }
 inv_step l s place marks (Entry.Quarantined k src) v h = step_quarantined l s place marks k src v h
 inv_step l s place marks (Entry.Repaired m) v h = step_repaired l s place marks m v h
+inv_step l s place marks (Entry.Expected k) v h = step_expected l s place marks k v h
+inv_step l s place marks (Entry.Reinstated k) v h = step_reinstated l s place marks k v h

@@ -17,15 +17,15 @@ use Rattle.cell_types.specs.declared.words.Belt.TheVariants as belt
 use Rattle.cell_types.specs.declared.words.Colour.{Colour}
 use Rattle.cell_types.specs.declared.words.Colour.TheVariants as colour
 use Rattle.cell_types.specs.declared.words.Entry.{Entry}
-use Rattle.cell_types.specs.declared.words.Entry.TheVariants.{Lamp, Admitted, Claimed, Yielded, Started, Arrived, Conveyed, Forged, Gripped, Dropped, Delivered, Declared, StopAsked, Quarantined, Repaired}
+use Rattle.cell_types.specs.declared.words.Entry.TheVariants.{Lamp, Admitted, Claimed, Yielded, Started, Arrived, Conveyed, Forged, Gripped, Dropped, Delivered, Declared, StopAsked, Quarantined, Repaired, Expected, Reinstated}
 use Rattle.cell_types.specs.Same.{same_machine, same_station, same_pose, same_colour}
 use Rattle.cell_types.specs.declared.cell.BeltMotion.{BeltMotion}
 use Rattle.cell_types.specs.Cell.{machine_of_axis, machine_of_station, machine_of_belt, is_pose_of, owner, visitor, axis_of_arm, station_of_arm, motion_to, Faced, faced, grips_at, drops_at}
-use Rattle.cell_types.specs.After.{is_machine}
+use Rattle.cell_types.specs.After.{is_machine, is_plate}
 use Rattle.cell_views.specs.Situations.{Situation}
 use Rattle.plate_book.specs.declared.limits.BookLimits.{BookLimits}
 use Rattle.plate_book.specs.declared.refusal.Refusal.{Refusal}
-use Rattle.plate_book.specs.declared.refusal.Refusal.TheVariants.{JournalFull, PlateLimit, MachineFailed, MachineHealthy, OwnerFailed, WrongPose, ZoneTaken, NotHolder, NotNeighbour, StationEmpty, StationFull, WrongPlate, LampRed, LampAlready, NoPress, AlreadyAsked, PlateStillThere}
+use Rattle.plate_book.specs.declared.refusal.Refusal.TheVariants.{JournalFull, PlateLimit, MachineFailed, MachineHealthy, OwnerFailed, WrongPose, ZoneTaken, NotHolder, NotNeighbour, StationEmpty, StationFull, WrongPlate, LampRed, LampAlready, NoPress, AlreadyAsked, PlateStillThere, PlateExpected, NotReturnable}
 
 -- a condition, and the refusal where it holds
 abbrev pub Test : Type 0
@@ -108,6 +108,33 @@ plate_not_at c s k = (not (c.holds s k), WrongPlate)
 
 abbrev pub other_plate_at : Situation → Station → ℕ → Test
 other_plate_at c s k = (c.other s k, WrongPlate)
+
+-- the stations before a press, at which no plate is forged yet
+abbrev pub is_before_press : Station → Bool
+is_before_press station.FeedIn = true
+is_before_press station.FeedEnd = true
+is_before_press station.Table = true
+is_before_press station.Arm1 = true
+is_before_press _ = false
+
+-- a plate waits in quarantine from a station that isn't before a press
+abbrev pub waits_behind : Option Station → Bool
+waits_behind (Some s) = not (is_before_press s)
+waits_behind None = false
+
+-- plate k isn't in quarantine
+abbrev pub not_waiting : Situation → ℕ → Test
+not_waiting c k = (is_none (c.waits k), WrongPlate)
+
+abbrev pub plate_expected : Situation → Test
+plate_expected c = (is_some c.expected, PlateExpected)
+
+abbrev pub not_returnable : Situation → ℕ → Test
+not_returnable c k = (waits_behind (c.waits k), NotReturnable)
+
+-- k isn't the plate that is expected
+abbrev pub not_expected : Situation → ℕ → Test
+not_expected c k = (not (is_plate k c.expected), WrongPlate)
 
 -- k isn't the next plate's number
 abbrev pub wrong_number : Situation → ℕ → Test
@@ -250,7 +277,7 @@ abbrev pub tests : BookLimits → Situation → Entry → List (Bool × Refusal)
 tests l c (Lamp b to) = journal_full l c ∷ machine_failed c (machine_of_belt b) ∷ lamp_tests c b to
 tests l c (Admitted k) =
     journal_full l c ∷ plate_limit l c ∷ machine_failed c machine.Feed
-    ∷ wrong_number c k ∷ lamp_red c belt.Feed ∷ []
+    ∷ wrong_number c k ∷ lamp_red c belt.Feed ∷ plate_expected c ∷ []
 tests l c (Claimed m z) = journal_full l c ∷ machine_failed c m ∷ claimed_tests c m z
 tests l c (Yielded m z) = journal_full l c ∷ machine_failed c m ∷ (parked_tests c m ++ not_holder c m z ∷ [])
 tests l c (Started a to) = journal_full l c ∷ machine_failed c (machine_of_axis a) ∷ started_tests c a to
@@ -273,6 +300,11 @@ tests l c (Quarantined k src) =
     journal_full l c ∷ machine_healthy c (machine_of_station src)
     ∷ (any_visited c (machine_of_station src) ++ station_empty c src ∷ other_plate_at c src k ∷ [])
 tests l c (Repaired m) = journal_full l c ∷ machine_healthy c m ∷ (any_visited c m ++ any_still_there c m)
+tests l c (Expected k) =
+    journal_full l c ∷ not_waiting c k ∷ lamp_already c belt.Feed colour.Green
+    ∷ plate_expected c ∷ not_returnable c k ∷ []
+tests l c (Reinstated k) =
+    journal_full l c ∷ machine_failed c machine.Feed ∷ not_expected c k ∷ lamp_red c belt.Feed ∷ []
 
 -- the refusal of an entry by a cell, if there is one
 abbrev pub first : BookLimits → Situation → Entry → Option Refusal

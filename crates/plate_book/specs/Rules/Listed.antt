@@ -1,12 +1,13 @@
--- The plates in order: those delivered, those cleared into quarantine, and those at stations
-use Rattle.std.specs.Prelude.{ℕ, Option, Some, None, List}
-use Rattle.std.specs.List.{filter_map}
+-- The plates in order: those delivered, those in quarantine, and those at stations
+use Rattle.std.specs.Prelude.{ℕ, ◌==◌, Bool, false, not, Option, Some, None, List, [], ◌∷◌}
+use Rattle.std.specs.List.{filter_map, list_any, cons_option}
 use Rattle.std.specs.Option.{option_map}
 use Rattle.cell_types.specs.Texts.{all_station}
 use Rattle.cell_views.specs.Views.{plate_of}
 use Rattle.cell_types.specs.declared.words.Station.{Station}
 use Rattle.cell_types.specs.declared.words.Entry.{Entry}
-use Rattle.cell_types.specs.declared.words.Entry.TheVariants.{Delivered, Quarantined}
+use Rattle.cell_types.specs.declared.words.Entry.TheVariants.{Delivered, Quarantined, Reinstated}
+use Rattle.cell_views.specs.Last.{when}
 
 abbrev pub delivers : Entry → Option ℕ
 delivers (Delivered k) = Some k
@@ -20,9 +21,22 @@ abbrev pub clears : Entry → Option (ℕ × Station)
 clears (Quarantined k src) = Some (k, src)
 clears _ = None
 
--- the cleared plates, each with the station from which it was taken
+-- whether an entry clears plate k, or lays it back
+abbrev pub ends_waiting : ℕ → Entry → Bool
+ends_waiting k (Quarantined j src) = j == k
+ends_waiting k (Reinstated j) = j == k
+ends_waiting k _ = false
+
+-- a cleared plate that none of these later entries clears again or lays back
+abbrev pub still_waiting : Option (ℕ × Station) → List Entry → Option (ℕ × Station)
+still_waiting (Some p) later = when (not (list_any (ends_waiting p.0) later)) p
+still_waiting None later = None
+
+-- the plates that were cleared and not laid back, in the order of their last clearing, each with the station from which it
+-- was taken then
 abbrev pub quarantine_of : List Entry → List (ℕ × Station)
-quarantine_of J = filter_map clears J
+quarantine_of [] = []
+quarantine_of (e ∷ later) = cons_option (still_waiting (clears e) later) (quarantine_of later)
 
 -- a station with its plate, if it has one
 abbrev pub plate_with : (Station → Option ℕ) → Station → Option (Station × ℕ)

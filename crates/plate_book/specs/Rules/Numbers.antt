@@ -1,7 +1,7 @@
 -- The one order of the refusals: each has a number, and the tests of an entry stand in the order of their refusals
 use Rattle.std.specs.Prelude.{ℕ, Bool, ◌&&◌, nat_le, List, [], ◌∷◌}
 use Rattle.plate_book.specs.declared.refusal.Refusal.{Refusal}
-use Rattle.plate_book.specs.declared.refusal.Refusal.TheVariants.{JournalFull, PlateLimit, MachineFailed, MachineHealthy, OwnerFailed, WrongPose, ZoneTaken, NotHolder, NotNeighbour, StationEmpty, StationFull, WrongPlate, LampRed, LampAlready, NoPress, AlreadyAsked, PlateStillThere, OutOfMemory}
+use Rattle.plate_book.specs.declared.refusal.Refusal.TheVariants.{JournalFull, PlateLimit, MachineFailed, MachineHealthy, OwnerFailed, WrongPose, ZoneTaken, NotHolder, NotNeighbour, StationEmpty, StationFull, WrongPlate, LampRed, LampAlready, NoPress, AlreadyAsked, PlateStillThere, PlateExpected, NotReturnable, OutOfMemory}
 
 abbrev pub refusal_number : Refusal → ℕ
 refusal_number JournalFull = 1
@@ -21,9 +21,11 @@ refusal_number (LampAlready b) = 14
 refusal_number NoPress = 15
 refusal_number (AlreadyAsked m) = 16
 refusal_number (PlateStillThere s) = 17
-refusal_number OutOfMemory = 18
+refusal_number PlateExpected = 19
+refusal_number NotReturnable = 20
+refusal_number OutOfMemory = 21
 
--- the tests' refusals have numbers from n to 17, none below the one before it
+-- the tests' refusals have numbers from n to 20, none below the one before it; want of memory comes after them all
 abbrev pub ascends_from : ℕ → List (Bool × Refusal) → Bool
-ascends_from n [] = nat_le n 17
+ascends_from n [] = nat_le n 20
 ascends_from n (t ∷ ts) = nat_le n (refusal_number t.1) && ascends_from (refusal_number t.1) ts

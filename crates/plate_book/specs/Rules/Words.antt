@@ -4,7 +4,7 @@ use Rattle.cell_types.specs.Texts.{machine_word, axis_word, zone_word, station_w
 use Rattle.plate_book.specs.declared.open_error.OpenError.{OpenError}
 use Rattle.plate_book.specs.declared.open_error.OpenError.TheVariants as opening
 use Rattle.plate_book.specs.declared.refusal.Refusal.{Refusal}
-use Rattle.plate_book.specs.declared.refusal.Refusal.TheVariants.{JournalFull, PlateLimit, MachineFailed, MachineHealthy, OwnerFailed, WrongPose, ZoneTaken, NotHolder, NotNeighbour, StationEmpty, StationFull, WrongPlate, LampRed, LampAlready, NoPress, AlreadyAsked, PlateStillThere, OutOfMemory}
+use Rattle.plate_book.specs.declared.refusal.Refusal.TheVariants.{JournalFull, PlateLimit, MachineFailed, MachineHealthy, OwnerFailed, WrongPose, ZoneTaken, NotHolder, NotNeighbour, StationEmpty, StationFull, WrongPlate, LampRed, LampAlready, NoPress, AlreadyAsked, PlateStillThere, PlateExpected, NotReturnable, OutOfMemory}
 
 abbrev pub refusal_name : Refusal → List ℕ
 refusal_name JournalFull = codes "JournalFull"
@@ -24,6 +24,8 @@ refusal_name (LampAlready b) = codes "LampAlready"
 refusal_name NoPress = codes "NoPress"
 refusal_name (AlreadyAsked m) = codes "AlreadyAsked"
 refusal_name (PlateStillThere s) = codes "PlateStillThere"
+refusal_name PlateExpected = codes "PlateExpected"
+refusal_name NotReturnable = codes "NotReturnable"
 refusal_name OutOfMemory = codes "OutOfMemory"
 
 abbrev pub refusal_word : Refusal → Option (List ℕ)

@@ -1,0 +1,201 @@
+//! Worked examples: a plate that was cleared is expected at FeedIn, and laid back there.
+use crate::book::answer;
+use cell_samples::{LAID_BACK, ONE_PLATE, begun, book_all, entry_of};
+use cell_types::{Belt, Colour, Place, PlateId, Station};
+use plate_book::{Book, Records, Refusal};
+use std::alloc::Global;
+use std::process::Abort;
+
+// A book with the first entries of the journal of a plate that is laid back, and these besides.
+fn laid_back(rt: &impl Abort, alloc: Global, count: usize, records: &[&str]) -> Book {
+    let Ok(mut book) = Book::new(alloc, 100, 10) else {
+        panic!(rt; "the limits are in range, and there is memory");
+    };
+    assert_eq!(rt; book_all(&mut book, &LAID_BACK[..count.min(13)]), Ok(()));
+    assert_eq!(rt; book_all(&mut book, records), Ok(()));
+    book
+}
+
+// The plates of these numbers were cleared from these stations, in this order.
+fn quarantine_is(rt: &impl Abort, book: &Book, wanted: &[(u32, Station)]) {
+    let quarantine = book.quarantine();
+    assert_eq!(rt; quarantine.len(), wanted.len());
+    for place in 0..wanted.len() {
+        match quarantine.get_index(place) {
+            Some((plate, station)) => {
+                assert_eq!(rt; (plate.number(), *station), wanted[place]);
+            }
+            None => panic!(rt; "a plate is at each place"),
+        }
+    }
+}
+
+#[test]
+fn a_cleared_plate_is_expected_and_laid_back(rt: HostRuntime) {
+    for (count, record, wanted) in [
+        (10, "expected,1,,", Ok(())),
+        (10, "expected,2,,", Err(Refusal::WrongPlate)),
+        (10, "expected,100000,,", Err(Refusal::WrongPlate)),
+        (11, "expected,1,,", Err(Refusal::PlateExpected)),
+        (11, "admitted,2,,", Err(Refusal::LampRed(Belt::Feed))),
+        (11, "reinstated,1,,", Err(Refusal::LampRed(Belt::Feed))),
+        (11, "lamp,feed,green,", Ok(())),
+        (12, "admitted,2,,", Err(Refusal::PlateExpected)),
+        (12, "expected,1,,", Err(Refusal::LampAlready(Belt::Feed))),
+        (12, "reinstated,2,,", Err(Refusal::WrongPlate)),
+        (12, "reinstated,1,,", Ok(())),
+        (13, "reinstated,1,,", Err(Refusal::WrongPlate)),
+        (13, "expected,1,,", Err(Refusal::WrongPlate)),
+        (13, "admitted,2,,", Err(Refusal::LampRed(Belt::Feed))),
+    ] {
+        let records = &LAID_BACK[7..count];
+        let given = answer(&rt, rt.alloc(), 7, records, record);
+        assert!(rt; given == wanted, "after {count}: {record}");
+    }
+}
+
+#[test]
+fn a_plate_cleared_from_a_press_is_not_laid_back(rt: HostRuntime) {
+    let cleared: &[&str] = &[
+        "declared,press1,missing_motion,",
+        "quarantined,1,press1,",
+        "repaired,press1,,",
+    ];
+    let given = answer(&rt, rt.alloc(), 34, cleared, "expected,1,,");
+    assert!(rt; given == Err(Refusal::NotReturnable));
+}
+
+// Each station on which a plate can stand before a press, and the entries that clear one from it; and then the others.
+#[test]
+fn a_plate_is_laid_back_from_before_a_press_alone(rt: HostRuntime) {
+    let feed_in: &[&str] = &["declared,feed,silent,", "quarantined,1,feed_in,"];
+    let feed_end: &[&str] = &["declared,feed,silent,", "quarantined,1,feed_end,"];
+    let first_arm: &[&str] = &["declared,robot,silent,", "quarantined,1,arm1,"];
+    let press: &[&str] = &["declared,press1,silent,", "quarantined,1,press1,"];
+    let second_arm: &[&str] = &["declared,robot,silent,", "quarantined,1,arm2,"];
+    let dep_in: &[&str] = &["declared,deposit,silent,", "quarantined,1,dep_in,"];
+    let dep_end: &[&str] = &["declared,deposit,silent,", "quarantined,1,dep_end,"];
+    let refused = Err(Refusal::NotReturnable);
+    for (count, records, wanted) in [
+        (2, feed_in, Ok(())),
+        (4, feed_end, Ok(())),
+        (20, first_arm, Ok(())),
+        (32, press, refused),
+        (44, second_arm, refused),
+        (56, dep_in, refused),
+        (59, dep_end, refused),
+    ] {
+        let given = answer(&rt, rt.alloc(), count, records, "expected,1,,");
+        assert!(rt; given == wanted, "after {count}");
+    }
+}
+
+#[test]
+fn the_book_tells_a_plate_that_is_laid_back(rt: HostRuntime) {
+    let first = PlateId::new(1).expect(&rt, "a plate's number");
+    for (count, expected) in [(10, None), (11, Some(first)), (12, Some(first)), (13, None)] {
+        let book = laid_back(&rt, rt.alloc(), count, &[]);
+        assert_eq!(rt; book.expected(), expected, "after {count}");
+    }
+    let book = laid_back(&rt, rt.alloc(), 12, &[]);
+    assert_eq!(rt; book.place(first), Place::Quarantine);
+    quarantine_is(&rt, &book, &[(1, Station::Table)]);
+    let book = laid_back(&rt, rt.alloc(), 13, &[]);
+    assert!(rt; book.journal().len() == 13);
+    assert_eq!(rt; book.place(first), Place::At(Station::FeedIn));
+    assert_eq!(rt; book.plate_at(Station::FeedIn), Some(first));
+    assert!(rt; book.on_stations().as_slice() == [(Station::FeedIn, first)].as_slice());
+    quarantine_is(&rt, &book, &[]);
+    assert_eq!(rt; book.lamp(Belt::Feed), Colour::Red);
+    let totals = book.totals();
+    assert_eq!(rt;
+        [totals.admitted, totals.quarantined, totals.reinstated],
+        [1, 1, 1]
+    );
+}
+
+// A plate that was laid back may be cleared and expected once more. The total counts each clearing.
+#[test]
+fn a_plate_is_cleared_again(rt: HostRuntime) {
+    let again: &[&str] = &["declared,feed,operator_stop,", "quarantined,1,feed_in,"];
+    let mut book = laid_back(&rt, rt.alloc(), 13, again);
+    quarantine_is(&rt, &book, &[(1, Station::FeedIn)]);
+    let totals = book.totals();
+    assert_eq!(rt; [totals.quarantined, totals.reinstated], [2, 1]);
+    assert_eq!(rt; book_all(&mut book, &["expected,1,,"]), Ok(()));
+    assert!(rt; book.journal().len() == 16);
+    assert_eq!(rt; book.expected(), PlateId::new(1));
+}
+
+// Books a plate that is laid in and cleared from FeedIn.
+fn clear_one(rt: &impl Abort, book: &mut Book, admitted: &'static str, cleared: &'static str) {
+    let records = [
+        "lamp,feed,green,",
+        admitted,
+        "declared,feed,silent,",
+        cleared,
+        "repaired,feed,,",
+    ];
+    assert_eq!(rt; book_all(book, &records), Ok(()));
+}
+
+// The quarantine is in the order of the last clearings, whichever plate leaves it.
+#[test]
+fn the_quarantine_keeps_its_order(rt: HostRuntime) {
+    let Ok(mut book) = Book::new(rt.alloc(), 100, 10) else {
+        panic!(rt; "the limits are in range, and there is memory");
+    };
+    clear_one(&rt, &mut book, "admitted,1,,", "quarantined,1,feed_in,");
+    clear_one(&rt, &mut book, "admitted,2,,", "quarantined,2,feed_in,");
+    clear_one(&rt, &mut book, "admitted,3,,", "quarantined,3,feed_in,");
+    let laid_back = ["expected,1,,", "lamp,feed,green,", "reinstated,1,,"];
+    assert_eq!(rt; book_all(&mut book, &laid_back), Ok(()));
+    assert!(rt; book.journal().len() == 18);
+    quarantine_is(&rt, &book, &[(2, Station::FeedIn), (3, Station::FeedIn)]);
+    let cleared = ["declared,feed,silent,", "quarantined,1,feed_in,"];
+    assert_eq!(rt; book_all(&mut book, &cleared), Ok(()));
+    let last = [
+        (2, Station::FeedIn),
+        (3, Station::FeedIn),
+        (1, Station::FeedIn),
+    ];
+    quarantine_is(&rt, &book, &last);
+}
+
+#[test]
+fn records_tell_a_plate_that_is_laid_back(rt: HostRuntime) {
+    let Ok(mut records) = Records::new(rt.alloc(), 100, 10) else {
+        panic!(rt; "the limits are in range, and there is memory");
+    };
+    let first = PlateId::new(1).expect(&rt, "a plate's number");
+    for (place, record) in LAID_BACK.iter().enumerate() {
+        let given = records.apply(entry_of(record).expect(&rt, record));
+        assert!(rt; given == Ok(()), "{record}");
+        let expected = if place == 10 || place == 11 {
+            Some(first)
+        } else {
+            None
+        };
+        assert_eq!(rt; records.expected(), expected, "{record}");
+    }
+    assert!(rt; records.quarantine().is_empty());
+    assert_eq!(rt; records.place(first), Place::At(Station::FeedIn));
+    assert_eq!(rt; records.totals().reinstated, 1);
+}
+
+// A plate that is laid back goes the way of a new one, and is forged and delivered once.
+#[test]
+fn a_plate_that_was_laid_back_is_delivered(rt: HostRuntime) {
+    let repaired: &[&str] = &["repaired,table,,"];
+    let mut book = laid_back(&rt, rt.alloc(), 13, repaired);
+    assert_eq!(rt; book_all(&mut book, &ONE_PLATE[2..]), Ok(()));
+    let totals = book.totals();
+    assert_eq!(rt;
+        [totals.admitted, totals.forged, totals.delivered],
+        [1, 1, 1]
+    );
+    let Ok(whole) = begun(rt.alloc(), 100, 10, 62) else {
+        panic!(rt; "the entries are allowed, and there is memory");
+    };
+    assert!(rt; book.delivered() == whole.delivered());
+}
