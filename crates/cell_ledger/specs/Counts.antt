@@ -5,7 +5,7 @@ use Rattle.cell_types.specs.declared.words.Entry.{Entry}
 use Rattle.cell_views.specs.Views.{count_of}
 
 abbrev pub nothing : Totals
-nothing = record { entries = 0; admitted = 0; forged = 0; quarantined = 0; delivered = 0 }
+nothing = record { entries = 0; admitted = 0; forged = 0; quarantined = 0; delivered = 0; reinstated = 0 }
 
 abbrev pub plus : Totals → Totals → Totals
 plus a b =
@@ -15,6 +15,7 @@ plus a b =
       forged = a.forged + b.forged;
       quarantined = a.quarantined + b.quarantined;
       delivered = a.delivered + b.delivered;
+      reinstated = a.reinstated + b.reinstated;
     }
 
 -- what one entry counts
@@ -28,6 +29,7 @@ pub record AreCounts (t : Totals) : Type 0 where
   pub forged : t.forged < 2 ^ 32
   pub quarantined : t.quarantined < 2 ^ 32
   pub delivered : t.delivered < 2 ^ 32
+  pub reinstated : t.reinstated < 2 ^ 32
 
 -- no count of a passes that of b
 pub record AreWithin (a b : Totals) : Type 0 where
@@ -36,3 +38,4 @@ pub record AreWithin (a b : Totals) : Type 0 where
   pub forged : a.forged ≤ b.forged
   pub quarantined : a.quarantined ≤ b.quarantined
   pub delivered : a.delivered ≤ b.delivered
+  pub reinstated : a.reinstated ≤ b.reinstated

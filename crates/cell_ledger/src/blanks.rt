@@ -1,9 +1,9 @@
-//! Five new ledgers.
+//! Six new ledgers.
 ghost use Rattle.cell_ledger.specs.New.{HaveParts};
 
 use std::sync::ledger::Blank;
 
-/// Five new ledgers, which no run has yet.
+/// Six new ledgers, which no run has yet.
 #[derive(Drop)]
 pub struct Blanks {
     pub entries: Blank,
@@ -11,10 +11,11 @@ pub struct Blanks {
     pub forged: Blank,
     pub quarantined: Blank,
     pub delivered: Blank,
+    pub reinstated: Blank,
 }
 
 impl Blanks {
-    /// Five ledgers of this many parts each.
+    /// Six ledgers of this many parts each.
     pub fn new(parts: u64) -> Blanks
         ensures { HaveParts parts result }
     {
@@ -24,6 +25,7 @@ impl Blanks {
             forged: Blank::new(parts),
             quarantined: Blank::new(parts),
             delivered: Blank::new(parts),
+            reinstated: Blank::new(parts),
         }
     }
 }

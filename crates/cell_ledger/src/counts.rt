@@ -10,6 +10,7 @@ pub const NOTHING: Totals = Totals {
     forged: 0,
     quarantined: 0,
     delivered: 0,
+    reinstated: 0,
 };
 
 /// Adds counts to others.
@@ -22,6 +23,7 @@ pub fn grow(counts: &mut Totals, more: &Totals)
     counts.forged += more.forged;
     counts.quarantined += more.quarantined;
     counts.delivered += more.delivered;
+    counts.reinstated += more.reinstated;
 }
 
 /// What one entry counts.
@@ -41,6 +43,10 @@ pub fn count_one(entry: &Entry) -> Totals
         },
         Entry::Delivered { .. } => Totals {
             delivered: 1,
+            ..one
+        },
+        Entry::Reinstated { .. } => Totals {
+            reinstated: 1,
             ..one
         },
         _ => one,

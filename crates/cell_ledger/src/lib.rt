@@ -1,12 +1,12 @@
-//! The plate book tied to five ledgers, which count across threads, and the shares that count beside it.
+//! The plate book tied to six ledgers, which count across threads, and the shares that count beside it.
 #![tactic(auto)]
 
 pub mod blanks;
 mod counts;
-mod five;
 pub mod kept;
 pub mod run;
 pub mod shares;
+mod six;
 
 pub use blanks::Blanks;
 pub use kept::Kept;

@@ -1,8 +1,8 @@
-//! One run of the cell, which has five ledgers.
+//! One run of the cell, which has six ledgers.
 use std::marker::{Brand, PhantomData};
 use std::sync::ledger::Ledger;
 
-/// One run, which has five ledgers of equally many parts and a book with certain limits. It is a type alone: values that
+/// One run, which has six ledgers of equally many parts and a book with certain limits. It is a type alone: values that
 /// name the same run belong together. A caller picks what it stands for where it passes `Brand`.
 pub trait Run {
     ghost use Rattle.std.specs.Prelude.{ℕ};
@@ -23,6 +23,8 @@ pub trait Run {
     ghost quarantined_name: { ℕ };
 
     ghost delivered_name: { ℕ };
+
+    ghost reinstated_name: { ℕ };
 }
 
 impl Run for Brand {
@@ -39,6 +41,8 @@ impl Run for Brand {
     ghost quarantined_name = { 0 };
 
     ghost delivered_name = { 0 };
+
+    ghost reinstated_name = { 0 };
 }
 
 /// The run's ledger of all entries.
@@ -82,6 +86,15 @@ pub struct DeliveredOf<R>(PhantomData<R>);
 
 impl<R: Run> Ledger for DeliveredOf<R> {
     ghost name = { R.delivered_name };
+
+    ghost parts = { R.parts };
+}
+
+/// The run's ledger of plates laid back.
+pub struct ReinstatedOf<R>(PhantomData<R>);
+
+impl<R: Run> Ledger for ReinstatedOf<R> {
+    ghost name = { R.reinstated_name };
 
     ghost parts = { R.parts };
 }

@@ -1,19 +1,19 @@
-//! Shares of the five ledgers.
+//! Shares of the six ledgers.
 ghost use Rattle.std.specs.Prelude.{◌≡◌, ◌≤◌, ◌+◌, ◌-◌};
 ghost use Rattle.cell_ledger.specs.Counts.{nothing, plus, AreCounts};
 ghost use Rattle.cell_ledger.specs.Held.{held};
 
 use crate::Run;
 use crate::counts::{NOTHING, grow};
-use crate::five::FiveShares;
+use crate::six::SixShares;
 use cell_types::Totals;
 use std::marker::Model;
 
-/// Some parts of each of a run's five ledgers, and what they count.
+/// Some parts of each of a run's six ledgers, and what they count.
 #[derive(Drop)]
 pub struct Shares<R: Run> {
     pub(crate) counted: Totals,
-    pub(crate) five: FiveShares<R>,
+    pub(crate) six: SixShares<R>,
 }
 
 impl<R: Run> Model for Shares<R> {
@@ -22,9 +22,9 @@ impl<R: Run> Model for Shares<R> {
 
     ghost Value = { Held };
 
-    ghost view = { λ s. s.five };
+    ghost view = { λ s. s.six };
 
-    ghost invariant = { λ s. s.five.counts ≡ s.counted };
+    ghost invariant = { λ s. s.six.counts ≡ s.counted };
 }
 
 impl<R: Run> Shares<R> {
@@ -41,12 +41,12 @@ impl<R: Run> Shares<R> {
         ensures first { result.0 ≡ held (self.parts - 1) self.counts }
         ensures second { result.1 ≡ held 1 nothing }
     {
-        let Shares { counted, mut five } = self;
+        let Shares { counted, mut six } = self;
         let one = Shares {
             counted: NOTHING,
-            five: five.split_one(),
+            six: six.split_one(),
         };
-        (Shares { counted, five }, one)
+        (Shares { counted, six }, one)
     }
 
     /// Puts two together: their parts and their counts add up. No count may pass `u32::MAX`, and both have to be of one
@@ -57,10 +57,10 @@ impl<R: Run> Shares<R> {
     {
         let Shares {
             mut counted,
-            mut five,
+            mut six,
         } = self;
-        five.merge(other.five);
+        six.merge(other.six);
         grow(&mut counted, &other.counted);
-        Shares { counted, five }
+        Shares { counted, six }
     }
 }

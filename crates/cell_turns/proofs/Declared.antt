@@ -14,7 +14,7 @@ use Rattle.cell_types.specs.declared.words.Cause.{Cause}
 use Rattle.cell_types.specs.declared.words.Cause.TheVariants as cause
 use Rattle.cell_types.specs.declared.words.Entry.{Entry}
 use Rattle.cell_types.specs.declared.words.Entry.TheVariants.{Admitted, Conveyed, Forged, Delivered, Declared}
-use Rattle.cell_views.specs.Views.{plate_of, is_failed, is_asked, is_admitted}
+use Rattle.cell_views.specs.Views.{plate_of, is_failed, is_asked, expected_of, is_admitted}
 use Rattle.cell_views.specs.Situations.{Situation, situation_of}
 use Rattle.plate_book.specs.declared.limits.BookLimits.{BookLimits}
 use Rattle.cell_diagnosis.specs.declared.motion.Motion.{Motion}
@@ -32,7 +32,7 @@ use Rattle.cell_turns.specs.declared.watch.Memory.{Memory}
 use Rattle.cell_turns.specs.declared.watch.Watch.{Watch}
 use Rattle.cell_turns.specs.Minds.{Mind, FitsMind, has_failed_command}
 use Rattle.cell_turns.specs.Observed.{axis_noted, rest_noted, findings}
-use Rattle.cell_turns.specs.Rulings.{ending, books, signed, ruling_by, ruling}
+use Rattle.cell_turns.specs.Rulings.{ending, laid_in, books, signed, ruling_by, ruling}
 use Rattle.cell_turns.specs.Turns.{IsRuled, IsDecided}
 use Rattle.cell_turns.specs.declared.turns.decide.Findings.{Findings}
 use Rattle.cell_turns.proofs.Minds.{of_some}
@@ -72,12 +72,16 @@ of_next : (k : ℕ) (b : Bool) → FaultRuling false (if b then PastLast else Bo
 of_next k true = tt
 of_next k false = refl
 
+of_laid_in : (o : Option ℕ) (k : ℕ) → FaultRuling false (laid_in o k)
+of_laid_in None k = of_next k (nat_lt 100000 k)
+of_laid_in (Some j) k = refl
+
 of_delivered : (o : Option ℕ) → FaultRuling false (books (option_map (λ k. Delivered k) o))
 of_delivered None = refl
 of_delivered (Some k) = refl
 
 of_signed : (J : List Entry) (m : Machine) → FaultRuling false (signed J m)
-of_signed J machine.Feed = of_next (count_by is_admitted J + 1) (nat_lt 100000 (count_by is_admitted J + 1))
+of_signed J machine.Feed = of_laid_in (expected_of J) (count_by is_admitted J + 1)
 of_signed J machine.Deposit = of_delivered (plate_of J station.DepEnd)
 of_signed J machine.Table = refl
 of_signed J machine.Robot = refl

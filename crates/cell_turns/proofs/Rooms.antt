@@ -20,13 +20,13 @@ use Rattle.cell_types.specs.declared.words.Cause.{Cause}
 use Rattle.cell_types.specs.declared.words.Cause.TheVariants as cause
 use Rattle.cell_types.specs.declared.words.Actor.TheVariants as actor
 use Rattle.cell_types.specs.declared.words.Entry.{Entry}
-use Rattle.cell_types.specs.declared.words.Entry.TheVariants.{Admitted, Arrived as ArrivedAt, Conveyed, Forged, Delivered, Declared, Quarantined}
+use Rattle.cell_types.specs.declared.words.Entry.TheVariants.{Admitted, Arrived as ArrivedAt, Conveyed, Forged, Delivered, Declared, Quarantined, Reinstated}
 use Rattle.cell_types.specs.declared.cell.BeltMotion.{BeltMotion}
 use Rattle.cell_types.specs.Cell.{machine_of_axis, axes_of, motion_to}
 use Rattle.cell_types.specs.Entries.{actor_of}
 use Rattle.cell_types.specs.Same.{same_pose, pose_number, same_colour}
 use Rattle.cell_types.specs.After.{is_plate}
-use Rattle.cell_views.specs.Views.{at_of, going_of, plate_of, is_at, has_other, is_failed, is_asked, lamp_of, is_admitted, is_quarantined}
+use Rattle.cell_views.specs.Views.{at_of, going_of, plate_of, is_at, has_other, is_failed, is_asked, lamp_of, expected_of, is_admitted, is_quarantined}
 use Rattle.cell_views.specs.Situations.{Situation, situation_of}
 use Rattle.plate_book.specs.declared.limits.BookLimits.{BookLimits}
 use Rattle.plate_book.specs.declared.refusal.Refusal.{Refusal}
@@ -41,7 +41,7 @@ use Rattle.cell_turns.specs.declared.plan.Plan.{Plan}
 use Rattle.cell_turns.specs.declared.turns.decide.Ruling.{Ruling}
 use Rattle.cell_turns.specs.declared.turns.decide.Ruling.TheVariants.{Nothing, Books, PastLast, Proposes}
 use Rattle.cell_turns.specs.Moving.{limits_of, motion_on, motion_of_axis, motion_of_machine}
-use Rattle.cell_turns.specs.Rulings.{conveyed, forged, ending, next_plate, books, signed, ruling_by, ruling}
+use Rattle.cell_turns.specs.Rulings.{conveyed, forged, ending, next_plate, laid_in, books, signed, ruling_by, ruling}
 use Rattle.cell_diagnosis.specs.declared.reading.Reading.{Reading}
 use Rattle.cell_diagnosis.specs.Readings.{bit}
 use Rattle.cell_machines.specs.Useful.{is_useful}
@@ -235,8 +235,8 @@ not_red : (c : Colour) → same_colour c colour.Green ≡ true → same_colour c
 not_red colour.Red h = cc
 not_red colour.Green h = refl
 
-own_next : (l : BookLimits) (J : List Entry) → is_failed J machine.Feed ≡ false → same_colour (lamp_of J belt.Feed) colour.Green ≡ true → OwnRuling l J machine.Feed (next_plate (count_by is_admitted J + 1))
-own_next l J healthy lit = go (nat_lt 100000 (count_by is_admitted J + 1))
+own_next : (l : BookLimits) (J : List Entry) → is_failed J machine.Feed ≡ false → same_colour (lamp_of J belt.Feed) colour.Green ≡ true → expected_of J ≡ None → OwnRuling l J machine.Feed (next_plate (count_by is_admitted J + 1))
+own_next l J healthy lit none = go (nat_lt 100000 (count_by is_admitted J + 1))
   where
     k : ℕ
     k = count_by is_admitted J + 1
@@ -245,12 +245,26 @@ own_next l J healthy lit = go (nat_lt 100000 (count_by is_admitted J + 1))
     go true = tt
     go false = record {
       by = refl;
-      room = full_then _ (Admitted k) _ (limit_then k _ _ (skip _ _ (Admitted k) _ healthy (skip _ _ (Admitted k) _ (ap not (eq-eqb k k refl)) (skip _ _ (Admitted k) _ (not_red (lamp_of J belt.Feed) lit) (none_left (Admitted k))))));
+      room = full_then _ (Admitted k) _ (limit_then k _ _ (skip _ _ (Admitted k) _ healthy (skip _ _ (Admitted k) _ (ap not (eq-eqb k k refl)) (skip _ _ (Admitted k) _ (not_red (lamp_of J belt.Feed) lit) (skip _ _ (Admitted k) _ (ap is_some none) (none_left (Admitted k)))))));
       plain = refl;
     }
 
+own_back : (l : BookLimits) (J : List Entry) (k : ℕ) → is_failed J machine.Feed ≡ false → same_colour (lamp_of J belt.Feed) colour.Green ≡ true → expected_of J ≡ Some k → IsOwn l J machine.Feed (Reinstated k)
+own_back l J k healthy lit some = record {
+  by = refl;
+  room = full_then _ (Reinstated k) _ (skip _ _ (Reinstated k) _ healthy (skip _ _ (Reinstated k) _ (ap (λ (o : Option ℕ). not (is_plate k o)) some ∙ ap not (eq-eqb k k refl)) (skip _ _ (Reinstated k) _ (not_red (lamp_of J belt.Feed) lit) (none_left (Reinstated k)))));
+  plain = refl;
+}
+
+own_laid_in : (l : BookLimits) (J : List Entry) → is_failed J machine.Feed ≡ false → same_colour (lamp_of J belt.Feed) colour.Green ≡ true → OwnRuling l J machine.Feed (laid_in (expected_of J) (count_by is_admitted J + 1))
+own_laid_in l J healthy lit = go (expected_of J) refl
+  where
+    go : (o : Option ℕ) → expected_of J ≡ o → OwnRuling l J machine.Feed (laid_in o (count_by is_admitted J + 1))
+    go None is = own_next l J healthy lit is
+    go (Some k) is = own_back l J k healthy lit is
+
 own_signed : (l : BookLimits) (J : List Entry) (m : Machine) → is_failed J m ≡ false → IsLit J m → TellsWhatIsLeft J → OwnRuling l J m (signed J m)
-own_signed l J machine.Feed healthy lit told = own_next l J healthy lit
+own_signed l J machine.Feed healthy lit told = own_laid_in l J healthy lit
 own_signed l J machine.Deposit healthy lit told = go (plate_of J station.DepEnd) refl
   where
     go : (o : Option ℕ) → plate_of J station.DepEnd ≡ o → OwnRuling l J machine.Deposit (books (option_map (λ k. Delivered k) o))

@@ -14,7 +14,7 @@ use Rattle.cell_types.specs.declared.words.Totals.{Totals}
 use Rattle.cell_types.specs.declared.words.Entry.{Entry}
 use Rattle.cell_types.specs.Entries.{actor_of}
 use Rattle.cell_types.specs.Same.{same_machine}
-use Rattle.cell_views.specs.Views.{is_admitted, is_forged, is_quarantined, is_delivered, count_of}
+use Rattle.cell_views.specs.Views.{is_admitted, is_forged, is_quarantined, is_delivered, is_reinstated, count_of}
 use Rattle.plate_book.specs.declared.limits.BookLimits.{BookLimits}
 use Rattle.plate_book.specs.Rules.History.{History}
 use Rattle.plate_book.specs.Rules.Legal.{first_of}
@@ -170,6 +170,7 @@ plus_more c es fs = λ i. record {
   forged = more c.forged (count_by is_forged es) (count_by is_forged fs) (count_by is_forged (es ++ fs)) (counted is_forged es fs) i;
   quarantined = more c.quarantined (count_by is_quarantined es) (count_by is_quarantined fs) (count_by is_quarantined (es ++ fs)) (counted is_quarantined es fs) i;
   delivered = more c.delivered (count_by is_delivered es) (count_by is_delivered fs) (count_by is_delivered (es ++ fs)) (counted is_delivered es fs) i;
+  reinstated = more c.reinstated (count_by is_reinstated es) (count_by is_reinstated fs) (count_by is_reinstated (es ++ fs)) (counted is_reinstated es fs) i;
 }
   where
     more : (a b d n : ℕ) → n ≡ b + d → (a + b) + d ≡ a + n
@@ -277,6 +278,7 @@ plus_none c = λ i. record {
   forged = sym (add-zero c.forged) i;
   quarantined = sym (add-zero c.quarantined) i;
   delivered = sym (add-zero c.delivered) i;
+  reinstated = sym (add-zero c.reinstated) i;
 }
 
 pub grown_start : (before : History) (h : Held) (machines : Six (List Entry)) (operator : List Entry) → ((m : Machine) → at machines m ≡ []) → operator ≡ [] → Grown before before h h machines operator

@@ -11,14 +11,14 @@ use Rattle.cell_types.specs.declared.words.Pose.TheVariants as pose
 use Rattle.cell_types.specs.declared.words.Cause.{Cause}
 use Rattle.cell_types.specs.declared.words.Cause.TheVariants as cause
 use Rattle.cell_types.specs.declared.words.Entry.{Entry}
-use Rattle.cell_types.specs.declared.words.Entry.TheVariants.{Admitted, Arrived as ArrivedAt, Conveyed, Forged, Delivered, Declared}
+use Rattle.cell_types.specs.declared.words.Entry.TheVariants.{Admitted, Arrived as ArrivedAt, Conveyed, Forged, Delivered, Declared, Reinstated}
 use Rattle.cell_types.specs.declared.cell.BeltMotion.{BeltMotion}
 use Rattle.cell_types.specs.declared.cell.Press.{Press}
 use Rattle.cell_types.specs.Cell.{home, machine_of_axis, motion_named, press_of}
 use Rattle.cell_types.specs.Limits.{max_plates}
 use Rattle.cell_types.specs.Same.{same_pose}
 use Rattle.cell_views.specs.Last.{when}
-use Rattle.cell_views.specs.Views.{is_failed, is_asked, is_admitted, plate_of}
+use Rattle.cell_views.specs.Views.{is_failed, is_asked, is_admitted, plate_of, expected_of}
 use Rattle.cell_diagnosis.specs.declared.motion.Motion.{Motion}
 use Rattle.cell_diagnosis.specs.declared.reading.Reading.{Reading}
 use Rattle.cell_diagnosis.specs.declared.verdict.Verdict.{Verdict}
@@ -52,16 +52,21 @@ ended J a to None None = arrived a to
 abbrev pub ending : List Entry → Axis → Pose → Option Entry
 ending J a to = ended J a to (motion_named a to) (press_of (machine_of_axis a))
 
--- what is booked where a sign was seen: the next plate, whose number is at most the greatest, or the delivery of the one at DepEnd
+-- what is booked where a sign was seen: the expected plate, laid back, or the next one, whose number is at most the greatest;
+-- or the delivery of the plate at DepEnd
 abbrev pub next_plate : ℕ → Ruling
 next_plate k = if nat_lt max_plates k then PastLast else Books (Admitted k)
+
+abbrev pub laid_in : Option ℕ → ℕ → Ruling
+laid_in (Some k) next = Books (Reinstated k)
+laid_in None next = next_plate next
 
 abbrev pub books : Option Entry → Ruling
 books (Some e) = Books e
 books None = Proposes
 
 abbrev pub signed : List Entry → Machine → Ruling
-signed J machine.Feed = next_plate (count_by is_admitted J + 1)
+signed J machine.Feed = laid_in (expected_of J) (count_by is_admitted J + 1)
 signed J machine.Deposit = books (option_map (λ k. Delivered k) (plate_of J station.DepEnd))
 signed J _ = Proposes
 

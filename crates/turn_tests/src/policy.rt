@@ -1,7 +1,8 @@
 //! Worked examples: which press is chosen along the journal of one plate, and which lights are wanted.
 use cell_policy::{choose_press, deposit_light_wanted, feed_light_wanted};
-use cell_samples::{begun, book_all};
+use cell_samples::{LAID_BACK, begun, book_all};
 use cell_types::{Colour, Machine};
+use plate_book::Book;
 
 #[test]
 fn a_press_is_chosen(rt: HostRuntime) {
@@ -56,5 +57,30 @@ fn lights_are_wanted(rt: HostRuntime) {
             deposit_light_wanted(&book) == deposit,
             "deposit after {count}"
         );
+    }
+}
+
+// A plate that is expected may be laid in though as many were admitted as are planned, where the belt is empty and healthy.
+#[test]
+fn a_light_is_wanted_for_a_plate_that_is_expected(rt: HostRuntime) {
+    let none: &[&str] = &[];
+    let failed: &[&str] = &["declared,feed,silent,"];
+    for (count, records, plan, wanted) in [
+        (10, none, 1, Colour::Red),
+        (10, none, 2, Colour::Green),
+        (11, none, 1, Colour::Green),
+        (11, none, 2, Colour::Green),
+        (11, failed, 1, Colour::Red),
+        (12, none, 1, Colour::Green),
+        (13, none, 1, Colour::Red),
+        (13, none, 2, Colour::Red),
+    ] {
+        let Ok(mut book) = Book::new(rt.alloc(), 100, 10) else {
+            panic!(rt; "the limits are in range, and there is memory");
+        };
+        assert_eq!(rt; book_all(&mut book, &LAID_BACK[..count]), Ok(()));
+        assert_eq!(rt; book_all(&mut book, records), Ok(()));
+        let given = feed_light_wanted(&book, plan);
+        assert!(rt; given == wanted, "after {count} with {plan}");
     }
 }

@@ -7,7 +7,7 @@ mod schedules;
 
 use cell_diagnosis::{Limits, Reading};
 use cell_ledger::{Blanks, Kept, Run, Shares};
-use cell_samples::{Told, begun, book_all};
+use cell_samples::{LAID_BACK, Told, begun, book_all};
 use cell_turns::{Plan, TurnError, Watch, turn};
 use cell_types::{Belt, Colour, Command, Entry, Machine, read_fields};
 use plate_book::{Book, Refusal};
@@ -174,4 +174,23 @@ fn a_plate_is_admitted_at_the_second_reading_that_shows_it(rt: HostRuntime) {
     ];
     let length = length_after(&rt, book, Machine::Feed, &plan, 3, &turns);
     assert!(rt; length == 3);
+}
+
+// A plate that is expected is laid back at the second reading that shows it, though no plate is left to be admitted.
+#[test]
+fn a_plate_is_laid_back_at_the_second_reading_that_shows_it(rt: HostRuntime) {
+    let Ok(mut book) = Book::new(rt.alloc(), 100, 1) else {
+        panic!(rt; "the limits are in range, and there is memory");
+    };
+    assert_eq!(rt; book_all(&mut book, &LAID_BACK[..11]), Ok(()));
+    let plan = plan_of(&rt, 1);
+    let turns = [
+        (showing(0), Ok(Some(FEED_GREEN))),
+        (showing(1), Ok(None)),
+        (None, Ok(None)),
+        (showing(1), Ok(None)),
+        (showing(1), Ok(Some(Command::Lamp(Belt::Feed, Colour::Red)))),
+    ];
+    let length = length_after(&rt, book, Machine::Feed, &plan, 5, &turns);
+    assert!(rt; length == 13);
 }

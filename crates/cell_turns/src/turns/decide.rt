@@ -1,7 +1,7 @@
 //! The third step of a turn: what is decided, by the first of nine points that applies.
 ghost use Rattle.std.specs.Prelude.{◌≡◌, ◌+◌};
 ghost use Rattle.cell_types.specs.Same.{same_pose};
-ghost use Rattle.cell_turns.specs.Rulings.{forged, conveyed, arrived, ending, next_plate, books, signed, declares, ruling_by};
+ghost use Rattle.cell_turns.specs.Rulings.{forged, conveyed, arrived, ending, next_plate, laid_in, books, signed, declares, ruling_by};
 
 use crate::watch::Memory;
 use cell_diagnosis::{Motion, Verdict};
@@ -102,6 +102,16 @@ fn next_plate(admitted: u32) -> Ruling
     }
 }
 
+/// What is booked where a plate was laid in: the plate that is expected comes back, or else the next one is admitted.
+fn laid_in(expected: Option<PlateId>, admitted: u32) -> Ruling
+    ensures { result ≡ laid_in expected (admitted + 1) }
+{
+    match expected {
+        Some(plate) => Ruling::Books(Entry::Reinstated { plate }),
+        None => next_plate(admitted),
+    }
+}
+
 fn books(entry: Option<Entry>) -> Ruling
     ensures { result ≡ books entry }
 {
@@ -116,7 +126,7 @@ fn signed(book: &Book, machine: Machine) -> Ruling
     ensures { result ≡ signed book.now.entries machine }
 {
     match machine {
-        Machine::Feed => next_plate(book.totals().admitted),
+        Machine::Feed => laid_in(book.expected(), book.totals().admitted),
         Machine::Deposit => match book.plate_at(Station::DepEnd) {
             Some(plate) => Ruling::Books(Entry::Delivered { plate }),
             None => Ruling::Proposes,
@@ -139,7 +149,8 @@ fn declares(machine: Machine, cause: Cause) -> Ruling
 /// 5. The axis watch found a fault: `Declared` with it.
 /// 6. The rest watch found a fault: `Declared` with it.
 /// 7. The motion has ended: `Forged` for a press at Top, `Conveyed` for a belt, else `Arrived`.
-/// 8. This reading and the last one show a sign: `Admitted` with the next number, or `Delivered` of the plate at DepEnd.
+/// 8. This reading and the last one show a sign: `Reinstated` of the plate that is expected or, where none is, `Admitted`
+///    with the next number; or `Delivered` of the plate at DepEnd.
 /// 9. An entry is proposed.
 pub(crate) fn decide(book: &Book, machine: Machine, kept: &Memory, found: &Findings) -> Ruling
     ensures { result ≡ ruling_by book.now.entries machine kept.now found.now }

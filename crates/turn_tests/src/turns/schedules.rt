@@ -5,7 +5,7 @@ ghost use Rattle.cell_ledger.specs.New.{AreBlank};
 use crate::turns::{plan_of, showing, told_by};
 use cell_diagnosis::Reading;
 use cell_ledger::{Blanks, Kept, Run};
-use cell_samples::{begun, book_all, entry_of};
+use cell_samples::{LAID_BACK, begun, book_all, entry_of};
 use cell_turns::{Act, Plan, Ran, Six, Step, Watch, Watches, run_schedule};
 use cell_types::{Belt, Cause, Colour, Command, Entry, MACHINES, Machine, Station};
 use plate_book::Book;
@@ -334,6 +334,41 @@ fn a_plate_is_taken_out_by_hand(rt: HostRuntime) {
     let wanted = [Command::AllOff(Machine::Table)];
     assert!(rt; played.ports.table.sent() == Some(wanted.as_slice()));
     assert!(rt; played.book.totals().quarantined == 1);
+}
+
+// The operator says that the plate that he took out is laid back, which has no act, and it is shown twice.
+#[test]
+fn a_plate_is_laid_back(rt: HostRuntime) {
+    let Ok(mut book) = Book::new(rt.alloc(), 100, 10) else {
+        panic!(rt; "the limits are in range, and there is memory");
+    };
+    assert_eq!(rt; book_all(&mut book, &LAID_BACK[..10]), Ok(()));
+    let expected = entry_of("expected,1,,").expect(&rt, "a record");
+    let steps = [
+        Step::Hand(expected),
+        Step::Turn(Machine::Feed, showing(0)),
+        Step::Hand(expected),
+        Step::Turn(Machine::Feed, showing(1)),
+        Step::Turn(Machine::Feed, showing(1)),
+    ];
+    let played = play(
+        &rt,
+        rt.alloc(),
+        book,
+        &steps,
+        Failing::Never,
+        Failing::Never,
+    );
+    assert!(rt; played.ran.operator.as_slice() == [expected].as_slice());
+    assert!(rt; played.ran.refused == 0 && played.hands.asked() == 0);
+    let wanted = [
+        entry_of("lamp,feed,green,").expect(&rt, "a record"),
+        entry_of("reinstated,1,,").expect(&rt, "a record"),
+    ];
+    assert!(rt; played.ran.machines.feed.as_slice() == wanted.as_slice());
+    let wanted = [FEED_GREEN, FEED_RED];
+    assert!(rt; played.ports.feed.sent() == Some(wanted.as_slice()));
+    assert!(rt; played.book.totals().reinstated == 1 && played.book.quarantine().is_empty());
 }
 
 // A machine's watch.
