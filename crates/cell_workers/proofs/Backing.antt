@@ -13,10 +13,10 @@ use Rattle.cell_types.specs.declared.words.Pose.TheVariants as pose
 use Rattle.cell_types.specs.declared.words.Cause.{Cause}
 use Rattle.cell_types.specs.declared.words.Cause.TheVariants as cause
 use Rattle.cell_types.specs.declared.words.Entry.{Entry}
-use Rattle.cell_types.specs.declared.words.Entry.TheVariants.{Admitted, Arrived as ArrivedAt, Conveyed, Forged, Delivered, Declared}
+use Rattle.cell_types.specs.declared.words.Entry.TheVariants.{Admitted, Arrived as ArrivedAt, Conveyed, Forged, Delivered, Declared, Reinstated}
 use Rattle.cell_types.specs.declared.cell.BeltMotion.{BeltMotion}
 use Rattle.cell_types.specs.Cell.{press_axis, motion_to}
-use Rattle.cell_views.specs.Views.{plate_of, is_failed, is_asked, is_admitted}
+use Rattle.cell_views.specs.Views.{plate_of, is_failed, is_asked, expected_of, is_admitted}
 use Rattle.cell_views.specs.Situations.{Situation, situation_of}
 use Rattle.plate_book.specs.declared.limits.BookLimits.{BookLimits}
 use Rattle.cell_diagnosis.specs.declared.motion.Motion.{Motion}
@@ -38,7 +38,7 @@ use Rattle.cell_turns.specs.Moving.{motion_of_machine}
 use Rattle.cell_turns.specs.Following.{Following}
 use Rattle.cell_turns.specs.Minds.{Mind}
 use Rattle.cell_turns.specs.Observed.{axis_noted, axis_verdict, rest_noted, findings}
-use Rattle.cell_turns.specs.Rulings.{ending, books, signed, ruling_by, ruling}
+use Rattle.cell_turns.specs.Rulings.{ending, laid_in, books, signed, ruling_by, ruling}
 use Rattle.cell_turns.specs.Turns.{IsRuled, IsDecided, ends_motion, mind_after}
 use Rattle.cell_turns.proofs.Points.{by_sign, by_end, by_rest, by_axis, by_all}
 use Rattle.cell_workers.specs.Evidence.{ShowsArrival, ShowsFault, RestShows, SignShows, Backed}
@@ -101,6 +101,7 @@ needs_evidence (Conveyed a k dest) = true
 needs_evidence (Forged m k) = true
 needs_evidence (Admitted k) = true
 needs_evidence (Delivered k) = true
+needs_evidence (Reinstated k) = true
 needs_evidence (Declared m c) = true
 needs_evidence _ = false
 
@@ -111,6 +112,7 @@ unwanted_feed l c plan (Conveyed a k dest) h = refl
 unwanted_feed l c plan (Forged m k) h = refl
 unwanted_feed l c plan (Admitted k) h = refl
 unwanted_feed l c plan (Delivered k) h = refl
+unwanted_feed l c plan (Reinstated k) h = refl
 unwanted_feed l c plan (Declared m why) h = refl
 unwanted_feed l c plan _ h = cc
 
@@ -121,6 +123,7 @@ unwanted_table l c plan (Conveyed a k dest) h = refl
 unwanted_table l c plan (Forged m k) h = refl
 unwanted_table l c plan (Admitted k) h = refl
 unwanted_table l c plan (Delivered k) h = refl
+unwanted_table l c plan (Reinstated k) h = refl
 unwanted_table l c plan (Declared m why) h = refl
 unwanted_table l c plan _ h = cc
 
@@ -131,6 +134,7 @@ unwanted_robot l c plan (Conveyed a k dest) h = refl
 unwanted_robot l c plan (Forged m k) h = refl
 unwanted_robot l c plan (Admitted k) h = refl
 unwanted_robot l c plan (Delivered k) h = refl
+unwanted_robot l c plan (Reinstated k) h = refl
 unwanted_robot l c plan (Declared m why) h = refl
 unwanted_robot l c plan _ h = cc
 
@@ -141,6 +145,7 @@ unwanted_press1 l c plan (Conveyed a k dest) h = refl
 unwanted_press1 l c plan (Forged m k) h = refl
 unwanted_press1 l c plan (Admitted k) h = refl
 unwanted_press1 l c plan (Delivered k) h = refl
+unwanted_press1 l c plan (Reinstated k) h = refl
 unwanted_press1 l c plan (Declared m why) h = refl
 unwanted_press1 l c plan _ h = cc
 
@@ -151,6 +156,7 @@ unwanted_press2 l c plan (Conveyed a k dest) h = refl
 unwanted_press2 l c plan (Forged m k) h = refl
 unwanted_press2 l c plan (Admitted k) h = refl
 unwanted_press2 l c plan (Delivered k) h = refl
+unwanted_press2 l c plan (Reinstated k) h = refl
 unwanted_press2 l c plan (Declared m why) h = refl
 unwanted_press2 l c plan _ h = cc
 
@@ -161,6 +167,7 @@ unwanted_deposit l c plan (Conveyed a k dest) h = refl
 unwanted_deposit l c plan (Forged m k) h = refl
 unwanted_deposit l c plan (Admitted k) h = refl
 unwanted_deposit l c plan (Delivered k) h = refl
+unwanted_deposit l c plan (Reinstated k) h = refl
 unwanted_deposit l c plan (Declared m why) h = refl
 unwanted_deposit l c plan _ h = cc
 
@@ -179,6 +186,7 @@ plainly p got (Conveyed a k dest) h = cc
 plainly p got (Forged m k) h = cc
 plainly p got (Admitted k) h = cc
 plainly p got (Delivered k) h = cc
+plainly p got (Reinstated k) h = cc
 plainly p got (Declared m c) h = cc
 plainly p got _ h = tt
 
@@ -225,12 +233,16 @@ of_next : (p : Plan) (got : List (Option Reading)) (k : ℕ) (b : Bool) → Sign
 of_next p got k true h = tt
 of_next p got k false h = h
 
+of_laid_in : (p : Plan) (got : List (Option Reading)) (o : Option ℕ) (k : ℕ) → SignShows machine.Feed got → RulingBacked p got (laid_in o k)
+of_laid_in p got None k h = of_next p got k (nat_lt 100000 k) h
+of_laid_in p got (Some j) k h = h
+
 of_delivered : (p : Plan) (got : List (Option Reading)) (o : Option ℕ) → SignShows machine.Deposit got → RulingBacked p got (books (option_map (λ k. Delivered k) o))
 of_delivered p got None h = tt
 of_delivered p got (Some k) h = h
 
 of_signed : (p : Plan) (got : List (Option Reading)) (J : List Entry) (m : Machine) → SignShows m got → RulingBacked p got (signed J m)
-of_signed p got J machine.Feed h = of_next p got (count_by is_admitted J + 1) (nat_lt 100000 (count_by is_admitted J + 1)) h
+of_signed p got J machine.Feed h = of_laid_in p got (expected_of J) (count_by is_admitted J + 1) h
 of_signed p got J machine.Deposit h = of_delivered p got (plate_of J station.DepEnd) h
 of_signed p got J machine.Table h = tt
 of_signed p got J machine.Robot h = tt

@@ -24,6 +24,7 @@ pub his_action : (a : Action) (e : Entry) → e ≡ entry_of a → actor_of e �
 his_action (action.Stop m) e is = ap actor_of is
 his_action (action.Clear s k) e is = ap actor_of is
 his_action (action.Repair m) e is = ap actor_of is
+his_action (action.Expect k) e is = ap actor_of is
 
 -- nothing was done for no entries
 pub did_nothing : (now : ActLog) → DidHands now now []

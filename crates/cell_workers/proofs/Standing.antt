@@ -13,9 +13,9 @@ use Rattle.cell_types.specs.declared.words.Pose.TheVariants as pose
 use Rattle.cell_types.specs.declared.words.Actor.TheVariants as actor
 use Rattle.cell_types.specs.declared.words.Actor.{Actor}
 use Rattle.cell_types.specs.declared.words.Entry.{Entry}
-use Rattle.cell_types.specs.declared.words.Entry.TheVariants.{Lamp, Admitted, Conveyed, Forged, Delivered, StopAsked, Quarantined, Repaired}
+use Rattle.cell_types.specs.declared.words.Entry.TheVariants.{Lamp, Admitted, Conveyed, Forged, Delivered, StopAsked, Quarantined, Repaired, Expected}
 use Rattle.cell_types.specs.Entries.{actor_of}
-use Rattle.cell_views.specs.Views.{plate_of, is_failed, is_asked, is_admitted}
+use Rattle.cell_views.specs.Views.{plate_of, is_failed, is_asked, expected_of, is_admitted}
 use Rattle.plate_book.specs.declared.limits.BookLimits.{BookLimits}
 use Rattle.plate_book.specs.Rules.History.{History}
 use Rattle.cell_machines.specs.Useful.{is_useful, is_lamp}
@@ -32,7 +32,7 @@ use Rattle.cell_turns.specs.declared.watch.Memory.{Memory}
 use Rattle.cell_turns.specs.declared.watch.Watch.{Watch}
 use Rattle.cell_turns.specs.Minds.{Mind, FitsMind}
 use Rattle.cell_turns.specs.Observed.{findings}
-use Rattle.cell_turns.specs.Rulings.{ending, books, signed, ruling_by, ruling}
+use Rattle.cell_turns.specs.Rulings.{ending, laid_in, books, signed, ruling_by, ruling}
 use Rattle.cell_turns.specs.Turns.{IsRuled, IsDecided}
 use Rattle.cell_workers.specs.Standing.{is_move, is_useful_for, is_called_for, called_for_from, all_called_for}
 use Rattle.cell_turns.proofs.Minds.{of_some}
@@ -65,12 +65,16 @@ of_next : (k : ℕ) (b : Bool) → Still (if b then PastLast else Books (Admitte
 of_next k true = tt
 of_next k false = refl
 
+of_laid_in : (o : Option ℕ) (k : ℕ) → Still (laid_in o k)
+of_laid_in None k = of_next k (nat_lt 100000 k)
+of_laid_in (Some j) k = refl
+
 of_delivered : (o : Option ℕ) → Still (books (option_map (λ k. Delivered k) o))
 of_delivered None = tt
 of_delivered (Some k) = refl
 
 of_signed : (J : List Entry) (m : Machine) → Still (signed J m)
-of_signed J machine.Feed = of_next (count_by is_admitted J + 1) (nat_lt 100000 (count_by is_admitted J + 1))
+of_signed J machine.Feed = of_laid_in (expected_of J) (count_by is_admitted J + 1)
 of_signed J machine.Deposit = of_delivered (plate_of J station.DepEnd)
 of_signed J machine.Table = tt
 of_signed J machine.Robot = tt
@@ -152,6 +156,7 @@ pub his_called : (l : BookLimits) (J : List Entry) (e : Entry) → actor_of e �
 his_called l J (StopAsked m) h = refl
 his_called l J (Quarantined k src) h = refl
 his_called l J (Repaired m) h = refl
+his_called l J (Expected k) h = refl
 his_called l J _ h = cc
 
 -- a journal with one entry more

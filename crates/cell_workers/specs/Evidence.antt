@@ -9,7 +9,7 @@ use Rattle.cell_types.specs.declared.words.Pose.TheVariants as pose
 use Rattle.cell_types.specs.declared.words.Cause.{Cause}
 use Rattle.cell_types.specs.declared.words.Cause.TheVariants as cause
 use Rattle.cell_types.specs.declared.words.Entry.{Entry}
-use Rattle.cell_types.specs.declared.words.Entry.TheVariants.{Admitted, Arrived as ArrivedAt, Conveyed, Forged, Delivered, Declared}
+use Rattle.cell_types.specs.declared.words.Entry.TheVariants.{Admitted, Arrived as ArrivedAt, Conveyed, Forged, Delivered, Declared, Reinstated}
 use Rattle.cell_types.specs.declared.cell.BeltMotion.{BeltMotion}
 use Rattle.cell_types.specs.Cell.{machine_of_axis, press_axis, motion_to}
 use Rattle.cell_diagnosis.specs.declared.motion.Motion.{Motion}
@@ -111,6 +111,7 @@ Backed p got (ArrivedAt a at) = ShowsArrival p got a at
 Backed p got (Conveyed a k dest) = ShowsConveyance p got a dest
 Backed p got (Forged press k) = ShowsForging p got press
 Backed p got (Admitted k) = SignShows machine.Feed got
+Backed p got (Reinstated k) = SignShows machine.Feed got
 Backed p got (Delivered k) = SignShows machine.Deposit got
 Backed p got (Declared m c) = is_diagnosed c ≡ true → ShowsFault p got m c ⊎ RestShows m got (Fault c)
 Backed p got _ = Unit {0}

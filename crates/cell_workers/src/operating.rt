@@ -91,8 +91,8 @@ fn locked_booking<R: Run, W: Wait>(
     taken
 }
 
-/// Takes the lock and asks the script. It answers the next entry, if it wants an act by hand; one that wants none, a stop, is
-/// booked at once. Where there is nothing to do he waits until the journal is longer or an end is set.
+/// Takes the lock and asks the script. It answers the next entry, if it wants an act by hand; one that wants none, a stop or an
+/// expected plate, is booked at once. Where there is nothing to do he waits until the journal is longer or an end is set.
 fn choose<R: Run, W: Wait>(
     rt: &W,
     room: &Room<R>,

@@ -4,5 +4,6 @@ mod faults;
 mod machines;
 mod plates;
 mod ports;
+mod returns;
 mod script;
 mod steps;

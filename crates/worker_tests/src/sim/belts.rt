@@ -38,7 +38,7 @@ const CARRIED: [Step; 16] = [
 ];
 
 // No more than two plates are laid, one at a time, where the light is green.
-const LAYING: [Step; 18] = [
+const LAYING: [Step; 19] = [
     Send(Lamp(Belt::Feed, Colour::Green)),
     Shows(Table, [1, 1, 0], 0),
     Shows(Feed, NONE, 1),
@@ -53,6 +53,7 @@ const LAYING: [Step; 18] = [
     Shows(Feed, NONE, 4),
     Send(Off(FeedBelt)),
     Shows(Feed, NONE, 5),
+    Send(Lamp(Belt::Feed, Colour::Red)),
     Remove(Station::FeedIn),
     Shows(Feed, NONE, 4),
     Remove(Station::Table),

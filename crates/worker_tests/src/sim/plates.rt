@@ -13,7 +13,7 @@ use std::sync::Mutex;
 const NONE: [u8; 3] = [0, 0, 0];
 
 /// A plate is laid and carried to the table; the belt isn't turned off.
-const AT_TABLE: [Step; 8] = [
+pub(crate) const AT_TABLE: [Step; 8] = [
     Send(Lamp(Belt::Feed, Colour::Green)),
     Read(Feed, 1),
     Send(Lamp(Belt::Feed, Colour::Red)),
@@ -25,7 +25,7 @@ const AT_TABLE: [Step; 8] = [
 ];
 
 /// Arm one takes it from the table.
-const ON_ARM_ONE: [Step; 9] = [
+pub(crate) const ON_ARM_ONE: [Step; 9] = [
     Send(On(TableLift, Pose::High)),
     Read(Table, 3),
     Send(On(TableTurn, Pose::Robot)),
@@ -38,7 +38,7 @@ const ON_ARM_ONE: [Step; 9] = [
 ];
 
 /// Arm one lays it into the first press.
-const IN_PRESS: [Step; 10] = [
+pub(crate) const IN_PRESS: [Step; 10] = [
     Send(On(ArmOne, Pose::In)),
     Read(Robot, 3),
     Send(On(RobotTurn, Pose::P1Load)),
@@ -52,7 +52,7 @@ const IN_PRESS: [Step; 10] = [
 ];
 
 /// Arm two takes it from there and lays it on the deposit belt.
-const ON_DEPOSIT: [Step; 18] = [
+pub(crate) const ON_DEPOSIT: [Step; 18] = [
     Send(On(ArmOne, Pose::In)),
     Read(Robot, 3),
     Send(On(PressOne, Pose::Top)),

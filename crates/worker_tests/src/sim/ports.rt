@@ -16,11 +16,13 @@ fn is_shown<P: Port>(port: &mut P, presence: u8) -> bool {
         })
 }
 
-// A plate is laid, and the belt moves where its command isn't refused.
+// A plate is laid, and no other while the light is red. The belt moves where its command isn't refused.
 fn use_feed<P: Port>(rt: &impl Abort, port: &mut P) {
     let green = Command::Lamp(Belt::Feed, Colour::Green);
     assert!(rt; port.command(green).is_ok());
     assert!(rt; is_shown(port, 1));
+    let red = Command::Lamp(Belt::Feed, Colour::Red);
+    assert!(rt; port.command(red).is_ok());
     let on = Command::On(Axis::FeedBelt, Pose::ToEnd);
     assert!(rt; port.command(on).is_err());
     assert!(rt; is_shown(port, 1));

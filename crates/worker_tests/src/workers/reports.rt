@@ -25,6 +25,7 @@ fn sum_of(some: Totals, others: Totals) -> Totals {
         forged: some.forged.saturating_add(others.forged),
         quarantined: some.quarantined.saturating_add(others.quarantined),
         delivered: some.delivered.saturating_add(others.delivered),
+        reinstated: some.reinstated.saturating_add(others.reinstated),
     }
 }
 
@@ -50,7 +51,7 @@ pub(crate) fn check_report<R: AllocGlobal + Abort>(rt: &R, report: &Report, plan
     let alloc = rt.alloc();
     let mut text = Vec::new(alloc);
     assert!(rt; write_journal(alloc, &report.journal, &mut text).is_ok());
-    assert_eq!(rt; audit(alloc, text.as_slice()), Ok(report.totals));
+    assert_eq!(rt; audit(alloc, text.as_slice()), Ok((2, report.totals)));
     assert!(rt; report.journal.len() <= plan.journal_limit.saturating_add(6));
     check_lists(rt, report);
 }
