@@ -1,13 +1,18 @@
 //! A journal's text: its audit, whether the text spells a legal journal and what that journal counts, and its writing.
 #![tactic(auto)]
 
+mod booking;
 mod error;
 mod judge;
 pub mod laws;
+mod migration;
+mod profile;
 mod watched;
 mod write;
 
-pub use error::AuditError;
+pub use error::{AuditError, MigrateError};
 pub use judge::{audit, audit_rows};
+pub use migration::{migrate, migrate_watched};
+pub use profile::Profile;
 pub use watched::{WatchedWriter, WriteFault};
 pub use write::{WriteError, write_journal, write_journal_watched};

@@ -1,8 +1,8 @@
-//! The lines of the command `audit`, the line of a number that a run's lines share, and the exit statuses.
+//! The lines of the commands `audit` and `migrate`, the line of a number that a run's lines share, and the exit statuses.
 #![tactic(auto)]
 
 mod lines;
 pub mod status;
 
 pub use cell_audit::{WatchedWriter, WriteFault};
-pub use lines::{audit_lines, audit_lines_watched, write_number};
+pub use lines::{audit_lines, audit_lines_watched, migrate_lines, write_number};

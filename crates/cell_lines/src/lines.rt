@@ -1,11 +1,12 @@
-//! What is printed for an audit.
-ghost use Rattle.std.specs.Prelude.{◌≡◌, IfErr, IfOk, IsErr, OnOk, true};
+//! What is printed for an audit and for a migration.
+ghost use Rattle.std.specs.Prelude.{◌≡◌, ◌≢◌, [], IfErr, IfOk, IsErr, OnOk, codes, true};
 ghost use Rattle.std.specs.Io.KnownBytes.{Appends};
+ghost use Rattle.cell_audit.specs.Migrated.{rows_in};
 ghost use Rattle.cell_audit.specs.Watched.{IsSameWriter, WritesPart, bytes_held, has_refused};
-ghost use Rattle.cell_lines.specs.Lines.{TellsAudit, TellsPart, WritesAnswer, lines_of, number_line, refusal_line, totals_lines};
+ghost use Rattle.cell_lines.specs.Lines.{StopsMigration, TellsAudit, TellsMigration, TellsPart, WritesAnswer, lines_of, number_line, refusal_line, totals_lines};
 
 use crate::status;
-use cell_audit::{AuditError, WatchedWriter, WriteFault, audit};
+use cell_audit::{AuditError, MigrateError, WatchedWriter, WriteFault, audit, migrate};
 use cell_types::Totals;
 use itoa::Buffer;
 use plate_book::Refusal;
@@ -32,14 +33,28 @@ pub fn write_number<W: Write>(
     ])
 }
 
-// Writes the five lines of a legal journal.
+// The end of the lines of a legal journal before its line feed: the line feed and the word of the sixth line, and its
+// digits. Both are empty but for profile 2.
+fn sixth_line(number: u8, digits: &str) -> (&[u8], &[u8])
+    ensures two { number ≡ 2 → (result.0.now ≡ codes "\nreinstated ") × (result.1.now ≡ digits.now) }
+    ensures other { number ≢ 2 → (result.0.now ≡ []) × (result.1.now ≡ []) }
+{
+    if number == 2 {
+        (b"\nreinstated ".as_slice(), digits.as_bytes())
+    } else {
+        (b"".as_slice(), b"".as_slice())
+    }
+}
+
+// Writes the lines of a legal journal of the profile of this number.
 fn write_totals<W: Write>(
     writer: &mut WatchedWriter<'_, W>,
+    number: u8,
     totals: Totals,
 ) -> Result<(), WriteFault>
     ensures writer { IsSameWriter writer.old writer.new }
-    ensures whole { OnOk result (Appends (bytes_held W.contents writer.old) (bytes_held W.contents writer.new) (totals_lines totals)) }
-    ensures part { IsErr result → WritesPart (bytes_held W.contents writer.old) (bytes_held W.contents writer.new) (totals_lines totals) }
+    ensures whole { OnOk result (Appends (bytes_held W.contents writer.old) (bytes_held W.contents writer.new) (totals_lines number totals)) }
+    ensures part { IsErr result → WritesPart (bytes_held W.contents writer.old) (bytes_held W.contents writer.new) (totals_lines number totals) }
     ensures fault { IsErr result → has_refused writer.new ≡ true }
 {
     let mut entries = Buffer::new();
@@ -47,6 +62,8 @@ fn write_totals<W: Write>(
     let mut forged = Buffer::new();
     let mut quarantined = Buffer::new();
     let mut delivered = Buffer::new();
+    let mut reinstated = Buffer::new();
+    let sixth = sixth_line(number, reinstated.format(totals.reinstated));
     writer.write_pieces(&[
         b"legal ",
         entries.format(totals.entries).as_bytes(),
@@ -58,6 +75,8 @@ fn write_totals<W: Write>(
         quarantined.format(totals.quarantined).as_bytes(),
         b"\ndelivered ",
         delivered.format(totals.delivered).as_bytes(),
+        sixth.0,
+        sixth.1,
         b"\n",
     ])
 }
@@ -93,7 +112,7 @@ fn write_refusal<W: Write>(
 // Writes the lines of an answer, and gives its status.
 fn write_answer<W: Write>(
     writer: &mut WatchedWriter<'_, W>,
-    answer: Result<Totals, AuditError>,
+    answer: Result<(u8, Totals), AuditError>,
 ) -> Result<u8, WriteFault>
     ensures writer { IsSameWriter writer.old writer.new }
     ensures whole { IfOk result (WritesAnswer (bytes_held W.contents writer.old) (bytes_held W.contents writer.new) answer) }
@@ -101,8 +120,8 @@ fn write_answer<W: Write>(
     ensures fault { IsErr result → has_refused writer.new ≡ true }
 {
     match answer {
-        Ok(totals) => {
-            write_totals(writer, totals)?;
+        Ok((number, totals)) => {
+            write_totals(writer, number, totals)?;
             Ok(status::SUCCESS)
         }
         Err(AuditError::Unreadable(place)) => {
@@ -137,8 +156,8 @@ pub fn audit_lines_watched<R: Read + Drop, W: Write>(
 
 /// Audits the journal's text that the reader gives, writes what is found, and gives the exit status.
 ///
-/// A legal journal: the lines `legal`, `admitted`, `forged`, `quarantined` and `delivered`, each with its number, status
-/// 0. A refused entry: `refused`, its place counted from 1, the refusal's name and the word of what it names, status 1.
+/// A legal journal: the lines `legal`, `admitted`, `forged`, `quarantined` and `delivered`, each with its number, and in
+/// profile 2 the line `reinstated` with its number, status 0. A refused entry: `refused`, its place counted from 1, the refusal's name and the word of what it names, status 1.
 /// A record that can't be read: `unreadable` and its number, 0 for the profile's, status 1. Where the reader fails
 /// (status 3) or memory is refused (status 4) nothing is written. `WriteFault` comes only where the writer failed.
 pub fn audit_lines<R: Read + Drop, W: Write>(
@@ -153,4 +172,33 @@ pub fn audit_lines<R: Read + Drop, W: Write>(
 {
     let mut writer = WatchedWriter::new(writer);
     audit_lines_watched(alloc, reader, &mut writer)
+}
+
+/// Migrates the journal's text of profile 1 that the reader gives: writes the same journal's text of profile 2, and gives the
+/// exit status.
+///
+/// Where the text is refused or can't be read (status 1) the audit's line is written to the errors, and nothing to the
+/// writer. Where the reader fails (status 3) nothing is written. Where memory is refused (status 4) a first part of the text
+/// may be written. `WriteFault` comes only where the writer or that of the errors failed.
+pub fn migrate_lines<R: Read + Drop, W: Write, E: Write>(
+    alloc: Global,
+    reader: R,
+    writer: &mut W,
+    errors: &mut E,
+) -> Result<u8, WriteFault>
+    // What is written, the line to the errors and the status are those of one answer of the migration.
+    ensures whole { IfOk result (TellsMigration (rows_in (R.remaining reader)) (W.contents writer.old) (W.contents writer.new) (E.contents errors.old) (E.contents errors.new)) }
+    // Where a writer failed, a first part of the text or of such a line was written.
+    ensures part { IsErr result → StopsMigration (rows_in (R.remaining reader)) (W.contents writer.old) (W.contents writer.new) (E.contents errors.old) (E.contents errors.new) }
+{
+    let why = match migrate(alloc, reader, writer) {
+        Ok(_) => return Ok(status::SUCCESS),
+        Err(MigrateError::Unreadable(place)) => AuditError::Unreadable(place),
+        Err(MigrateError::Refused(place, why)) => AuditError::Refused(place, why),
+        Err(MigrateError::ReadFault) => return Ok(status::DEVICE_FAULT),
+        Err(MigrateError::WriteFault) => return Err(WriteFault),
+        Err(MigrateError::OutOfMemory) => return Ok(status::OUT_OF_MEMORY),
+    };
+    let mut errors = WatchedWriter::new(errors);
+    write_answer(&mut errors, Err(why))
 }

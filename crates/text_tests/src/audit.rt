@@ -2,10 +2,11 @@
 use cell_audit::{AuditError, WriteError, audit, write_journal};
 use cell_journal::Journal;
 use cell_samples::{
-    FailingReader, FailingWriter, Interrupted, Pieces, Unwilling, begun, one_plate_text,
+    FailingReader, FailingWriter, Interrupted, LAID_BACK, ONE_PLATE, Pieces, Unwilling, begun,
+    book_all, one_plate_text, text_of,
 };
 use cell_types::{Axis, Belt, Machine, Station, Totals};
-use plate_book::Refusal;
+use plate_book::{Book, Refusal};
 use std::alloc::{AllocError, Global};
 use std::io;
 use std::io::{Read, Write};
@@ -40,20 +41,29 @@ impl Read for Lamps {
     }
 }
 
+// A legal text of profile 1 with these totals.
 fn totals(
     entries: u32,
     admitted: u32,
     forged: u32,
     quarantined: u32,
     delivered: u32,
-) -> Result<Totals, AuditError> {
-    Ok(Totals {
+) -> Result<(u8, Totals), AuditError> {
+    let totals = Totals {
         entries,
         admitted,
         forged,
         quarantined,
         delivered,
-    })
+        reinstated: 0,
+    };
+    Ok((1, totals))
+}
+
+// The same answer for a text of profile 2.
+fn in_profile_2(answer: Result<(u8, Totals), AuditError>) -> Result<(u8, Totals), AuditError> {
+    let (_, totals) = answer?;
+    Ok((2, totals))
 }
 
 // The texts one after the other.
@@ -69,7 +79,7 @@ fn is_judged(
     rt: &impl Abort,
     alloc: Global,
     text: &[u8],
-    wanted: Result<Totals, AuditError>,
+    wanted: Result<(u8, Totals), AuditError>,
 ) -> Result<(), Fail> {
     let shown = String::from_utf8_lossy(alloc, text)?;
     assert_eq!(rt; audit(alloc, text), wanted, "{shown}");
@@ -90,7 +100,7 @@ fn is_judged(
 fn all_are_judged(
     rt: &impl Abort,
     alloc: Global,
-    cases: &[(&[u8], Result<Totals, AuditError>)],
+    cases: &[(&[u8], Result<(u8, Totals), AuditError>)],
 ) -> Result<(), Fail> {
     for (text, wanted) in cases {
         is_judged(rt, alloc, text, *wanted)?;
@@ -99,11 +109,15 @@ fn all_are_judged(
 }
 
 #[test]
-fn judges_texts(rt: HostRuntime) -> Result<(), Fail> {
-    let unreadable = Err(AuditError::Unreadable(1));
+fn judges_texts_by_their_first_record(rt: HostRuntime) -> Result<(), Fail> {
     let cases = [
         (b"".as_slice(), Err(AuditError::Unreadable(0))),
-        (b"profile,2,,\n", Err(AuditError::Unreadable(0))),
+        (b"profile,2,,\n", in_profile_2(totals(0, 0, 0, 0, 0))),
+        (b"profile,3,,\n", Err(AuditError::Unreadable(0))),
+        (b"profile,,,\n", Err(AuditError::Unreadable(0))),
+        (b"profile,02,,\n", Err(AuditError::Unreadable(0))),
+        (b"profile,12,,\n", Err(AuditError::Unreadable(0))),
+        (b"profile,2,1,\n", Err(AuditError::Unreadable(0))),
         (b"profile,1,\n", Err(AuditError::Unreadable(0))),
         (b"profile,1,,", totals(0, 0, 0, 0, 0)),
         (
@@ -114,8 +128,15 @@ fn judges_texts(rt: HostRuntime) -> Result<(), Fail> {
             b"\n\"profile\",1,\"\",\r\n\n\nlamp,\"feed\",green,\n\"admitted\",\"1\",,\n\n",
             totals(2, 1, 0, 0, 0),
         ),
+    ];
+    all_are_judged(&rt, rt.alloc(), &cases)
+}
+
+#[test]
+fn judges_entries_that_are_not_allowed(rt: HostRuntime) -> Result<(), Fail> {
+    let cases = [
         (
-            b"profile,1,,\nadmitted,1,,\n",
+            b"profile,1,,\nadmitted,1,,\n".as_slice(),
             Err(AuditError::Refused(1, Refusal::LampRed(Belt::Feed))),
         ),
         (
@@ -142,13 +163,31 @@ fn judges_texts(rt: HostRuntime) -> Result<(), Fail> {
             b"profile,1,,\nstarted,feed_belt,rest,\n",
             Err(AuditError::Refused(1, Refusal::WrongPose(Axis::FeedBelt))),
         ),
-        (b"profile,1,,\nlamp,fe", unreadable),
+        (
+            b"profile,2,,\nexpected,1,,\n",
+            Err(AuditError::Refused(1, Refusal::WrongPlate)),
+        ),
+        (
+            b"profile,2,,\nreinstated,1,,\n",
+            Err(AuditError::Refused(1, Refusal::WrongPlate)),
+        ),
+    ];
+    all_are_judged(&rt, rt.alloc(), &cases)
+}
+
+#[test]
+fn judges_records_that_cannot_be_read(rt: HostRuntime) -> Result<(), Fail> {
+    let unreadable = Err(AuditError::Unreadable(1));
+    let cases = [
+        (b"profile,1,,\nlamp,fe".as_slice(), unreadable),
         (b"profile,1,,\nlamp,feed,green\n", unreadable),
         (b"profile,1,,\nlamp,feed,green,,\n", unreadable),
         (b"profile,1,,\nlamp,\xff,green,\n", unreadable),
         (b"profile,1,,\nadmitted,01,,\n", unreadable),
         (b"profile,1,,\nadmitted,100001,,\n", unreadable),
         (b"profile,1,,\nexpected,1,,\n", unreadable),
+        (b"profile,1,,\nreinstated,1,,\n", unreadable),
+        (b"profile,2,,\nexpected,0,,\n", unreadable),
     ];
     all_are_judged(&rt, rt.alloc(), &cases)
 }
@@ -156,11 +195,54 @@ fn judges_texts(rt: HostRuntime) -> Result<(), Fail> {
 #[test]
 fn judges_a_plate_that_is_carried_through_the_cell(rt: HostRuntime) -> Result<(), Fail> {
     let alloc = rt.alloc();
-    let carried = one_plate_text(alloc)?;
-    let more = joined(alloc, carried.as_slice(), b"delivered,1,,\n")?;
-    let refused = Err(AuditError::Refused(63, Refusal::LampRed(Belt::Deposit)));
-    is_judged(&rt, alloc, carried.as_slice(), totals(62, 1, 1, 0, 1))?;
-    is_judged(&rt, alloc, more.as_slice(), refused)
+    let legal = totals(62, 1, 1, 0, 1);
+    for (profile, wanted) in [(1, legal), (2, in_profile_2(legal))] {
+        let carried = one_plate_text(alloc, profile)?;
+        let more = joined(alloc, carried.as_slice(), b"delivered,1,,\n")?;
+        let refused = Err(AuditError::Refused(63, Refusal::LampRed(Belt::Deposit)));
+        is_judged(&rt, alloc, carried.as_slice(), wanted)?;
+        is_judged(&rt, alloc, more.as_slice(), refused)?;
+    }
+    Ok(())
+}
+
+// A plate that is laid back is one of profile 2 alone: in a text of profile 1 the record by which it is expected can't be
+// read.
+#[test]
+fn judges_a_plate_that_is_laid_back(rt: HostRuntime) -> Result<(), Fail> {
+    let alloc = rt.alloc();
+    let totals = Totals {
+        entries: 13,
+        admitted: 1,
+        forged: 0,
+        quarantined: 1,
+        delivered: 0,
+        reinstated: 1,
+    };
+    for (profile, wanted) in [
+        (2, Ok((2, totals))),
+        (1, Err(AuditError::Unreadable(11))),
+        (3, Err(AuditError::Unreadable(0))),
+    ] {
+        let text = text_of(alloc, profile, &LAID_BACK)?;
+        is_judged(&rt, alloc, text.as_slice(), wanted)?;
+    }
+    Ok(())
+}
+
+// A plate that was cleared from a press isn't laid back, and one that was cleared from the table may be.
+#[test]
+fn judges_where_a_plate_was_cleared(rt: HostRuntime) -> Result<(), Fail> {
+    let alloc = rt.alloc();
+    let mut pressed = text_of(alloc, 2, &ONE_PLATE[..34])?;
+    pressed.extend_from_slice(
+        b"declared,press1,missing_motion,\nquarantined,1,press1,\nrepaired,press1,,\nexpected,1,,\n",
+    )?;
+    let refused = Err(AuditError::Refused(38, Refusal::NotReturnable));
+    is_judged(&rt, alloc, pressed.as_slice(), refused)?;
+    let expected = text_of(alloc, 2, &LAID_BACK[..11])?;
+    let wanted = in_profile_2(totals(11, 1, 0, 1, 0));
+    is_judged(&rt, alloc, expected.as_slice(), wanted)
 }
 
 #[test]
@@ -185,7 +267,7 @@ fn takes_a_million_entries_and_the_faults_of_a_full_journal(rt: HostRuntime) {
 #[test]
 fn tells_that_the_reader_failed_after_any_number_of_bytes(rt: HostRuntime) -> Result<(), Fail> {
     let alloc = rt.alloc();
-    let carried = one_plate_text(alloc)?;
+    let carried = one_plate_text(alloc, 1)?;
     let text = carried.as_slice();
     for left in 0..text.len() + 1 {
         let wanted = Err(AuditError::ReadFault);
@@ -215,7 +297,7 @@ fn lines_that_begin(text: &[u8], word: &[u8]) -> u32 {
 
 // What is due for the first bytes of a text of a legal journal, told from where its lines end: `rest` are the bytes
 // that are cut off.
-fn due_for_a_cut_text(text: &[u8], rest: &[u8]) -> Result<Totals, AuditError> {
+pub(crate) fn due_for_a_cut_text(text: &[u8], rest: &[u8]) -> Result<(u8, Totals), AuditError> {
     let mut line_ends = 0u32;
     for byte in text {
         if *byte == b'\n' {
@@ -239,15 +321,15 @@ fn due_for_a_cut_text(text: &[u8], rest: &[u8]) -> Result<Totals, AuditError> {
 
 #[test]
 fn judges_a_text_that_is_cut_anywhere(rt: HostRuntime) -> Result<(), Fail> {
-    let carried = one_plate_text(rt.alloc())?;
-    let whole = carried.as_slice();
-    for cut in 0..whole.len() + 1 {
-        let (text, rest) = whole.split_at(cut);
-        assert_eq!(rt;
-            audit(rt.alloc(), text),
-            due_for_a_cut_text(text, rest),
-            "after {cut} bytes"
-        );
+    for profile in [1, 2] {
+        let carried = one_plate_text(rt.alloc(), profile)?;
+        let whole = carried.as_slice();
+        for cut in 0..whole.len() + 1 {
+            let (text, rest) = whole.split_at(cut);
+            let due = due_for_a_cut_text(text, rest);
+            let due = if profile == 2 { in_profile_2(due) } else { due };
+            assert_eq!(rt; audit(rt.alloc(), text), due, "after {cut} bytes");
+        }
     }
     Ok(())
 }
@@ -281,11 +363,16 @@ fn written(
 fn writes_the_text_that_is_audited(rt: HostRuntime) -> Result<(), Fail> {
     let alloc = rt.alloc();
     let empty = Journal::with_limit(alloc, 1)?;
-    written(&rt, alloc, &empty, b"profile,1,,\n")?;
+    written(&rt, alloc, &empty, b"profile,2,,\n")?;
     let book = begun(alloc, 100, 10, 62).expect(&rt, "a book");
-    let carried = one_plate_text(alloc)?;
+    let carried = one_plate_text(alloc, 2)?;
     let text = written(&rt, alloc, book.journal(), carried.as_slice())?;
-    assert_eq!(rt; audit(alloc, text.as_slice()), totals(62, 1, 1, 0, 1));
+    let due = in_profile_2(totals(62, 1, 1, 0, 1));
+    assert_eq!(rt; audit(alloc, text.as_slice()), due);
+    let mut book = Book::new(alloc, 100, 10).or(Err("no book has these limits"))?;
+    assert_eq!(rt; book_all(&mut book, &LAID_BACK), Ok(()));
+    let laid_back = text_of(alloc, 2, &LAID_BACK)?;
+    written(&rt, alloc, book.journal(), laid_back.as_slice())?;
     Ok(())
 }
 
@@ -293,7 +380,7 @@ fn writes_the_text_that_is_audited(rt: HostRuntime) -> Result<(), Fail> {
 fn tells_that_the_writer_failed_after_any_number_of_bytes(rt: HostRuntime) -> Result<(), Fail> {
     let alloc = rt.alloc();
     let book = begun(alloc, 100, 10, 62).expect(&rt, "a book");
-    let whole = one_plate_text(alloc)?;
+    let whole = one_plate_text(alloc, 2)?;
     let text = whole.as_slice();
     for left in 0..text.len() {
         let mut writer = FailingWriter::new(Vec::new(alloc), left);
@@ -312,7 +399,7 @@ fn tells_that_the_writer_failed_after_any_number_of_bytes(rt: HostRuntime) -> Re
 fn writes_to_slow_and_interrupted_writers(rt: HostRuntime) -> Result<(), Fail> {
     let alloc = rt.alloc();
     let book = begun(alloc, 100, 10, 62).expect(&rt, "a book");
-    let whole = one_plate_text(alloc)?;
+    let whole = one_plate_text(alloc, 2)?;
     let text = whole.as_slice();
     let mut bytewise = Pieces::new(Vec::new(alloc), 1);
     assert_eq!(rt; write_journal(alloc, book.journal(), &mut bytewise), Ok(()));

@@ -30,6 +30,7 @@ fn judges_a_line_without_an_end(rt: HostRuntime) {
             (b"".as_slice(), 0),
             (b"profile,1,,", 0),
             (b"profile,1,,\n", 1),
+            (b"profile,2,,\n", 1),
             (b"\n\nprofile,1,,\n\nlamp,feed,green,\n\n", 2),
         ] {
             let answer = audit(rt.alloc(), Endless { begin, byte });

@@ -8,4 +8,6 @@ mod endless;
 #[cfg(test)]
 mod lines;
 #[cfg(test)]
+mod migration;
+#[cfg(test)]
 mod rows;

@@ -1,6 +1,9 @@
 //! What is printed for an audit of texts, and what readers and writers that fail leave of it.
 use cell_lines::{WriteFault, audit_lines};
-use cell_samples::{FailingReader, FailingWriter, Interrupted, Pieces, Unwilling, one_plate_text};
+use cell_samples::{
+    FailingReader, FailingWriter, Interrupted, LAID_BACK, Pieces, Unwilling, one_plate_text,
+    text_of,
+};
 use std::alloc::{AllocError, Global};
 use std::test::Fail;
 
@@ -73,6 +76,73 @@ fn prints_what_an_audit_finds(rt: HostRuntime) -> Result<(), Fail> {
     let mut written = Vec::new(alloc);
     assert_eq!(rt; audit_lines(alloc, b"".as_slice(), &mut written), Ok(1));
     assert_eq!(rt; written.as_slice(), b"unreadable 0\n".as_slice());
+    Ok(())
+}
+
+// A text of profile 2 has a sixth line, and is told as one of profile 1 in all else.
+#[test]
+fn prints_a_sixth_line_in_profile_2_alone(rt: HostRuntime) -> Result<(), Fail> {
+    let alloc = rt.alloc();
+    for (profile, count, status, wanted) in [
+        (
+            2,
+            13,
+            0,
+            b"legal 13\nadmitted 1\nforged 0\nquarantined 1\ndelivered 0\nreinstated 1\n".as_slice(),
+        ),
+        (1, 13, 1, b"unreadable 11\n"),
+        (3, 13, 1, b"unreadable 0\n"),
+        (
+            2,
+            10,
+            0,
+            b"legal 10\nadmitted 1\nforged 0\nquarantined 1\ndelivered 0\nreinstated 0\n",
+        ),
+        (
+            1,
+            10,
+            0,
+            b"legal 10\nadmitted 1\nforged 0\nquarantined 1\ndelivered 0\n",
+        ),
+        (
+            2,
+            0,
+            0,
+            b"legal 0\nadmitted 0\nforged 0\nquarantined 0\ndelivered 0\nreinstated 0\n",
+        ),
+    ] {
+        let text = text_of(alloc, profile, &LAID_BACK[..count])?;
+        let mut written = Vec::new(alloc);
+        let answer = audit_lines(alloc, text.as_slice(), &mut written);
+        assert_eq!(rt; answer, Ok(status), "{count} entries in profile {profile}");
+        assert_eq!(rt;
+            written.as_slice(),
+            wanted,
+            "{count} entries in profile {profile}"
+        );
+    }
+    Ok(())
+}
+
+// The refusals that a plate laid back brings are told by their names.
+#[test]
+fn prints_why_a_plate_is_not_expected(rt: HostRuntime) -> Result<(), Fail> {
+    let alloc = rt.alloc();
+    let mut twice = text_of(alloc, 2, &LAID_BACK[..11])?;
+    twice.extend_from_slice(b"expected,1,,\n")?;
+    let mut green = text_of(alloc, 2, &LAID_BACK[..12])?;
+    green.extend_from_slice(b"expected,1,,\n")?;
+    let mut arrived = text_of(alloc, 2, &[])?;
+    arrived.extend_from_slice(b"expected,1,,\n")?;
+    for (text, wanted) in [
+        (twice.as_slice(), b"refused 12 PlateExpected\n".as_slice()),
+        (green.as_slice(), b"refused 13 LampAlready feed\n"),
+        (arrived.as_slice(), b"refused 1 WrongPlate\n"),
+    ] {
+        let mut written = Vec::new(alloc);
+        assert_eq!(rt; audit_lines(alloc, text, &mut written), Ok(1));
+        assert_eq!(rt; written.as_slice(), wanted);
+    }
     Ok(())
 }
 
@@ -177,7 +247,7 @@ fn prints_the_same_for_slow_and_interrupted_readers_and_writers(
     let alloc = rt.alloc();
     let refused = journal(alloc, b"lamp,feed,green,\nadmitted,2,,\n")?;
     let cut = journal(alloc, b"lamp,fe")?;
-    let carried = one_plate_text(alloc)?;
+    let carried = one_plate_text(alloc, 1)?;
     for (text, status, wanted) in [
         (
             carried.as_slice(),
@@ -202,7 +272,7 @@ fn prints_the_same_for_slow_and_interrupted_readers_and_writers(
 #[test]
 fn prints_nothing_where_the_reader_fails(rt: HostRuntime) -> Result<(), Fail> {
     let alloc = rt.alloc();
-    let carried = one_plate_text(alloc)?;
+    let carried = one_plate_text(alloc, 1)?;
     for left in 0..carried.len() + 1 {
         let reader = FailingReader::new(Pieces::new(carried.as_slice(), 1), left);
         let mut written = Vec::new(alloc);
@@ -215,14 +285,18 @@ fn prints_nothing_where_the_reader_fails(rt: HostRuntime) -> Result<(), Fail> {
 
 #[test]
 fn tells_that_the_writer_failed(rt: HostRuntime) {
-    let text = b"profile,1,,\n".as_slice();
-    for left in 0..54usize {
-        let mut writer = FailingWriter::new(Vec::new(rt.alloc()), left);
-        let answer = audit_lines(rt.alloc(), text, &mut writer);
-        assert_eq!(rt; answer, Err(WriteFault), "after {left} bytes");
+    for (text, length) in [
+        (b"profile,1,,\n".as_slice(), 54usize),
+        (b"profile,2,,\n", 67),
+    ] {
+        for left in 0..length {
+            let mut writer = FailingWriter::new(Vec::new(rt.alloc()), left);
+            let answer = audit_lines(rt.alloc(), text, &mut writer);
+            assert_eq!(rt; answer, Err(WriteFault), "after {left} bytes");
+        }
+        let mut writer = FailingWriter::new(Vec::new(rt.alloc()), length);
+        assert_eq!(rt; audit_lines(rt.alloc(), text, &mut writer), Ok(0));
+        let answer = audit_lines(rt.alloc(), text, &mut Unwilling);
+        assert_eq!(rt; answer, Err(WriteFault), "nothing was taken");
     }
-    let mut writer = FailingWriter::new(Vec::new(rt.alloc()), 54);
-    assert_eq!(rt; audit_lines(rt.alloc(), text, &mut writer), Ok(0));
-    let answer = audit_lines(rt.alloc(), text, &mut Unwilling);
-    assert_eq!(rt; answer, Err(WriteFault), "nothing was taken");
 }
