@@ -27,16 +27,19 @@ pub struct World {
     plates: [Option<u32>; 9],
     feed_light: Colour,
     deposit_light: Colour,
-    /// How many plates are to be laid.
+    /// How many plates are to be laid, but for those that are laid back.
     plan: u32,
-    /// How many were laid.
+    /// How many were laid, those that were laid back included.
     laid: u32,
+    /// How many were taken out by hand from before a press, and so can be laid back. At `u32::MAX` the count stays.
+    cleared: u32,
     collisions: u32,
 }
 
 impl World {
     /// A cell at the opening: all axes at home, no plate in it, both lights red. At the beginning of the feed belt up to
-    /// `plates` plates are laid, one at a time, where the feed light is green.
+    /// `plates` plates are laid, one at a time, where the feed light is green, and besides as many as were taken out by
+    /// hand from before a press.
     pub fn new(plates: u32) -> World {
         World {
             axes: [
@@ -55,6 +58,7 @@ impl World {
             deposit_light: Colour::Red,
             plan: plates,
             laid: 0,
+            cleared: 0,
             collisions: 0,
         }
     }
@@ -254,11 +258,13 @@ impl World {
         })
     }
 
-    // Where the feed light is green, the belt is empty and a plate is left, it is laid at the belt's beginning.
+    // Where the feed light is green, the belt is empty and a plate is left, it is laid at the belt's beginning. So many are
+    // left as fewer were laid than are to be laid and can be laid back.
     fn lay_plate(&mut self) {
         let is_empty = self.plate(Station::FeedIn).is_none()
             && self.plate(Station::FeedEnd).is_none();
-        if self.feed_light == Colour::Green && is_empty && self.laid < self.plan {
+        let is_left = self.laid < self.plan.saturating_add(self.cleared);
+        if self.feed_light == Colour::Green && is_empty && is_left {
             self.laid += 1;
             self.set_plate(Station::FeedIn, Some(self.laid));
         }
@@ -420,25 +426,38 @@ impl World {
 /// What the operator does by hand.
 impl World {
     /// Takes out the plate at a station. Where there is none and a belt's motion from there wasn't ended, it takes out the
-    /// plate that this motion carried, wherever it is. Where there is none either, nothing happens.
+    /// plate that this motion carried, wherever it is. Where there is none either, nothing happens. A plate that was taken
+    /// so from a station before a press is laid at the belt's beginning once more, as any other.
     pub(crate) fn remove(&mut self, station: Station) {
-        if self.plate(station).is_some() {
-            self.set_plate(station, None);
-            return;
-        }
-        for belt in [Axis::FeedBelt, Axis::DepositBelt] {
-            if let Some(motion) = self.axis(belt).motion {
-                self.take_out(motion.plate_from(station));
-            }
+        if self.take_from(station) && is_before_press(station) {
+            self.cleared = self.cleared.saturating_add(1);
         }
     }
 
-    fn take_out(&mut self, plate: Option<u32>) {
+    // Takes out the plate of a station, or the one that a belt's motion carried from there, and says whether there was one.
+    fn take_from(&mut self, station: Station) -> bool {
+        if self.plate(station).is_some() {
+            self.set_plate(station, None);
+            return true;
+        }
+        let mut is_taken = false;
+        for belt in [Axis::FeedBelt, Axis::DepositBelt] {
+            if let Some(motion) = self.axis(belt).motion {
+                is_taken |= self.take_out(motion.plate_from(station));
+            }
+        }
+        is_taken
+    }
+
+    fn take_out(&mut self, plate: Option<u32>) -> bool {
+        let mut is_taken = false;
         for station in STATIONS {
             if plate.is_some() && self.plate(station) == plate {
                 self.set_plate(station, None);
+                is_taken = true;
             }
         }
+        is_taken
     }
 
     /// Puts the axes of a machine at home and ends its motions.
@@ -450,6 +469,13 @@ impl World {
             }
         }
     }
+}
+
+fn is_before_press(station: Station) -> bool {
+    matches!(
+        station,
+        Station::FeedIn | Station::FeedEnd | Station::Table | Station::Arm1
+    )
 }
 
 fn is_belt(axis: Axis) -> bool {

@@ -1,5 +1,5 @@
 //! Texts of scripts, and what the operator does along the way of one plate from the feed belt to the table.
-use cell_samples::{begun, book_all};
+use cell_samples::{begun, book_all, entry_of as entry, plate};
 use cell_types::{Entry, Machine, PlateId, Station};
 use operator_desk::{Action, Script, ScriptError, entry_of};
 use plate_book::Book;
@@ -8,6 +8,8 @@ use std::process::Abort;
 use std::test::Fail;
 
 const STOPPED_TABLE: &str = "declared,table,operator_stop,";
+
+const CLEARED_TABLE: &str = "quarantined,1,table,";
 
 // A script has this next, or nothing.
 fn next_is(rt: &impl Abort, script: &Script, book: &Book, wanted: Option<Action>) {
@@ -68,6 +70,8 @@ fn reads_the_words_of_lines(rt: HostRuntime) -> Result<(), Fail> {
         b"delivered,100000,repair,deposit\n",
         b"quarantined,1,clear,dep_end\n",
         b"failed,press2,clear,press2\nfailed,press2,repair,press2\n",
+        b"always,,expect,1\n",
+        b"quarantined,1,expect,100000\nfailed,table,expect,2\n",
         b"\"always\",\"\",\"stop\",\"feed\"\r\n",
     ];
     let wrong = [
@@ -78,7 +82,13 @@ fn reads_the_words_of_lines(rt: HostRuntime) -> Result<(), Fail> {
         b"Always,,stop,feed\n",
         b"always,,clear,feed\n",
         b"always,,stop,feed_in\n",
-        b"always,,expect,1\n",
+        b"always,,expect,0\n",
+        b"always,,expect,100001\n",
+        b"always,,expect,01\n",
+        b"always,,expect,+1\n",
+        b"always,,expect,\n",
+        b"always,,expect,feed_in\n",
+        b"always,1,expect,1\n",
         b"admitted,,stop,feed\n",
         b"admitted,01,stop,feed\n",
         b"admitted,00,stop,feed\n",
@@ -217,5 +227,75 @@ fn does_lines_in_their_order(rt: HostRuntime) -> Result<(), Fail> {
     next_is(&rt, &script, &book, None);
     assert!(rt; book.asked(Machine::Robot));
     assert!(rt; !book.failed(Machine::Table));
+    Ok(())
+}
+
+#[test]
+fn a_plate_is_expected_once(rt: HostRuntime) -> Result<(), Fail> {
+    let alloc = rt.alloc();
+    let mut script = Script::read(alloc, b"always,,expect,1\n")?;
+    let again = Script::read(alloc, b"always,,expect,1\n")?;
+    let other = Script::read(alloc, b"always,,expect,2\n")?;
+    let expect = Action::Expect(plate(1)?);
+    assert_eq!(rt;
+        entry_of(expect),
+        entry("expected,1,,").expect(&rt, "a record")
+    );
+    next_is(&rt, &script, &Book::new(alloc, 100, 10)?, None);
+    let mut book = begun(alloc, 100, 10, 8).expect(&rt, "a book");
+    next_is(&rt, &script, &book, None);
+    let cleared = [STOPPED_TABLE, CLEARED_TABLE];
+    assert_eq!(rt; book_all(&mut book, &cleared), Ok(()));
+    next_is(&rt, &script, &book, Some(expect));
+    next_is(&rt, &other, &book, None);
+    do_next(&rt, &mut script, &mut book);
+    assert_eq!(rt; book.expected(), Some(plate(1)?));
+    next_is(&rt, &script, &book, None);
+    next_is(&rt, &again, &book, None);
+    Ok(())
+}
+
+#[test]
+fn a_plate_is_expected_where_that_is_allowed(rt: HostRuntime) -> Result<(), Fail> {
+    let alloc = rt.alloc();
+    let script = Script::read(alloc, b"quarantined,1,expect,1\n")?;
+    let mut book = begun(alloc, 100, 10, 34).expect(&rt, "a book");
+    let cleared = [
+        "declared,press1,missing_motion,",
+        "quarantined,1,press1,",
+        "repaired,press1,,",
+    ];
+    assert_eq!(rt; book_all(&mut book, &cleared), Ok(()));
+    next_is(&rt, &script, &book, None);
+    let mut lit = begun(alloc, 100, 10, 8).expect(&rt, "a book");
+    let cleared = [STOPPED_TABLE, CLEARED_TABLE, "lamp,feed,green,"];
+    assert_eq!(rt; book_all(&mut lit, &cleared), Ok(()));
+    next_is(&rt, &script, &lit, None);
+    Ok(())
+}
+
+#[test]
+fn a_plate_is_cleared_and_expected(rt: HostRuntime) -> Result<(), Fail> {
+    let alloc = rt.alloc();
+    let text =
+        b"admitted,1,stop,feed\nfailed,feed,clear,feed_in\nfailed,feed,repair,feed\nquarantined,1,expect,1\n";
+    let mut script = Script::read(alloc, text)?;
+    let mut book = begun(alloc, 100, 10, 2).expect(&rt, "a book");
+    do_next(&rt, &mut script, &mut book);
+    next_is(&rt, &script, &book, None);
+    let stopped = ["declared,feed,operator_stop,"];
+    assert_eq!(rt; book_all(&mut book, &stopped), Ok(()));
+    for wanted in [
+        Action::Clear(Station::FeedIn, PlateId::default()),
+        Action::Repair(Machine::Feed),
+        Action::Expect(PlateId::default()),
+    ] {
+        next_is(&rt, &script, &book, Some(wanted));
+        do_next(&rt, &mut script, &mut book);
+    }
+    next_is(&rt, &script, &book, None);
+    let back = ["lamp,feed,green,", "reinstated,1,,"];
+    assert_eq!(rt; book_all(&mut book, &back), Ok(()));
+    assert_eq!(rt; book.plate_at(Station::FeedIn), Some(plate(1)?));
     Ok(())
 }

@@ -23,9 +23,12 @@ machine_short field some = named_short machine_word all_machine field refl some
 station_short : (field : List ℕ) → IsSome (station_named field) → IsShort field
 station_short field some = named_short station_word all_station field refl some
 
+plate_short : (field : List ℕ) → IsSome (plate_of field) → IsShort field
+plate_short field some = number_short 100000 field some
+
 total_short : (field : List ℕ) → IsSome (total_of field) → IsShort field
 total_short field some =
-    either (IsShort field) (bytes_eq field (codes "0")) (Some 0) (plate_of field) (λ same s. word_short field (codes "0") (omega arith) same) (λ s. number_short 100000 field s) some
+    either (IsShort field) (bytes_eq field (codes "0")) (Some 0) (plate_of field) (λ same s. word_short field (codes "0") (omega arith) same) (λ s. plate_short field s) some
 
 empty_short : (field : List ℕ) → IsSome (if length field == 0 then Some trigger.Always else None) → IsShort field
 empty_short field some =
@@ -47,7 +50,8 @@ task_short word argument some =
     let P = AreShort word argument in
     either P (bytes_eq word (codes "stop")) _ _ (λ same s. (word_short word (codes "stop") (omega arith) same, machine_short argument (mapped _ _ s))) (λ s.
     either P (bytes_eq word (codes "clear")) _ _ (λ same s. (word_short word (codes "clear") (omega arith) same, station_short argument (mapped _ _ s))) (λ s.
-    either P (bytes_eq word (codes "repair")) _ _ (λ same s. (word_short word (codes "repair") (omega arith) same, machine_short argument (mapped _ _ s))) (λ s. cc s) s) s) some
+    either P (bytes_eq word (codes "repair")) _ _ (λ same s. (word_short word (codes "repair") (omega arith) same, machine_short argument (mapped _ _ s))) (λ s.
+    either P (bytes_eq word (codes "expect")) _ _ (λ same s. (word_short word (codes "expect") (omega arith) same, plate_short argument (mapped _ _ s))) (λ s. cc s) s) s) s) some
 
 both_some : (t : Option Trigger) (a : Option Task) → IsSome (both t a) → IsSome t × IsSome a
 both_some None a s = cc s

@@ -24,12 +24,13 @@ trigger_of word bound =
     else if bytes_eq word (codes "failed") then option_map (λ m. trigger.Failed m) (machine_named bound)
     else None
 
--- the task of a word and the machine or station that it names
+-- the task of a word and the machine, station or plate that it names
 unfoldable pub task_of : List ℕ → List ℕ → Option Task
 task_of word argument =
     if bytes_eq word (codes "stop") then option_map (λ m. task.Stop m) (machine_named argument)
     else if bytes_eq word (codes "clear") then option_map (λ s. task.Clear s) (station_named argument)
     else if bytes_eq word (codes "repair") then option_map (λ m. task.Repair m) (machine_named argument)
+    else if bytes_eq word (codes "expect") then option_map (λ k. task.Expect k) (plate_of argument)
     else None
 
 abbrev pub both : Option Trigger → Option Task → Option Line

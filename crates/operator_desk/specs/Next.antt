@@ -2,7 +2,7 @@
 use Rattle.std.specs.Prelude.{Bool, true, nat_le, List, [], ◌∷◌, Option, Some, None, option_map, if◌then◌else◌}
 use Rattle.std.specs.Option.{option_and_then}
 use Rattle.cell_types.specs.declared.words.Entry.{Entry}
-use Rattle.cell_types.specs.declared.words.Entry.TheVariants.{StopAsked, Quarantined, Repaired}
+use Rattle.cell_types.specs.declared.words.Entry.TheVariants.{StopAsked, Quarantined, Repaired, Expected}
 use Rattle.cell_views.specs.Views.{count_of, is_failed, plate_of}
 use Rattle.plate_book.specs.Rules.History.{History}
 use Rattle.plate_book.specs.Rules.Legal.{allowed}
@@ -19,6 +19,7 @@ abbrev pub entry_of : Action → Entry
 entry_of (action.Stop m) = StopAsked m
 entry_of (action.Clear s k) = Quarantined k s
 entry_of (action.Repair m) = Repaired m
+entry_of (action.Expect k) = Expected k
 
 -- whether a trigger holds of a journal
 unfoldable pub holds : List Entry → Trigger → Bool
@@ -33,6 +34,7 @@ unfoldable pub action_of : List Entry → Task → Option Action
 action_of J (task.Stop m) = Some (action.Stop m)
 action_of J (task.Clear s) = option_map (λ k. action.Clear s k) (plate_of J s)
 action_of J (task.Repair m) = Some (action.Repair m)
+action_of J (task.Expect k) = Some (action.Expect k)
 
 -- an action, where its entry is allowed
 abbrev pub if_allowed : History → Action → Option Action

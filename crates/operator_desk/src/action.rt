@@ -15,6 +15,8 @@ pub enum Action {
     Clear(Station, PlateId),
     /// Repair the machine.
     Repair(Machine),
+    /// Say that the plate, which was taken into quarantine, will be laid back.
+    Expect(PlateId),
 }
 
 /// The entry by which an action is booked.
@@ -25,6 +27,7 @@ pub fn entry_of(action: Action) -> Entry
         Action::Stop(machine) => Entry::StopAsked { machine },
         Action::Clear(src, plate) => Entry::Quarantined { plate, src },
         Action::Repair(machine) => Entry::Repaired { machine },
+        Action::Expect(plate) => Entry::Expected { plate },
     }
 }
 
@@ -54,6 +57,7 @@ fn action_of(book: &Book, task: Task) -> Option<Action>
             None => None,
         },
         Task::Repair(machine) => Some(Action::Repair(machine)),
+        Task::Expect(plate) => Some(Action::Expect(plate)),
     }
 }
 

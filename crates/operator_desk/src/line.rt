@@ -1,5 +1,5 @@
 //! The lines of a script.
-use cell_types::{Machine, Station};
+use cell_types::{Machine, PlateId, Station};
 
 /// When a line's turn has come. The triggers are this project's profile.
 #[derive(Clone, Copy, Debug, PartialEq, Eq)]
@@ -25,6 +25,8 @@ pub enum Task {
     Clear(Station),
     /// The repair of the machine.
     Repair(Machine),
+    /// That the plate, which was taken into quarantine, is laid back.
+    Expect(PlateId),
 }
 
 /// A line of a script.

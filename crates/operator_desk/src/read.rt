@@ -55,6 +55,8 @@ fn read_task(word: &[u8], argument: &[u8]) -> Option<Task>
         read_station(argument).map(Task::Clear)
     } else if word == b"repair".as_slice() {
         read_machine(argument).map(Task::Repair)
+    } else if word == b"expect".as_slice() {
+        read_plate(argument).map(Task::Expect)
     } else {
         None
     }

@@ -2,6 +2,7 @@
 mod ends;
 mod faults;
 mod hands;
+mod returns;
 
 use cell_audit::{audit, write_journal};
 use cell_lines::WriteFault;
@@ -88,7 +89,7 @@ fn run_in_world<R: AllocGlobal + Wait + Abort>(
     let totals = outcome.book.totals();
     let mut text = Vec::new(alloc);
     assert!(rt; write_journal(alloc, outcome.book.journal(), &mut text).is_ok());
-    assert_eq!(rt; audit(alloc, text.as_slice()), Ok(totals));
+    assert_eq!(rt; audit(alloc, text.as_slice()), Ok((2, totals)));
     let Ok(entries) = entries_of(alloc, outcome.book.journal()) else {
         panic!(rt; "there is memory");
     };
@@ -117,7 +118,8 @@ fn check_run<R: AllocGlobal + Abort + Threads + Wait + Sync>(
     let (journal, answer) = told(rt, settings, faults, operator, true);
     assert_eq!(rt; answer, Ok(status));
     match audit(alloc, journal.as_slice()) {
-        Ok(totals) => {
+        Ok((number, totals)) => {
+            assert_eq!(rt; number, 2);
             let lines = lines_of(alloc, totals)?;
             assert!(rt; wanted.ends_with(lines.as_str().as_bytes()));
             let left = run_in_world(rt, settings, faults, operator);

@@ -37,7 +37,8 @@ fn check_run<R: AllocGlobal + Abort + Threads + Wait + Sync>(
     status: u8,
     end: &str,
     totals: &str,
-) {
+    laid_back: u32,
+) -> Result<(), Fail> {
     let written = written_of(rt, texts, false, status);
     let lines = written.as_slice();
     assert!(rt; lines.starts_with(end.as_bytes()));
@@ -48,13 +49,15 @@ fn check_run<R: AllocGlobal + Abort + Threads + Wait + Sync>(
     let answer = audit_lines(rt.alloc(), journal.as_slice(), &mut audited);
     assert_eq!(rt; answer, Ok(0));
     assert!(rt; audited.as_slice().starts_with(b"legal "));
-    assert!(rt; audited.as_slice().ends_with(totals.as_bytes()));
+    let due = format!(in rt.alloc(); "{totals}reinstated {laid_back}\n")?;
+    assert!(rt; audited.as_slice().ends_with(due.as_str().as_bytes()));
+    Ok(())
 }
 
 #[test]
-fn writes_how_a_run_ends(rt: HostRuntime) {
+fn writes_how_a_run_ends(rt: HostRuntime) -> Result<(), Fail> {
     let five = "admitted 5\nforged 5\nquarantined 0\ndelivered 5\n";
-    check_run(&rt, ["plates = 5", "", ""], 0, "finished\n", five);
+    check_run(&rt, ["plates = 5", "", ""], 0, "finished\n", five, 0)?;
     let cleared = "admitted 6\nforged 5\nquarantined 1\ndelivered 5\n";
     check_run(
         &rt,
@@ -62,12 +65,33 @@ fn writes_how_a_run_ends(rt: HostRuntime) {
         0,
         "finished\n",
         cleared,
-    );
+        0,
+    )?;
     let left = "admitted 6\nforged 5\nquarantined 0\ndelivered 5\n";
-    check_run(&rt, ["plates = 6", STUCK_PRESS, ""], 1, "stalled\n", left);
+    check_run(
+        &rt,
+        ["plates = 6", STUCK_PRESS, ""],
+        1,
+        "stalled\n",
+        left,
+        0,
+    )?;
     let nothing = "admitted 0\nforged 0\nquarantined 0\ndelivered 0\n";
     let one_turn = ["plates = 5\nturns = 1", "", ""];
-    check_run(&rt, one_turn, 1, "turn limit\n", nothing);
+    check_run(&rt, one_turn, 1, "turn limit\n", nothing, 0)
+}
+
+#[test]
+fn a_plate_that_is_laid_back_goes_on(rt: HostRuntime) -> Result<(), Fail> {
+    let operator = "failed,feed,clear,feed_in\nfailed,feed,repair,feed\nquarantined,1,expect,1\n";
+    check_run(
+        &rt,
+        ["plates = 3", "feed_belt,1,no_motion,\n", operator],
+        0,
+        "finished\n",
+        "admitted 3\nforged 3\nquarantined 1\ndelivered 3\n",
+        1,
+    )
 }
 
 // How many lines a text has.

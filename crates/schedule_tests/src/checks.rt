@@ -19,7 +19,7 @@ pub(crate) fn check_journal<R: AllocGlobal + Abort>(
     let mut text = Vec::new(alloc);
     assert_eq!(rt; write_journal(alloc, book.journal(), &mut text), Ok(()));
     let totals = book.totals();
-    assert_eq!(rt; audit(alloc, text.as_slice()), Ok(totals));
+    assert_eq!(rt; audit(alloc, text.as_slice()), Ok((2, totals)));
     assert_eq!(rt; book.journal().len(), totals.entries);
     assert!(rt; totals.entries <= entries.saturating_add(6));
     assert!(rt; totals.admitted <= plates);

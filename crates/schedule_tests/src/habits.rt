@@ -91,7 +91,7 @@ fn draw_hand(random: &mut Random, mending_rate: u32, book: &Book) -> Entry {
     if random.chance(mending_rate) {
         return mending(random, book).unwrap_or(Entry::Repaired { machine });
     }
-    match random.below(8) {
+    match random.below(9) {
         0 => Entry::StopAsked { machine },
         1 | 2 => Entry::Repaired { machine },
         3 | 4 => draw_clearing(random, book),
@@ -99,11 +99,14 @@ fn draw_hand(random: &mut Random, mending_rate: u32, book: &Book) -> Entry {
             machine,
             cause: Cause::Silent,
         },
+        6 => draw_expected(random, book),
         _ => entry_of(ONE_PLATE[random.below(62)]).unwrap_or(Entry::Repaired { machine }),
     }
 }
 
 // What would mend a failed machine, of the first one from any on: a plate that is in it is cleared, and then it is repaired.
+// Where none has failed, a plate that was cleared is expected; and where none was cleared either, a stop may be asked of that
+// machine.
 fn mending(random: &mut Random, book: &Book) -> Option<Entry> {
     let first = random.below(6);
     for step in 0..6 {
@@ -115,7 +118,30 @@ fn mending(random: &mut Random, book: &Book) -> Option<Entry> {
             });
         }
     }
-    None
+    if !book.quarantine().is_empty() {
+        return Some(draw_expected(random, book));
+    }
+    if random.chance(96) {
+        Some(Entry::StopAsked {
+            machine: MACHINES[first],
+        })
+    } else {
+        None
+    }
+}
+
+// Any plate is expected, or one of those in quarantine.
+fn draw_expected(random: &mut Random, book: &Book) -> Entry {
+    let mut plate = PlateId::new(random.below(10) as u32 + 1).unwrap_or_default();
+    let quarantine = book.quarantine();
+    for place in 0..quarantine.len() {
+        if let Some((cleared, _)) = quarantine.get_index(place) {
+            if random.chance(512) {
+                plate = *cleared;
+            }
+        }
+    }
+    Entry::Expected { plate }
 }
 
 // The first station of a machine that has a plate, and the plate.

@@ -8,7 +8,7 @@ pub(crate) struct Tally {
     pub(crate) schedules: u32,
     pub(crate) steps: u64,
     /// By the place of the kind.
-    pub(crate) kinds: [u32; 15],
+    pub(crate) kinds: [u32; 17],
     /// The declared causes, by their place.
     pub(crate) causes: [u32; 11],
     /// Turns that were refused as the journal was full, and as no plate may be admitted.
@@ -41,6 +41,8 @@ pub(crate) fn kind_of(entry: &Entry) -> Kind {
         Entry::StopAsked { .. } => Kind::StopAsked,
         Entry::Quarantined { .. } => Kind::Quarantined,
         Entry::Repaired { .. } => Kind::Repaired,
+        Entry::Expected { .. } => Kind::Expected,
+        Entry::Reinstated { .. } => Kind::Reinstated,
     }
 }
 
@@ -61,7 +63,7 @@ impl Tally {
 
     /// Counts what another tally counts.
     pub(crate) fn add(&mut self, other: &Tally) {
-        for kind in 0..15 {
+        for kind in 0..17 {
             count(&mut self.kinds[kind], other.kinds[kind]);
         }
         for cause in 0..11 {

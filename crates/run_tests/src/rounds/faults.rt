@@ -29,7 +29,7 @@ fn check_line<R: AllocGlobal + Abort + Threads + Wait + Sync>(rt: &R, line: &str
     assert_eq!(rt; status, Ok(wanted), "{line}");
     assert_eq!(rt;
         audit(rt.alloc(), journal.as_slice()),
-        Ok(left.totals),
+        Ok((2, left.totals)),
         "{line}"
     );
 }

@@ -9,6 +9,7 @@ ghosts-play_live g a = record {
   forged_name = a.blanks.forged.name;
   quarantined_name = a.blanks.quarantined.name;
   delivered_name = a.blanks.delivered.name;
+  reinstated_name = a.blanks.reinstated.name;
 }
 
 abbrev pub ghosts-play_again : goal.ghosts-play_again
@@ -20,4 +21,5 @@ ghosts-play_again g a = record {
   forged_name = a.blanks.forged.name;
   quarantined_name = a.blanks.quarantined.name;
   delivered_name = a.blanks.delivered.name;
+  reinstated_name = a.blanks.reinstated.name;
 }
