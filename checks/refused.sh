@@ -155,8 +155,10 @@ refuse_program() {
     refuse_words answer_is_right "audit" audit
     sed -i '3,$s/^\([a-z_]*\),/"\1",/' "$folder/input"
     refuse_words answer_is_right "audit (quoted fields)" audit
+    sed -i '1s/^profile,2/profile,1/' "$folder/input"
+    refuse_words answer_is_right "migrate" migrate
     refuse_words answer_is_right "run" run "${run[@]}"
-    printf '%s\n' 'admitted 1' 'forged 1' 'quarantined 0' 'delivered 1' > "$folder/due.totals"
+    printf '%s\n' 'admitted 1' 'forged 1' 'quarantined 0' 'delivered 1' 'reinstated 0' > "$folder/due.totals"
     refuse_words journal_is_right "run --journal" run --journal "$folder/short.toml" "$none" "$none"
 }
 

@@ -46,6 +46,7 @@ audit_texts() {
     measure '10 MB of quotes' 'unreadable 0' 1 32 20 audit < <(bytes $((10 * mega)) '"')
     measure 'a quoted field of 50 MB' 'unreadable 1' 1 200 20 audit < <(printf "$good\""; bytes $((50 * mega)) a)
     measure '5 MB of commas after a quoted field' 'unreadable 1' 1 160 20 audit < <(printf "$good\"a\""; bytes $((5 * mega)) ,)
+    measure 'a migration of 100 MB of letters' '' 1 12 20 migrate < <(printf "$good"; bytes $((100 * mega)) a)
 }
 
 settings_texts() {
@@ -102,15 +103,16 @@ unwritten() {
 
 # Each command with standard output closed, full, and a pipe that nobody reads.
 outputs_that_fail() {
-    for words in 'audit' '--help' 'check good' 'sim good none none' 'sim --journal good none none' 'run good none none' 'run --journal good none none'; do
+    printf 'profile,1,,\n' > journal
+    for words in 'audit' 'migrate' '--help' 'check good' 'sim good none none' 'sim --journal good none none' 'run good none none' 'run --journal good none none'; do
         # The words of a command are parted at blanks.
         # shellcheck disable=SC2086
         {
-            "$cellctl" $words < /dev/null 2> told >&-
+            "$cellctl" $words < journal 2> told >&-
             unwritten "cellctl $words, output closed" $?
-            "$cellctl" $words < /dev/null 2> told > /dev/full
+            "$cellctl" $words < journal 2> told > /dev/full
             unwritten "cellctl $words, output full" $?
-            { sleep 1; "$cellctl" $words < /dev/null 2> told; echo $? > status; } | true
+            { sleep 1; "$cellctl" $words < journal 2> told; echo $? > status; } | true
             while [ ! -s status ]; do sleep 0.1; done
             unwritten "cellctl $words, a pipe that ended" "$(cat status)"
             : > status

@@ -58,6 +58,7 @@ fn totals(entries: u32, quarantined: u32) -> Totals {
         forged: 0,
         quarantined,
         delivered: 0,
+        reinstated: 0,
     }
 }
 

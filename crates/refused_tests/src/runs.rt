@@ -119,7 +119,8 @@ fn run_texts_on_threads_with_journal(rt: HostRuntime) -> Result<(), Fail> {
     } else {
         assert_eq!(rt; answer, Ok(0));
         match audited {
-            Ok(totals) => {
+            Ok((number, totals)) => {
+                assert_eq!(rt; number, 2);
                 let Totals {
                     admitted,
                     forged,

@@ -1,5 +1,5 @@
 //! Texts that are read, judged and written.
-use cell_audit::{AuditError, WriteError};
+use cell_audit::{AuditError, MigrateError, WriteError};
 use cell_diagnosis::Limits;
 use cell_lines::WriteFault;
 use cell_samples::{ONE_PLATE, begun, call_begins, call_ends, one_plate_text};
@@ -142,7 +142,7 @@ fn check_lines_out_of_range(rt: HostRuntime) -> Result<(), Fail> {
 fn write_journal(rt: HostRuntime) -> Result<(), Fail> {
     let alloc = rt.alloc();
     let book = begun(alloc, 100, 10, 62).expect(&rt, "a book");
-    let due = one_plate_text(alloc)?;
+    let due = one_plate_text(alloc, 2)?;
     let mut written = Vec::with_capacity(alloc, ROOM)?;
     call_begins(alloc);
     let answer = cell_audit::write_journal(alloc, book.journal(), &mut written);
@@ -161,10 +161,13 @@ const PLAIN: &[u8] = b"quarantined,1,table,\n";
 
 const QUOTED: &[u8] = b"\"quarantined\",1,table,\n";
 
-// The text of a journal of ten entries, in which the first plate is cleared from the table by this last record.
-fn clearing(alloc: Global, last: &[u8]) -> Result<Vec<u8>, AllocError> {
+const PROFILE_1: &[u8] = b"profile,1,,\n";
+
+// The text of a journal of ten entries, which begins with the profile's record, and in which the first plate is cleared from
+// the table by this last record.
+fn clearing(alloc: Global, profile: &[u8], last: &[u8]) -> Result<Vec<u8>, AllocError> {
     let mut text = Vec::new(alloc);
-    text.extend_from_slice(b"profile,1,,\n")?;
+    text.extend_from_slice(profile)?;
     for record in ONE_PLATE.iter().take(7) {
         text.extend_from_slice(record.as_bytes())?;
         text.push(b'\n')?;
@@ -177,7 +180,7 @@ fn clearing(alloc: Global, last: &[u8]) -> Result<Vec<u8>, AllocError> {
 // Audits that text.
 fn check_audit<R: AllocGlobal + Abort>(rt: &R, last: &[u8]) -> Result<(), Fail> {
     let alloc = rt.alloc();
-    let text = clearing(alloc, last)?;
+    let text = clearing(alloc, PROFILE_1, last)?;
     call_begins(alloc);
     let answer = cell_audit::audit(alloc, text.as_slice());
     call_ends(alloc, answer == Err(AuditError::OutOfMemory));
@@ -187,9 +190,10 @@ fn check_audit<R: AllocGlobal + Abort>(rt: &R, last: &[u8]) -> Result<(), Fail> 
         forged: 0,
         quarantined: 1,
         delivered: 0,
+        reinstated: 0,
     };
     match answer {
-        Ok(totals) => assert_eq!(rt; totals, due),
+        Ok(told) => assert_eq!(rt; told, (1, due)),
         Err(why) => assert_eq!(rt; why, AuditError::OutOfMemory),
     }
     Ok(())
@@ -208,7 +212,7 @@ fn audit_quoted(rt: HostRuntime) -> Result<(), Fail> {
 // What is printed for the audit of that text.
 fn check_audit_lines<R: AllocGlobal + Abort>(rt: &R, last: &[u8]) -> Result<(), Fail> {
     let alloc = rt.alloc();
-    let text = clearing(alloc, last)?;
+    let text = clearing(alloc, PROFILE_1, last)?;
     let mut written = Vec::with_capacity(alloc, ROOM)?;
     call_begins(alloc);
     let answer = cell_lines::audit_lines(alloc, text.as_slice(), &mut written);
@@ -226,4 +230,59 @@ fn audit_lines(rt: HostRuntime) -> Result<(), Fail> {
 #[test]
 fn audit_lines_quoted(rt: HostRuntime) -> Result<(), Fail> {
     check_audit_lines(&rt, QUOTED)
+}
+
+// What is written where that text is migrated from profile 1 to profile 2.
+fn migrated(alloc: Global) -> Result<Vec<u8>, AllocError> {
+    clearing(alloc, b"profile,2,,\n", PLAIN)
+}
+
+// Migrates that text.
+fn check_migrate<R: AllocGlobal + Abort>(rt: &R, last: &[u8]) -> Result<(), Fail> {
+    let alloc = rt.alloc();
+    let text = clearing(alloc, PROFILE_1, last)?;
+    let due = migrated(alloc)?;
+    let mut written = Vec::with_capacity(alloc, ROOM)?;
+    call_begins(alloc);
+    let answer = cell_audit::migrate(alloc, text.as_slice(), &mut written);
+    call_ends(alloc, answer == Err(MigrateError::OutOfMemory));
+    match answer {
+        Ok(told) => {
+            assert_eq!(rt;
+                [told.entries, told.quarantined, told.reinstated],
+                [10, 1, 0]
+            );
+            assert_eq!(rt; written.as_slice(), due.as_slice());
+        }
+        Err(why) => {
+            assert_eq!(rt; why, MigrateError::OutOfMemory);
+            assert!(rt; due.as_slice().starts_with(written.as_slice()));
+        }
+    }
+    Ok(())
+}
+
+#[test]
+fn migrate(rt: HostRuntime) -> Result<(), Fail> {
+    check_migrate(&rt, PLAIN)
+}
+
+#[test]
+fn migrate_quoted(rt: HostRuntime) -> Result<(), Fail> {
+    check_migrate(&rt, QUOTED)
+}
+
+#[test]
+fn migrate_lines(rt: HostRuntime) -> Result<(), Fail> {
+    let alloc = rt.alloc();
+    let text = clearing(alloc, PROFILE_1, PLAIN)?;
+    let due = migrated(alloc)?;
+    let mut written = Vec::with_capacity(alloc, ROOM)?;
+    let mut errors = Vec::with_capacity(alloc, ROOM)?;
+    call_begins(alloc);
+    let answer = cell_lines::migrate_lines(alloc, text.as_slice(), &mut written, &mut errors);
+    call_ends(alloc, is_wanted(answer));
+    check_written(&rt, answer, written.as_slice(), 0, due.as_slice());
+    assert!(rt; errors.as_slice().is_empty());
+    Ok(())
 }

@@ -44,6 +44,7 @@ fn entries(entries: u32) -> Totals {
         forged: 0,
         quarantined: 0,
         delivered: 0,
+        reinstated: 0,
     }
 }
 

@@ -9,4 +9,5 @@ ghosts-take_steps g a = record {
   forged_name = a.blanks.forged.name;
   quarantined_name = a.blanks.quarantined.name;
   delivered_name = a.blanks.delivered.name;
+  reinstated_name = a.blanks.reinstated.name;
 }
