@@ -25,6 +25,7 @@ HasPaths rows paths = HasPath rows (codes "settings") paths.settings.now
 -- the order of a command's name and what is matched below it
 abbrev pub Fits : Text → List Row → Order → Type 0
 Fits name rows order.Audit = name ≡ codes "audit"
+Fits name rows order.Migrate = name ≡ codes "migrate"
 Fits name rows (order.Check path) = (name ≡ codes "check") × HasPath rows (codes "settings") path.now
 Fits name rows (order.Sim journal paths) = (name ≡ codes "sim") × HasFlag rows (codes "journal") journal × HasPaths rows paths
 Fits name rows (order.Run journal paths) = (name ≡ codes "run") × HasFlag rows (codes "journal") journal × HasPaths rows paths

@@ -10,6 +10,9 @@ needing_help s = record s { subcommand_required = true; arg_required_else_help =
 abbrev pub audit : App
 audit = new_app (codes "audit")
 
+abbrev pub migrate : App
+migrate = new_app (codes "migrate")
+
 -- a path that has to be given
 abbrev pub path_rule : Text → Rule
 path_rule id = record (new_rule id) { required = true; value_names = 1 }
@@ -32,6 +35,6 @@ abbrev pub cellctl : App
 cellctl =
     let whole =
     with_subcommand
-    (with_subcommand (with_subcommand (with_subcommand (new_app (codes "cellctl")) audit.top) check.top) (running (codes "sim")).top)
+    (with_subcommand (with_subcommand (with_subcommand (with_subcommand (new_app (codes "cellctl")) audit.top) migrate.top) check.top) (running (codes "sim")).top)
     (running (codes "run")).top in
     record whole { top = needing_help whole.top }

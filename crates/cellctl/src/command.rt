@@ -2,7 +2,7 @@
 ghost use Rattle.std.specs.Prelude.{◌≡◌, IfOk, codes, false};
 ghost use Rattle.clap.specs.Words.{app_of, rule_of, with_subcommand};
 ghost use Rattle.clap.specs.declared.builder.command.Command.TheViews.{out-Command};
-ghost use Rattle.cellctl.specs.Shape.{audit, cellctl, check, journal_rule, path_rule, running};
+ghost use Rattle.cellctl.specs.Shape.{audit, cellctl, check, journal_rule, migrate, path_rule, running};
 
 use clap::{Arg, ArgAction, Command};
 use std::alloc::{AllocError, Global};
@@ -12,21 +12,39 @@ const ABOUT: &str = "Simulates a fault-tolerant production cell, and judges its 
 const AUDIT_ABOUT: &str = "Says whether a journal is legal, and what it counts";
 
 const AUDIT_HELP: &str = "\
-Reads a journal's text on standard input: the record profile,1,, and then one record of four fields for each entry, \
-such as lamp,feed,green, or conveyed,feed_belt,1,table.
+Reads a journal's text on standard input: the record profile,2,, or profile,1,, and then one record of four fields for \
+each entry, such as lamp,feed,green, or conveyed,feed_belt,1,table. In profile 1 no plate is laid back.
 
-Prints, for a legal journal, its numbers of entries and of admitted, forged, quarantined and delivered plates:
+Prints, for a legal journal, its numbers of entries and of admitted, forged, quarantined and delivered plates, and in \
+profile 2 of plates that were laid back:
   legal 4
   admitted 1
   forged 0
   quarantined 0
   delivered 0
+  reinstated 0
 or the first entry that isn't allowed after those before it, counted from 1:
   refused 3 LampRed feed
 or the first record that can't be read, 0 for the profile's:
   unreadable 1
 
 Exit status: 0 legal, 1 refused or unreadable, 2 wrong arguments, 3 a read or a write failed, 4 out of memory.";
+
+const MIGRATE_ABOUT: &str = "Writes a journal of profile 1 in profile 2";
+
+const MIGRATE_HELP: &str = "\
+Reads a journal's text of profile 1 on standard input: the record profile,1,, and then one record of four fields for each \
+entry. In profile 1 no plate is laid back.
+
+Prints the same journal's text of profile 2: the record profile,2,, and then the same entries' records.
+
+The whole text is judged before anything is printed. Of a text that isn't a legal journal's the first entry that isn't \
+allowed is told on standard error, counted from 1:
+  refused 3 LampRed feed
+or the first record that can't be read, 0 for the profile's, as where the text is of profile 2 already:
+  unreadable 0
+
+Exit status: 0 migrated, 1 refused or unreadable, 2 wrong arguments, 3 a read or a write failed, 4 out of memory.";
 
 const CHECK_ABOUT: &str = "Says whether a run's settings are good";
 
@@ -102,6 +120,8 @@ const OPERATOR_HELP: &str = "The file with the operator's script";
 
 const EXAMPLE: &str = "Example: cellctl audit < examples/whole.journal";
 
+const MIGRATE_EXAMPLE: &str = "Example: cellctl migrate < examples/whole.journal";
+
 const CHECK_EXAMPLE: &str = "Example: cellctl check examples/cell.toml";
 
 const SIM_EXAMPLE: &str =
@@ -118,6 +138,16 @@ fn audit_command<'a>(alloc: Global) -> Command<'a>
         .about(AUDIT_ABOUT)
         .long_about(AUDIT_HELP)
         .after_help(EXAMPLE)
+}
+
+fn migrate_command<'a>(alloc: Global) -> Command<'a>
+    ensures app { app_of result ≡ migrate }
+    ensures local { (out-Command result).has_globals ≡ false }
+{
+    Command::new(alloc, "migrate")
+        .about(MIGRATE_ABOUT)
+        .long_about(MIGRATE_HELP)
+        .after_help(MIGRATE_EXAMPLE)
 }
 
 // A path that has to be given.
@@ -215,9 +245,10 @@ pub(crate) fn command<'a>(alloc: Global) -> Result<Command<'a>, AllocError>
 {
     let bare = Command::new(alloc, "cellctl");
     let one = add(bare, audit_command(alloc))?;
-    let two = add(one, check_command(alloc)?)?;
-    let three = add(two, sim_command(alloc)?)?;
-    let command = add(three, run_command(alloc)?)?;
+    let two = add(one, migrate_command(alloc))?;
+    let three = add(two, check_command(alloc)?)?;
+    let four = add(three, sim_command(alloc)?)?;
+    let command = add(four, run_command(alloc)?)?;
     Ok(
         command
             .about(ABOUT)

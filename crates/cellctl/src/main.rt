@@ -1,10 +1,10 @@
-//! `cellctl`: the audit of a production cell's journal, the check of a run's settings, and the runs of the simulated cell.
+//! `cellctl`: the audit and the migration of a production cell's journal, the check of a run's settings, and the runs of the simulated cell.
 #![tactic(auto)]
 
 mod command;
 mod order;
 
-use cell_lines::{WriteFault, audit_lines, status};
+use cell_lines::{WriteFault, audit_lines, migrate_lines, status};
 use cell_runs::run_texts;
 use cell_settings::check_lines;
 use clap::Error;
@@ -46,6 +46,20 @@ fn audit_input<R: AllocGlobal + Input + Print>(rt: &R) -> io::Result<u8> {
     let alloc = rt.alloc();
     let mut output = io::BufWriter::new(alloc, io::writer(rt))?;
     match audit_lines(alloc, rt.reader(), &mut output) {
+        Ok(status) => {
+            output.flush()?;
+            Ok(status)
+        }
+        Err(WriteFault) => Ok(status::DEVICE_FAULT),
+    }
+}
+
+// Writes the text on standard input in profile 2. Of a text that is refused there is a line on standard error, and nothing is
+// printed. All that is printed is written out before the status is given.
+fn migrate_input<R: AllocGlobal + Input + Print, E: Print>(rt: &R, errors: &E) -> io::Result<u8> {
+    let alloc = rt.alloc();
+    let mut output = io::BufWriter::new(alloc, io::writer(rt))?;
+    match migrate_lines(alloc, rt.reader(), &mut output, &mut io::writer(errors)) {
         Ok(status) => {
             output.flush()?;
             Ok(status)
@@ -98,8 +112,9 @@ fn run_files<R: AllocGlobal + Files + Print + Threads + Wait + Sync>(
 }
 
 // Reads the words, does what they say, and gives the status.
-fn run<R: AllocGlobal + Env + Files + Input + Print + Eprint + Threads + Wait + Sync>(
+fn run<R: AllocGlobal + Env + Files + Input + Print + Eprint + Threads + Wait + Sync, E: Print>(
     rt: &R,
+    errors: &E,
 ) -> io::Result<u8> {
     let alloc = rt.alloc();
     let arguments = match env::args(rt) {
@@ -117,6 +132,7 @@ fn run<R: AllocGlobal + Env + Files + Input + Print + Eprint + Threads + Wait + 
     }
     match read_words(alloc, texts.as_slice()) {
         Ok(Order::Audit) => audit_input(rt),
+        Ok(Order::Migrate) => migrate_input(rt, errors),
         Ok(Order::Check(path)) => check_file(rt, path),
         Ok(Order::Sim(journal, paths)) => run_files(rt, false, journal, paths),
         Ok(Order::Run(journal, paths)) => run_files(rt, true, journal, paths),
@@ -125,7 +141,7 @@ fn run<R: AllocGlobal + Env + Files + Input + Print + Eprint + Threads + Wait + 
 }
 
 fn main(rt: HostRuntime) -> ExitCode {
-    let status = match run(&rt) {
+    let status = match run(&rt, &rt.stderr()) {
         Ok(status) => status,
         Err(error) => status_of(&error),
     };

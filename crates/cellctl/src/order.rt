@@ -22,6 +22,8 @@ pub struct Paths<'a> {
 pub enum Order<'a> {
     /// Audit the journal's text on standard input.
     Audit,
+    /// Write the text of profile 1 on standard input in profile 2.
+    Migrate,
     /// Check the settings in the file of this path.
     Check(&'a str),
     /// Run the simulated cell on one thread by these files, and print its journal where this is true.
@@ -64,6 +66,7 @@ fn order_of<'a>(name: &str, matches: &ArgMatches<'a>) -> Option<Order<'a>>
 {
     match name {
         "audit" => Some(Order::Audit),
+        "migrate" => Some(Order::Migrate),
         "check" => Some(Order::Check(path(matches, "settings")?)),
         "sim" => Some(Order::Sim(journal(matches), three_paths(matches)?)),
         "run" => Some(Order::Run(journal(matches), three_paths(matches)?)),

@@ -7,6 +7,8 @@ use clap::error::ErrorKind;
 fn reads_the_words_of_the_command_line(rt: HostRuntime) {
     let audit = read_words(rt.alloc(), &["cellctl", "audit"]);
     assert!(rt; matches!(&audit, Ok(Order::Audit)));
+    let migrate = read_words(rt.alloc(), &["cellctl", "migrate"]);
+    assert!(rt; matches!(&migrate, Ok(Order::Migrate)));
     match read_words(rt.alloc(), &["cellctl", "check", "settings.toml"]) {
         Ok(order) => assert_eq!(rt; order, Order::Check("settings.toml")),
         Err(error) => panic!(rt; "refused: {:?}", error.kind()),
@@ -34,6 +36,10 @@ fn reads_the_words_of_the_command_line(rt: HostRuntime) {
         ),
         (
             &["cellctl", "audit", "journal.csv"],
+            ErrorKind::UnknownArgument,
+        ),
+        (
+            &["cellctl", "migrate", "journal.csv"],
             ErrorKind::UnknownArgument,
         ),
         (&["cellctl", "--help"], ErrorKind::DisplayHelp),

@@ -1,4 +1,5 @@
-use Rattle.std.proofs.Common.{◌≡◌, ◌∙◌, ap, sym, map, Some}
+use Rattle.std.proofs.Common.{◌≡◌, ◌∙◌, Err, Some, ap, map, rules, subst, sym}
+use Rattle.clap.specs.Kinds.{HasKind}
 use Rattle.clap.specs.Words.{App, fault_of, found_of, is_simple, is_simple_and_free, rows_of, subcommand_of, subcommand_rows_of}
 use Rattle.cellctl.proofs.Facts.{joined}
 use Rattle.cellctl.proofs.order.read_words.Goals as goal
@@ -15,3 +16,10 @@ pub returns-in-Some-order_of-clause-fault : goal.returns-in-Some-order_of-clause
 returns-in-Some-order_of-clause-fault c =
     let app = c.in_ok-command.ensures.app in
     sym (ap (λ (a : App). fault_of a (map (λ w. w.now) c.args.words.now)) app) ∙ c.in_ok-matches.ensures.kinds (ap is_simple_and_free app)
+
+pub returns-in_err-matches-clause-fault : goal.returns-in_err-matches-clause-fault
+returns-in_err-matches-clause-fault c =
+    let app = c.in_ok-command.ensures.app in
+    let why = c.in_err-matches.field-0.0 in
+    let is : c.from_residual-in_err-matches.result ≡ Err why = search rules in
+    rw is (subst (λ kinds. HasKind kinds why) (ap (λ (a : App). fault_of a (map (λ w. w.now) c.args.words.now)) app) (c.in_err-matches.ensures.kinds (ap is_simple_and_free app)))
