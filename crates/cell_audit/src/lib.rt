@@ -7,6 +7,7 @@ mod judge;
 pub mod laws;
 mod migration;
 mod profile;
+mod read;
 mod watched;
 mod write;
 
@@ -14,5 +15,6 @@ pub use error::{AuditError, MigrateError};
 pub use judge::{audit, audit_rows};
 pub use migration::{migrate, migrate_watched};
 pub use profile::Profile;
+pub use read::{Reading, read_journal};
 pub use watched::{WatchedWriter, WriteFault};
 pub use write::{WriteError, write_journal, write_journal_watched};
