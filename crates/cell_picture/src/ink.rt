@@ -1,0 +1,157 @@
+//! The shapes and texts of a drawing, in SVG's elements.
+use crate::ShownPlate;
+use crate::words::pose_word;
+use cell_types::AxisState;
+use std::fmt::Display;
+use std::io::Write;
+use std::{fmt, io};
+
+/// A place of a drawing.
+#[derive(Clone, Copy)]
+pub struct Spot {
+    pub x: u32,
+    pub y: u32,
+}
+
+/// A place of a drawing.
+pub fn xy(x: u32, y: u32) -> Spot {
+    Spot { x, y }
+}
+
+/// A rectangle, by its upper left corner.
+#[derive(Clone, Copy)]
+pub struct Room {
+    pub corner: Spot,
+    pub width: u32,
+    pub height: u32,
+}
+
+/// The line of a machine's shape: thick, red and broken where the machine is booked failed.
+#[derive(Clone, Copy)]
+pub struct Outline {
+    pub failed: bool,
+}
+
+impl fmt::Display for Outline {
+    fn fmt<W: fmt::Write>(&self, f: &mut fmt::Formatter<W>) -> fmt::Result {
+        if self.failed {
+            write!(
+                f,
+                "stroke=\"#c00000\" stroke-width=\"4\" stroke-dasharray=\"9 4\""
+            )
+        } else {
+            write!(f, "stroke=\"#222222\" stroke-width=\"2\"")
+        }
+    }
+}
+
+/// The pose that an axis has; where it goes, the pose that it has left and that to which it goes.
+#[derive(Clone, Copy)]
+pub struct Way(pub AxisState);
+
+impl fmt::Display for Way {
+    fn fmt<W: fmt::Write>(&self, f: &mut fmt::Formatter<W>) -> fmt::Result {
+        let at = pose_word(self.0.at);
+        match self.0.going {
+            Some(to) => write!(f, "{at} \u{2192} {}", pose_word(to)),
+            None => write!(f, "{at}"),
+        }
+    }
+}
+
+/// Writes a text that begins at a spot.
+pub fn ink_text<W: Write, D: Display + Drop>(out: &mut W, at: Spot, text: D) -> io::Result<()> {
+    let Spot { x, y } = at;
+    writeln!(out, "<text x=\"{x}\" y=\"{y}\">{text}</text>")
+}
+
+/// Writes a text in bold letters that begins at a spot.
+pub fn ink_bold<W: Write, D: Display + Drop>(out: &mut W, at: Spot, text: D) -> io::Result<()> {
+    let Spot { x, y } = at;
+    writeln!(
+        out,
+        "<text x=\"{x}\" y=\"{y}\" font-weight=\"bold\">{text}</text>"
+    )
+}
+
+/// Writes a text that ends at a spot.
+pub fn ink_right<W: Write, D: Display + Drop>(out: &mut W, at: Spot, text: D) -> io::Result<()> {
+    let Spot { x, y } = at;
+    writeln!(
+        out,
+        "<text x=\"{x}\" y=\"{y}\" text-anchor=\"end\">{text}</text>"
+    )
+}
+
+/// Draws a line.
+pub fn ink_line<W: Write>(out: &mut W, from: Spot, to: Spot, width: u32) -> io::Result<()> {
+    writeln!(
+        out,
+        "<line x1=\"{}\" y1=\"{}\" x2=\"{}\" y2=\"{}\" stroke=\"#667085\" stroke-width=\"{width}\"/>",
+        from.x, from.y, to.x, to.y
+    )
+}
+
+/// Draws a circle.
+pub fn ink_circle<W: Write>(
+    out: &mut W,
+    centre: Spot,
+    radius: u32,
+    fill: &str,
+    outline: Outline,
+) -> io::Result<()> {
+    let Spot { x, y } = centre;
+    writeln!(
+        out,
+        "<circle cx=\"{x}\" cy=\"{y}\" r=\"{radius}\" fill=\"{fill}\" {outline}/>"
+    )
+}
+
+/// Draws a rectangle.
+pub fn ink_room<W: Write>(out: &mut W, room: Room, fill: &str, outline: Outline) -> io::Result<()> {
+    writeln!(
+        out,
+        "<rect x=\"{}\" y=\"{}\" width=\"{}\" height=\"{}\" rx=\"4\" fill=\"{fill}\" {outline}/>",
+        room.corner.x, room.corner.y, room.width, room.height
+    )
+}
+
+/// Draws a plate round a xy, with its number: white where it isn't forged, dark and with a star where it is.
+pub fn ink_plate<W: Write>(out: &mut W, centre: Spot, shown: ShownPlate) -> io::Result<()> {
+    let (fill, letters, star) = if shown.forged {
+        ("#8a3b00", "#ffffff", "*")
+    } else {
+        ("#ffffff", "#000000", "")
+    };
+    writeln!(
+        out,
+        "<rect x=\"{}\" y=\"{}\" width=\"46\" height=\"26\" rx=\"5\" fill=\"{fill}\" stroke=\"#000000\" stroke-width=\"1.5\"/>",
+        centre.x.saturating_sub(23),
+        centre.y.saturating_sub(13)
+    )?;
+    writeln!(
+        out,
+        "<text x=\"{}\" y=\"{}\" font-size=\"10\" text-anchor=\"middle\" fill=\"{letters}\">{}{star}</text>",
+        centre.x,
+        centre.y.saturating_add(4),
+        shown.plate.number()
+    )
+}
+
+// Draws the place of a plate round a spot.
+fn ink_gap<W: Write>(out: &mut W, centre: Spot) -> io::Result<()> {
+    writeln!(
+        out,
+        "<rect x=\"{}\" y=\"{}\" width=\"46\" height=\"26\" rx=\"5\" fill=\"none\" stroke=\"#8a94a6\" stroke-dasharray=\"2 3\"/>",
+        centre.x.saturating_sub(23),
+        centre.y.saturating_sub(13)
+    )
+}
+
+/// Draws the plate of a station, or the place of one where the station is empty.
+pub fn ink_place<W: Write>(out: &mut W, centre: Spot, shown: Option<ShownPlate>) -> io::Result<()> {
+    match shown {
+        Some(shown) => ink_plate(out, centre, shown),
+        None => ink_gap(out, centre),
+    }
+}

@@ -1,0 +1,25 @@
+//! What a picture shows of the first entries of a book.
+ghost use Rattle.std.specs.Prelude.{◌≡◌, ◌≤◌, ◌<◌, ◌-◌, length, take, slice_get, None};
+ghost use Rattle.cell_picture.specs.Seen.{ShowsViews, MarksForged};
+
+use crate::{Facts, facts_of};
+use cell_types::Entry;
+use plate_book::Book;
+
+/// What a picture shows of the first `i` entries of a book's journal, each part as the journal's views tell it, and the
+/// last of these entries; `None` where `i` is 0. At most 255 entries are replayed.
+pub fn facts_after(book: &Book, i: u32) -> (Facts, Option<Entry>)
+    requires { i ≤ length book.now.entries }
+    ensures views { ShowsViews result.0 (take i book.now.entries) }
+    ensures forged { MarksForged result.0 (take i book.now.entries) }
+    ensures none { i ≡ 0 → result.1 ≡ None }
+    ensures last { 0 < i → result.1 ≡ slice_get book.now.entries (i - 1) }
+{
+    book.is_lawful();
+    let (snapshot, _) = book.state_at(i);
+    let last = match i.checked_sub(1) {
+        Some(place) => book.journal().get(place),
+        None => None,
+    };
+    (facts_of(&snapshot), last)
+}

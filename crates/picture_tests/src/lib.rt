@@ -1,0 +1,12 @@
+//! The tests of `cell_picture` and `cell_show`: the pictures of some states, whole, what is shown for journals' texts, and
+//! what readers and writers that fail leave of it.
+#![tactic(auto)]
+
+#[cfg(test)]
+mod drawings;
+#[cfg(test)]
+mod shows;
+#[cfg(test)]
+mod states;
+#[cfg(test)]
+mod texts;
