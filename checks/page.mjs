@@ -1,0 +1,252 @@
+// Checks a page of `cellctl show --html` in a headless browser, by the protocol of its developer tools over a pipe.
+// Usage: node checks/page.mjs PAGE PICTURES     checks/page.sh calls it.
+import { spawn } from "node:child_process";
+import { readFileSync, writeFileSync } from "node:fs";
+import { pathToFileURL } from "node:url";
+
+const [page, pictures] = process.argv.slice(2);
+const address = pathToFileURL(page).href;
+const text = readFileSync(page, "utf8");
+const journal = JSON.parse(text.split('<script type="application/json" id="journal">')[1].split("</script>")[0]);
+const { machines, stations, parts, poses, ways, rows } = journal;
+const last = rows.length - 1;
+
+const browser = spawn(
+  process.env.CHROMIUM ?? "chromium",
+  ["--headless=new", "--no-sandbox", "--disable-gpu", "--hide-scrollbars", "--remote-debugging-pipe", "about:blank"],
+  { stdio: ["ignore", "ignore", "ignore", "pipe", "pipe"] },
+);
+const waiting = new Map();
+const requests = [];
+const faults = [];
+let session;
+let count = 0;
+let rest = "";
+browser.stdio[4].setEncoding("utf8");
+browser.stdio[4].on("data", (data) => {
+  const messages = (rest + data).split("\0");
+  rest = messages.pop();
+  messages.map((message) => JSON.parse(message)).forEach(hear);
+});
+const hear = (message) => {
+  if (message.id !== undefined) {
+    const { resolve, reject } = waiting.get(message.id);
+    waiting.delete(message.id);
+    if (message.error === undefined) resolve(message.result);
+    else reject(new Error(message.error.message));
+  }
+  if (message.method === "Network.requestWillBeSent") requests.push(message.params.request.url);
+  if (message.method === "Runtime.exceptionThrown") faults.push(message.params.exceptionDetails.exception?.description ?? "an exception");
+  if (message.method === "Log.entryAdded") faults.push(message.params.entry.text);
+};
+const tell = (method, params = {}) => new Promise((resolve, reject) => {
+  count += 1;
+  waiting.set(count, { resolve, reject });
+  browser.stdio[3].write(JSON.stringify({ id: count, method, params, sessionId: session }) + "\0");
+});
+const ask = async (expression) => {
+  const { result, exceptionDetails } = await tell("Runtime.evaluate", { expression, returnByValue: true, awaitPromise: true });
+  if (exceptionDetails !== undefined) throw new Error(exceptionDetails.exception?.description ?? exceptionDetails.text);
+  return result.value;
+};
+const sleep = (milliseconds) => new Promise((resolve) => setTimeout(resolve, milliseconds));
+
+let failed = 0;
+const check = (what, found, wanted) => {
+  if (JSON.stringify(found) === JSON.stringify(wanted)) return;
+  failed += 1;
+  console.log(`  ${what}: found ${JSON.stringify(found)}, wanted ${JSON.stringify(wanted)}`);
+};
+
+const open = async (hash) => {
+  await tell("Page.navigate", { url: "about:blank" });
+  const start = performance.now();
+  await tell("Page.navigate", { url: address + hash });
+  for (let i = 0; i < 600 && !(await ask("document.documentElement?.classList.contains('ready') === true")); i += 1) await sleep(10);
+  await ask("new Promise((drawn) => requestAnimationFrame(() => requestAnimationFrame(drawn)))");
+  return Math.round(performance.now() - start);
+};
+const resize = (width, height) => tell("Emulation.setDeviceMetricsOverride", { width, height, deviceScaleFactor: 1, mobile: false });
+const key = async (name, code) => {
+  const press = { key: name, code: name === " " ? "Space" : name, windowsVirtualKeyCode: code };
+  await tell("Input.dispatchKeyEvent", { type: "keyDown", ...press, text: name === " " ? " " : undefined });
+  await tell("Input.dispatchKeyEvent", { type: "keyUp", ...press });
+};
+const click = async (x, y) => {
+  const point = { x, y, button: "left", clickCount: 1 };
+  await tell("Input.dispatchMouseEvent", { type: "mousePressed", ...point });
+  await tell("Input.dispatchMouseEvent", { type: "mouseReleased", ...point });
+};
+const middle = (id) => ask(`(() => { const part = document.querySelector(${JSON.stringify(id)}); part.scrollIntoView({ block: "center" });
+  const box = part.getBoundingClientRect(); return { x: box.left + box.width / 2, y: box.top + box.height / 2 }; })()`);
+const entry = () => ask("Number(document.getElementById('number').value)");
+const picture = async (name) => {
+  await ask("window.scrollTo(0, 0)");
+  const { data } = await tell("Page.captureScreenshot", { format: "png" });
+  writeFileSync(`${pictures}/${name}.png`, Buffer.from(data, "base64"));
+};
+
+// What is drawn, read from the page as it stands.
+const drawn = () => ask(`(() => {
+  const words = (id) => document.getElementById(id).textContent;
+  const shown = (node) => getComputedStyle(node).visibility === "visible";
+  const each = (count, read) => Array.from({ length: count }, (_, i) => read(i));
+  return {
+    plates: each(9, (s) => { const node = document.getElementById("plate-" + s); return shown(node) ? node.textContent.trim() : ""; }),
+    rings: each(9, (s) => document.getElementById("plate-" + s).classList.contains("forged")),
+    axes: each(9, (a) => words("axis-" + a) + (document.getElementById("going-" + a)?.textContent ?? "")),
+    holders: each(5, (z) => words("holder-" + z)),
+    held: each(5, (z) => document.getElementById("zone-" + z).classList.contains("held")),
+    signs: each(6, (m) => words("sign-" + m)),
+    failed: each(6, (m) => document.getElementById("machine-" + m).classList.contains("failed")),
+    lamps: each(2, (b) => words("lamp-word-" + b)),
+    lit: each(2, (b) => [...document.querySelectorAll("#lamp-" + b + " .lit")].map((node) => node.classList[1])),
+    moving: [...document.querySelectorAll("#cell [data-going]")].filter(shown).map((node) => node.dataset.axis + node.dataset.going),
+    standing: [...document.querySelectorAll("#cell [data-at]")].filter(shown).map((node) => node.dataset.axis + node.dataset.at),
+    counts: ["admitted-count", "forged-count", "delivered-count", "quarantine-count", "expected-plate"].map(words),
+    sentence: words("sentence"), place: words("count"), totals: words("fact-totals"), described: words("fact-plates"),
+    slider: document.getElementById("slider").value, number: document.getElementById("number").value, hash: location.hash,
+    marked: [...document.querySelectorAll("#lanes .current")].map((node) => node.dataset.entry),
+  };
+})()`);
+
+// What a row of the data says.
+const wanted = (i) => {
+  const [plates, forged, at, going, holders, failedOnes, asked, lamps, expected, quarantine, totals, , record, sentence] = rows[i];
+  const pose = (letter) => poses[letter.charCodeAt(0) - 97];
+  const way = (letter) => ways[letter.charCodeAt(0) - 97];
+  const lettered = (list) => [...list].map((letter, a) => a + letter);
+  const drawnAt = ["1e", "2f", "2g", "6q", "6p", "6r", "7q", "7p", "7r"];
+  const drawnGoing = ["0b", "0c", "6q", "6p", "6r", "7q", "7p", "7r", "8b"];
+  const inOrder = (all, some) => all.filter((part) => some.includes(part));
+  return {
+    plates: plates.map((plate, s) => (plate === 0 ? "" : plate + (forged[s] === "1" ? "*" : ""))),
+    rings: [...forged].map((flag) => flag === "1"),
+    axes: parts.map((part, a) => part + pose(at[a]) + (going[a] === "-" ? "" : " → " + way(going[a]))),
+    holders: [...holders].map((letter) => (letter === "-" ? "free" : machines[letter.charCodeAt(0) - 97])),
+    held: [...holders].map((letter) => letter !== "-"),
+    signs: machines.map((_, m) => (failedOnes[m] === "1" ? "✖ FAILED" : asked[m] === "1" ? "⚠ stop asked" : "")),
+    failed: [...failedOnes].map((flag) => flag === "1"),
+    lamps: [...lamps].map((letter) => (letter === "g" ? "green" : "red")),
+    lit: [...lamps].map((letter) => [letter === "g" ? "green" : "red"]),
+    moving: inOrder(drawnGoing, lettered(going)),
+    standing: inOrder(drawnAt, lettered(at)),
+    counts: [String(totals[1]), String(totals[2]), String(totals[4]), String(quarantine), expected === 0 ? "none" : "plate " + expected],
+    sentence: i === 0 ? "The opening: nothing is booked." : sentence,
+    place: `Entry ${i} of ${last}` + (i === 0 ? "" : ` · ${record}`),
+    totals: `${totals[0]} entries; ${totals[1]} admitted, ${totals[2]} forged, ${totals[3]} quarantined, ${totals[4]} delivered, ${totals[5]} laid back`,
+    described: stations.map((name, s) => [plates[s], `${plates[s]}${forged[s] === "1" ? " (forged)" : ""} at ${name}`])
+      .filter(([plate]) => plate !== 0).map(([, words]) => words).join(", ") || "none",
+    slider: String(i), number: String(i), hash: "#entry=" + i,
+    marked: i === 0 ? [] : [String(i)],
+  };
+};
+const compare = async (i) => {
+  const found = await drawn();
+  Object.entries(wanted(i)).forEach(([part, value]) => check(`entry ${i}, ${part}`, found[part], value));
+};
+
+const checkEntries = async () => {
+  const chosen = new Set([0, 1, last, ...Array.from({ length: 60 }, (_, k) => Math.round((last * k) / 60))]);
+  for (const i of chosen) {
+    await ask(`location.hash = "#entry=${i}"`);
+    await ask("new Promise((done) => setTimeout(done, 0))");
+    await compare(i);
+  }
+  console.log(`${chosen.size} entries of ${last}: what is drawn is what the data say`);
+};
+const checkControls = async () => {
+  await open("#entry=0");
+  const go = async (what, act, i) => { await act(); check(what, await entry(), i); };
+  await go("right", () => key("ArrowRight", 39), Math.min(last, 1));
+  await go("right again", () => key("ArrowRight", 39), Math.min(last, 2));
+  await go("left", () => key("ArrowLeft", 37), Math.min(last, 1));
+  await go("end", () => key("End", 35), last);
+  await go("right at the end", () => key("ArrowRight", 39), last);
+  await go("home", () => key("Home", 36), 0);
+  await go("left at the start", () => key("ArrowLeft", 37), 0);
+  for (const [id, i] of [["#end", last], ["#back", last - 1], ["#forward", last], ["#first", 0]]) {
+    await go(id, async () => { const { x, y } = await middle(id); await click(x, y); }, i);
+  }
+  await ask("document.getElementById('slider').focus()");
+  await go("a key in the slider", () => key("ArrowRight", 39), Math.min(last, 1));
+  const slider = await middle("#slider");
+  await click(slider.x, slider.y);
+  check("a click in the slider's middle", Math.abs((await entry()) - last / 2) <= Math.max(1, last / 50), true);
+  await ask("(() => { const box = document.getElementById('number'); box.value = '3'; box.dispatchEvent(new Event('change')); })()");
+  check("the number box", await entry(), Math.min(last, 3));
+  await go("a mark", async () => { const { x, y } = await middle('#lanes [data-entry="2"]'); await click(x, y); }, 2);
+  await compare(2);
+  await ask("document.activeElement.blur()");
+  await ask("document.getElementById('speed').value = '33'");
+  await key(" ", 32);
+  await sleep(400);
+  await key(" ", 32);
+  const paused = await entry();
+  await sleep(200);
+  check("play by the space key", paused > 2 || last <= 2, true);
+  check("a pause", await entry(), paused);
+  await compare(paused);
+  await ask(`location.hash = "#entry=${last - 2}"`);
+  const play = await middle("#play");
+  await click(play.x, play.y);
+  await sleep(500);
+  check("play stops at the end", [await entry(), await ask("document.getElementById('play').textContent")], [last, "Play"]);
+  console.log("keys, buttons, slider, number box, marks, play and pause were tried");
+};
+const checkSizes = async () => {
+  for (const [name, width, height, dark] of [["wide", 1200, 1000, false], ["narrow", 400, 900, false], ["dark", 1000, 900, true]]) {
+    await resize(width, height);
+    await tell("Emulation.setEmulatedMedia", { features: [{ name: "prefers-color-scheme", value: dark ? "dark" : "light" }] });
+    await open("#entry=" + (process.env.ENTRY ?? Math.round(last / 2)));
+    check(`${name}: nothing is wider than the window`, await ask("document.documentElement.scrollWidth <= innerWidth"), true);
+    const cut = await ask(`(() => { const all = document.getElementById("cell").getBoundingClientRect();
+      return [...document.querySelectorAll("#cell text")].filter((node) => node.textContent !== "").map((node) => [node.textContent, node.getBoundingClientRect()])
+        .filter(([, box]) => box.width > 0 && (box.left < all.left || box.right > all.right || box.top < all.top || box.bottom > all.bottom)).map(([words]) => words); })()`);
+    check(`${name}: texts that the drawing's edge cuts`, cut, []);
+    await picture(name);
+  }
+  await tell("Emulation.setEmulatedMedia", { features: [] });
+  await resize(1200, 1000);
+  console.log("pictures were taken: wide, narrow, dark");
+};
+const checkWithoutScripts = async () => {
+  await tell("Emulation.setScriptExecutionDisabled", { value: true });
+  await tell("Page.navigate", { url: address });
+  await sleep(1000);
+  await tell("Emulation.setScriptExecutionDisabled", { value: false });
+  const words = await ask("document.body.innerText");
+  check("without scripts the page says so", words.includes("needs scripts"), true);
+  check("without scripts the last entry is told", words.includes(last === 0 ? "nothing is booked" : rows[last][13]), true);
+};
+
+const run = async () => {
+  const { targetId } = await tell("Target.createTarget", { url: "about:blank" });
+  session = (await tell("Target.attachToTarget", { targetId, flatten: true })).sessionId;
+  for (const part of ["Page", "Runtime", "Network", "Log"]) await tell(part + ".enable");
+  await resize(1200, 1000);
+  const took = await open("#entry=0");
+  const steps = await ask(`(async () => { const start = performance.now(); const slider = document.getElementById("slider");
+    for (let k = 0; k < 50; k += 1) { slider.value = Math.round((${last} * k) / 50); slider.dispatchEvent(new Event("input")); document.body.getBoundingClientRect();
+      await new Promise((next) => requestAnimationFrame(next)); }
+    return (performance.now() - start) / 50; })()`);
+  console.log(`${last} entries, ${text.length} bytes: open in ${took} ms, a jump in ${steps.toFixed(1)} ms`);
+  await checkEntries();
+  await checkControls();
+  await checkSizes();
+  await checkWithoutScripts();
+  const outside = requests.filter((url) => !url.startsWith(address) && !url.startsWith("data:") && url !== "about:blank");
+  check("requests to elsewhere", outside, []);
+  check("errors that the browser tells", faults, []);
+};
+const end = setTimeout(() => { console.log("  the browser didn't answer in 120 seconds"); browser.kill(); process.exit(1); }, 120000);
+try {
+  await run();
+} catch (error) {
+  failed += 1;
+  console.log("  " + error.stack);
+}
+clearTimeout(end);
+browser.kill();
+console.log(failed === 0 ? "the page is in order" : `${failed} checks failed`);
+process.exit(failed === 0 ? 0 : 1);

@@ -1,0 +1,14 @@
+//! One page with all states of a journal: a file for a browser, which needs nothing from elsewhere.
+#![tactic(auto)]
+
+mod error;
+mod page;
+mod parts;
+mod rows;
+mod words;
+
+pub use error::PageError;
+pub use page::{MAX_PAGE_ENTRIES, write_page};
+
+#[cfg(test)]
+mod tests;

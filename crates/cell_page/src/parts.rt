@@ -1,0 +1,12 @@
+//! The parts of the page that are the same for every journal.
+mod control_script;
+mod drawing;
+mod drawing_script;
+mod head;
+mod lists;
+
+pub(crate) use control_script::CONTROL_SCRIPT;
+pub(crate) use drawing::DRAWING;
+pub(crate) use drawing_script::DRAWING_SCRIPT;
+pub(crate) use head::HEAD;
+pub(crate) use lists::LISTS;

@@ -1,0 +1,190 @@
+//! The second part of the page's script: the lanes and the controls.
+
+/// To the end of the page.
+pub(crate) const CONTROL_SCRIPT: &str =
+    r##"  // The lanes: a part of the entries, of which the current one is one.
+  const lanes = { first: 1, shown: 0, left: 104, step: 17, height: 24 };
+  const svg = (name, attributes, text) => {
+    const node = document.createElementNS("http://www.w3.org/2000/svg", name);
+    Object.entries(attributes).forEach(([key, value]) => node.setAttribute(key, value));
+    if (text !== undefined) node.textContent = text;
+    return node;
+  };
+  const laneX = (i) => lanes.left + (i - lanes.first) * lanes.step;
+  const markOf = (i) => {
+    const kind = kindOf(i);
+    const y = rows[i][11] * lanes.height;
+    const mark = svg("g", { class: "mark" + (faults.includes(kind) ? " fault" : ""), "data-entry": i });
+    mark.append(
+      svg("title", {}, `${i}: ${rows[i][13]}`),
+      svg("rect", { x: laneX(i) + 1, y: y + 3, width: lanes.step - 2, height: lanes.height - 6, rx: 3 }),
+      svg("text", { class: "sign", x: laneX(i) + lanes.step / 2, y: y + lanes.height / 2 }, signs[kind][0]),
+    );
+    return mark;
+  };
+  const layLanes = () => {
+    const width = el("lanes").clientWidth;
+    const height = actors.length * lanes.height;
+    lanes.shown = Math.max(1, Math.floor((width - lanes.left - 4) / lanes.step));
+    const parts = actors.flatMap((name, lane) => [
+      svg("line", { class: "lane", x1: 0, x2: width, y1: (lane + 1) * lanes.height, y2: (lane + 1) * lanes.height }),
+      svg("text", { x: 2, y: lane * lanes.height + 17 }, name),
+    ]);
+    const until = Math.min(last, lanes.first + lanes.shown - 1);
+    for (let i = lanes.first; i <= until; i += 1) {
+      parts.push(markOf(i));
+      if (i % 5 === 0) parts.push(svg("text", { class: "tick", x: laneX(i) + lanes.step / 2, y: height + 14 }, i));
+    }
+    parts.push(svg("rect", { class: "now off", id: "now", y: 0, width: lanes.step, height }));
+    el("lanes").setAttribute("height", height + 20);
+    el("lanes").replaceChildren(...parts);
+  };
+  const showInLanes = (i) => {
+    const shown = lanes.first <= i && i < lanes.first + lanes.shown;
+    if (!shown && i > 0) {
+      lanes.first = Math.max(1, i - (i % Math.max(1, lanes.shown - 1)));
+      layLanes();
+    } else if (i === 0 && lanes.first !== 1) {
+      lanes.first = 1;
+      layLanes();
+    }
+    document.querySelectorAll("#lanes .current").forEach((mark) => mark.classList.remove("current"));
+    el("now").classList.toggle("off", i === 0);
+    el("now").setAttribute("x", laneX(i));
+    const mark = document.querySelector(`#lanes [data-entry="${i}"]`);
+    if (mark !== null) mark.classList.add("current");
+  };
+
+  // All entries in one strip, drawn once for a size, and a frame round the current one.
+  const drawStrip = () => {
+    const canvas = el("whole");
+    canvas.width = canvas.clientWidth;
+    canvas.height = 42;
+    const pen = canvas.getContext("2d");
+    const colours = getComputedStyle(document.documentElement);
+    const wide = canvas.width / Math.max(1, last);
+    pen.fillStyle = colours.getPropertyValue("--soft");
+    for (let i = 1; i <= last; i += 1) pen.fillRect((i - 1) * wide, rows[i][11] * 6, Math.max(1, wide - 0.5), 5);
+    pen.fillStyle = colours.getPropertyValue("--red");
+    for (let i = 1; i <= last; i += 1) {
+      if (faults.includes(kindOf(i))) pen.fillRect((i - 1) * wide, rows[i][11] * 6, Math.max(2, wide - 0.5), 5);
+    }
+  };
+  const showInStrip = (i) => {
+    const share = 100 / Math.max(1, last);
+    el("here").classList.toggle("off", i === 0);
+    el("here").style.left = `${(i - 1) * share}%`;
+    el("here").style.width = `max(4px, ${share}%)`;
+  };
+
+  let current = -1;
+  const show = (wanted) => {
+    const i = Math.min(last, Math.max(0, Math.trunc(Number(wanted)) || 0));
+    if (i === current) return;
+    current = i;
+    const state = read(i);
+    drawPlates(state);
+    drawArms(state);
+    drawAxes(state);
+    drawMachines(state);
+    drawCounts(state);
+    writeFacts(state);
+    showInLanes(i);
+    showInStrip(i);
+    el("sentence").textContent = i === 0 ? "The opening: nothing is booked." : state.sentence;
+    el("count").textContent = `Entry ${i} of ${last}` + (i === 0 ? "" : ` \u00B7 ${state.record}`);
+    el("slider").value = i;
+    el("slider").setAttribute("aria-valuetext", i === 0 ? "0, the opening" : `${i}, ${state.sentence}`);
+    el("number").value = i;
+    el("first").disabled = el("back").disabled = i === 0;
+    el("end").disabled = el("forward").disabled = i === last;
+    if (timer === null) keepAddress();
+  };
+  const keepAddress = () => history.replaceState(null, "", "#entry=" + current);
+
+  let timer = null;
+  const pause = () => {
+    clearInterval(timer);
+    timer = null;
+    el("play").textContent = "Play";
+    el("play").setAttribute("aria-pressed", "false");
+    el("last").setAttribute("aria-live", "polite");
+    keepAddress();
+  };
+  const step = () => {
+    show(current + 1);
+    if (current === last) pause();
+  };
+  const play = () => {
+    if (current === last) show(0);
+    clearInterval(timer);
+    timer = setInterval(step, Number(el("speed").value));
+    el("play").textContent = "Pause";
+    el("play").setAttribute("aria-pressed", "true");
+    el("last").setAttribute("aria-live", "off");
+  };
+  const toggle = () => (timer === null ? play() : pause());
+  const goTo = (i) => {
+    if (timer !== null) pause();
+    show(i);
+  };
+
+  const onKey = (event) => {
+    if (event.ctrlKey || event.metaKey || event.altKey) return;
+    const kind = event.target.type;
+    if (kind === "number" || kind === "select-one") return;
+    const moves = {
+      ArrowLeft: () => goTo(current - 1), ArrowRight: () => goTo(current + 1),
+      Home: () => goTo(0), End: () => goTo(last), " ": toggle,
+    };
+    const onButton = kind === "button" || event.target.tagName === "SUMMARY";
+    if (moves[event.key] === undefined || (event.key === " " && onButton)) return;
+    event.preventDefault();
+    moves[event.key]();
+  };
+  const onLanes = (event) => {
+    const i = lanes.first + Math.floor((event.clientX - el("lanes").getBoundingClientRect().left - lanes.left) / lanes.step);
+    if (i >= lanes.first && i < lanes.first + lanes.shown && i <= last) goTo(i);
+  };
+  const onStrip = (event) => {
+    const box = el("whole").getBoundingClientRect();
+    goTo(Math.max(1, Math.ceil(((event.clientX - box.left) / box.width) * last)));
+  };
+  const entryInAddress = () => {
+    const found = /^#entry=(\d+)$/.exec(location.hash);
+    return found === null ? last : Number(found[1]);
+  };
+  const redraw = () => {
+    const i = current;
+    current = -1;
+    lanes.first = 1;
+    drawStrip();
+    layLanes();
+    show(i);
+  };
+
+  el("slider").max = el("number").max = last;
+  el("legend").textContent = "Signs: " + Object.values(signs).map(([sign, words]) => `${sign} ${words}`).join(", ") + ".";
+  el("slider").addEventListener("input", (event) => goTo(event.target.value));
+  el("number").addEventListener("change", (event) => goTo(event.target.value));
+  el("first").addEventListener("click", () => goTo(0));
+  el("back").addEventListener("click", () => goTo(current - 1));
+  el("forward").addEventListener("click", () => goTo(current + 1));
+  el("end").addEventListener("click", () => goTo(last));
+  el("play").addEventListener("click", toggle);
+  el("speed").addEventListener("change", () => { if (timer !== null) play(); });
+  el("lanes").addEventListener("click", onLanes);
+  el("whole").addEventListener("click", onStrip);
+  document.addEventListener("keydown", onKey);
+  window.addEventListener("hashchange", () => goTo(entryInAddress()));
+  window.addEventListener("resize", redraw);
+  window.matchMedia("(prefers-color-scheme: dark)").addEventListener("change", redraw);
+  document.documentElement.classList.add("ready");
+  drawStrip();
+  layLanes();
+  show(entryInAddress());
+})();
+</script>
+</body>
+</html>
+"##;

@@ -1,0 +1,41 @@
+//! What stands below the drawing.
+
+/// The controls, the lanes and the state in words.
+pub(crate) const LISTS: &str = r##"<div id="controls" role="group" aria-label="Go to an entry">
+<input type="range" id="slider" min="0" value="0" step="1" aria-label="Entry">
+<button type="button" id="first">Start</button>
+<button type="button" id="back">Step back</button>
+<button type="button" id="play" aria-pressed="false">Play</button>
+<button type="button" id="forward">Step forward</button>
+<button type="button" id="end">End</button>
+<label>Entry <input type="number" id="number" min="0" step="1" value="0"></label>
+<label>Speed <select id="speed">
+<option value="1000">1 a second</option>
+<option value="333" selected>3 a second</option>
+<option value="100">10 a second</option>
+<option value="33">30 a second</option>
+</select></label>
+</div>
+<h2 id="lanes-name">Who booked which entry</h2>
+<div id="strip"><canvas id="whole" role="img" aria-label="All entries, a row for each machine and the operator"></canvas><div id="here"></div></div>
+<svg id="lanes" role="img" aria-labelledby="lanes-name"></svg>
+<p class="soft" id="legend"></p>
+<h2>The state in words</h2>
+<dl id="facts">
+<div><dt>Plates</dt><dd id="fact-plates"></dd></div>
+<div><dt>Moving</dt><dd id="fact-moving"></dd></div>
+<div><dt>At rest</dt><dd id="fact-rest"></dd></div>
+<div><dt>Zones</dt><dd id="fact-zones"></dd></div>
+<div><dt>Lights</dt><dd id="fact-lights"></dd></div>
+<div><dt>Failed</dt><dd id="fact-failed"></dd></div>
+<div><dt>Stop asked</dt><dd id="fact-asked"></dd></div>
+<div><dt>Expected back</dt><dd id="fact-expected"></dd></div>
+<div><dt>In quarantine</dt><dd id="fact-quarantine"></dd></div>
+<div><dt>So far</dt><dd id="fact-totals"></dd></div>
+</dl>
+<details><summary>Keys</summary>
+<p class="soft"><kbd>&larr;</kbd> and <kbd>&rarr;</kbd> step back and forward, <kbd>Home</kbd> and <kbd>End</kbd> go to the start and the end, <kbd>Space</kbd> plays and pauses. A click on a mark or on the rows above it goes to that entry. The page's address keeps the entry.</p>
+</details>
+</main>
+<script type="application/json" id="journal">
+{"##;
