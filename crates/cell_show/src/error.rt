@@ -1,0 +1,60 @@
+//! Why nothing is shown, or not all of it.
+use cell_audit::WriteFault;
+use cell_page::{MAX_PAGE_ENTRIES, PageError};
+use std::error::Error;
+use std::fmt;
+
+/// Why nothing is shown, or not all of it.
+#[derive(Clone, Copy, Debug, PartialEq, Eq)]
+pub enum ShowError {
+    /// The journal has only so many entries before the first that can't be read or isn't allowed. Nothing was written.
+    NoSuchEntry(u32),
+    /// The journal has more entries than a page shows. Nothing was written.
+    TooManyEntries,
+    /// The writer failed. A first part may be written.
+    WriteFault,
+}
+
+impl fmt::Display for ShowError {
+    fn fmt<W: fmt::Write>(&self, f: &mut fmt::Formatter<W>) -> fmt::Result {
+        match self {
+            ShowError::NoSuchEntry(entries) => {
+                write!(f, "NoSuchEntry: the journal has {entries} entries")
+            }
+            ShowError::TooManyEntries => {
+                write!(
+                    f,
+                    "TooManyEntries: a page shows at most {MAX_PAGE_ENTRIES} entries"
+                )
+            }
+            ShowError::WriteFault => write!(f, "WriteFault"),
+        }
+    }
+}
+
+impl Error for ShowError {}
+
+impl From<WriteFault> for ShowError {
+    ghost use Rattle.std.specs.Prelude.{◌≡◌};
+    ghost use Rattle.cell_show.specs.declared.error.ShowError.TheVariants as error;
+
+    ghost from_gives = { λ _ e. e ≡ error.WriteFault };
+
+    fn from(_fault: WriteFault) -> ShowError {
+        ShowError::WriteFault
+    }
+}
+
+impl From<PageError> for ShowError {
+    ghost use Rattle.std.specs.Prelude.{◌≡◌};
+    ghost use Rattle.cell_show.specs.Shown.{of_page};
+
+    ghost from_gives = { λ why e. e ≡ of_page why };
+
+    fn from(why: PageError) -> ShowError {
+        match why {
+            PageError::TooManyEntries => ShowError::TooManyEntries,
+            PageError::WriteFault => ShowError::WriteFault,
+        }
+    }
+}

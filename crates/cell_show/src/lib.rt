@@ -1,0 +1,8 @@
+//! The command that shows the cell: what is written for a journal's text, as its first entries left the cell.
+#![tactic(auto)]
+
+mod error;
+mod show;
+
+pub use error::ShowError;
+pub use show::{Form, show_journal};

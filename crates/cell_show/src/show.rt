@@ -1,0 +1,100 @@
+//! Showing the cell as the first entries of a journal left it.
+ghost use Rattle.std.specs.Prelude.{◌≡◌, ◌≢◌, ◌≤◌, ◌<◌, IfErr, IfOk, length};
+ghost use Rattle.cell_lines.specs.Lines.{status_of};
+ghost use Rattle.cell_show.specs.Shown.{TellsStatus};
+
+use crate::ShowError;
+use cell_audit::{AuditError, read_journal};
+use cell_lines::status;
+use cell_page::write_page;
+use cell_picture::{Scene, draw_picture, draw_text, facts_after};
+use cell_types::Totals;
+use plate_book::Book;
+use std::alloc::Global;
+use std::io::{Read, Write};
+
+/// How the cell is shown.
+#[derive(Clone, Copy, Debug, PartialEq, Eq)]
+pub enum Form {
+    /// As lines of plain ASCII.
+    Text,
+    /// As lines of text with box-drawing characters.
+    Unicode,
+    /// As one picture file, in SVG.
+    Picture,
+    /// As one page with all states, in HTML.
+    Page,
+}
+
+// The status of an audit's answer.
+fn status_of(answer: &Result<(u8, Totals), AuditError>) -> u8
+    ensures { result ≡ status_of answer.now }
+{
+    match answer {
+        Ok(_) => status::SUCCESS,
+        Err(AuditError::Unreadable(_)) | Err(AuditError::Refused(_, _)) => status::REFUSED,
+        Err(AuditError::ReadFault) => status::DEVICE_FAULT,
+        Err(AuditError::OutOfMemory) => status::OUT_OF_MEMORY,
+    }
+}
+
+// Writes what the first entries of a book left.
+fn draw<W: Write>(
+    writer: &mut W,
+    form: Form,
+    book: &Book,
+    entries: u32,
+    answer: Option<AuditError>,
+) -> Result<(), ShowError>
+    requires { entries ≤ length book.now.entries }
+    ensures nothing { IfErr result (λ e. e ≢ ShowError.WriteFault → writer.new ≡ writer.old) }
+{
+    let (facts, last) = facts_after(book, entries);
+    let scene = Scene {
+        facts: &facts,
+        entries,
+        last,
+        answer,
+    };
+    match form {
+        Form::Text => draw_text(writer, &scene, false)?,
+        Form::Unicode => draw_text(writer, &scene, true)?,
+        Form::Picture => draw_picture(writer, &scene)?,
+        Form::Page => write_page(writer, book, answer)?,
+    }
+    Ok(())
+}
+
+/// Shows the cell as the first `entry` entries of the journal on the reader left it, or all of them where `entry` is `None`,
+/// and gives the exit status. A page has all states.
+///
+/// A journal that is refused or can't be read is shown up to its last good entry, with the audit's line below, status 1.
+/// Where the reader fails (status 3) or memory is refused (status 4) nothing is written; nor where the journal has fewer
+/// entries than that, or too many for a page. The text is read to its end before anything is written.
+pub fn show_journal<R: Read + Drop, W: Write>(
+    alloc: Global,
+    reader: R,
+    form: Form,
+    entry: Option<u32>,
+    writer: &mut W,
+) -> Result<u8, ShowError>
+    // The status is that of the audit's answer.
+    ensures status { IfOk result (TellsStatus (R.remaining reader)) }
+    ensures unread { IfOk result (λ status. 1 < status → writer.new ≡ writer.old) }
+    ensures nothing { IfErr result (λ e. e ≢ ShowError.WriteFault → writer.new ≡ writer.old) }
+{
+    let Ok(reading) = read_journal(alloc, reader) else {
+        return Ok(status::OUT_OF_MEMORY);
+    };
+    let status = status_of(&reading.answer);
+    if status > status::REFUSED {
+        return Ok(status);
+    }
+    let entries = reading.book.journal().len();
+    let shown = entry.unwrap_or(entries);
+    if shown > entries {
+        return Err(ShowError::NoSuchEntry(entries));
+    }
+    draw(writer, form, &reading.book, shown, reading.answer.err())?;
+    Ok(status)
+}
