@@ -1,0 +1,116 @@
+//! Which fields the records of a text have.
+use crate::fields::Fields;
+use crate::wanted::Wanted;
+
+const KINDS_OF_ONE: Wanted = Wanted::Word(
+    "lamp, admitted, claimed, yielded, started, arrived, conveyed, forged, gripped, dropped, delivered, declared, stop_asked, quarantined, repaired",
+);
+
+const KINDS: Wanted = Wanted::Word(
+    "lamp, admitted, claimed, yielded, started, arrived, conveyed, forged, gripped, dropped, delivered, declared, stop_asked, quarantined, repaired, expected, reinstated",
+);
+
+const MACHINE: Wanted = Wanted::Word("feed, table, robot, press1, press2, deposit");
+
+const STATION: Wanted = Wanted::Word(
+    "feed_in, feed_end, table, arm1, arm2, press1, press2, dep_in, dep_end",
+);
+
+const AXIS: Wanted = Wanted::Word(
+    "feed_belt, table_lift, table_turn, robot_turn, arm_one, arm_two, press_one, press_two, deposit_belt",
+);
+
+const POSE: Wanted = Wanted::Word(
+    "rest, to_end, to_table, low, high, belt, robot, table1, p1_load, p1_unload, p2_load, p2_unload, deposit2, in, out, middle, top, bottom",
+);
+
+const ZONE: Wanted = Wanted::Word("z1, z2, z3, z4, z5");
+
+const ARM: Wanted = Wanted::Word("arm1, arm2");
+
+const BELT: Wanted = Wanted::Word("feed, deposit");
+
+const COLOUR: Wanted = Wanted::Word("red, green");
+
+const CAUSE: Wanted = Wanted::Word(
+    "stuck_switch, contradictory, stray_position, no_departure, missing_motion, lost_position, plate_lost, strange_plate, silent, command_fault, operator_stop",
+);
+
+const FAULT: Wanted = Wanted::Word(
+    "no_motion, keeps_old, both, slow, lose_plate, silent, refuse_command",
+);
+
+const TRIGGER: Wanted = Wanted::Word("always, admitted, delivered, quarantined, failed");
+
+const TASK: Wanted = Wanted::Word("stop, clear, repair, expect");
+
+const PLATE: Wanted = Wanted::Number(1, 100_000);
+
+const TOTAL: Wanted = Wanted::Number(0, 100_000);
+
+const MOTION: Wanted = Wanted::Number(1, 1_000_000);
+
+const READINGS: Wanted = Wanted::Number(1, 1000);
+
+const NOTHING: Wanted = Wanted::Nothing;
+
+// What may stand in the last three fields of the record of an entry, by the word of its kind.
+fn entry_named(kind: &[u8]) -> (Wanted, Wanted, Wanted) {
+    match kind {
+        b"lamp" => (BELT, COLOUR, NOTHING),
+        b"claimed" | b"yielded" => (MACHINE, ZONE, NOTHING),
+        b"started" | b"arrived" => (AXIS, POSE, NOTHING),
+        b"conveyed" => (AXIS, PLATE, STATION),
+        b"forged" => (MACHINE, PLATE, NOTHING),
+        b"gripped" | b"dropped" => (ARM, PLATE, STATION),
+        b"declared" => (MACHINE, CAUSE, NOTHING),
+        b"stop_asked" | b"repaired" => (MACHINE, NOTHING, NOTHING),
+        b"quarantined" => (PLATE, STATION, NOTHING),
+        b"admitted" | b"delivered" | b"expected" | b"reinstated" => (PLATE, NOTHING, NOTHING),
+        _ => (NOTHING, NOTHING, NOTHING),
+    }
+}
+
+// What a trigger of the operator's script names.
+fn trigger_named(word: &[u8]) -> Wanted {
+    match word {
+        b"failed" => MACHINE,
+        b"admitted" | b"delivered" | b"quarantined" => TOTAL,
+        _ => NOTHING,
+    }
+}
+
+// What a task of the operator's script names.
+fn task_named(word: &[u8]) -> Wanted {
+    match word {
+        b"clear" => STATION,
+        b"expect" => PLATE,
+        _ => MACHINE,
+    }
+}
+
+/// What may stand in the fields of an entry's record, in a text of profile 2 or of profile 1.
+pub(crate) fn entry_fields(in_two: bool, fields: &Fields) -> [Wanted; 4] {
+    let (first, second, third) = entry_named(fields.at(0));
+    let kinds = if in_two { KINDS } else { KINDS_OF_ONE };
+    [kinds, first, second, third]
+}
+
+/// What may stand in the fields of a line of a script of faults.
+pub(crate) fn fault_fields(fields: &Fields) -> [Wanted; 4] {
+    let argument = match fields.at(2) {
+        b"slow" | b"silent" => READINGS,
+        _ => NOTHING,
+    };
+    [AXIS, MOTION, FAULT, argument]
+}
+
+/// What may stand in the fields of a line of the operator's script.
+pub(crate) fn operator_fields(fields: &Fields) -> [Wanted; 4] {
+    [
+        TRIGGER,
+        trigger_named(fields.at(0)),
+        TASK,
+        task_named(fields.at(2)),
+    ]
+}

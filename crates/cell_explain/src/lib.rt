@@ -1,0 +1,17 @@
+//! Why a text is refused, in sentences: a journal, a script of faults or the operator's, settings.
+#![tactic(auto)]
+
+mod fields;
+mod grammar;
+mod journal;
+mod places;
+mod script;
+mod settings;
+mod shown;
+mod telling;
+mod wanted;
+mod written;
+
+pub use journal::explain_journal;
+pub use script::{explain_faults, explain_operator};
+pub use settings::explain_settings;
