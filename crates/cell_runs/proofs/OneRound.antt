@@ -1,5 +1,5 @@
 -- What the steps of a round lead to
-use Rattle.std.proofs.Common.{◌≡◌, ◌≢◌, ◌⊎◌, inl, inr, ℕ, ◌+◌, ◌<◌, List, [], ◌∷◌, ◌++◌, map, length, Bool, true, false, not, Option, Some, None, refl, sym, ap, subst, ◌∙◌, append_assoc, append-nil, add-zero, arith, length-append, Result, Ok, Err, IfErr, option_to_list, eqb-true}
+use Rattle.std.proofs.Common.{◌≡◌, ◌≢◌, ◌⊎◌, inl, inr, ℕ, ◌+◌, List, [], ◌∷◌, ◌++◌, map, length, Bool, true, false, not, Option, Some, None, refl, sym, ap, subst, ◌∙◌, append_assoc, append-nil, arith, length-append, Result, Ok, Err, IfErr, option_to_list, eqb-true}
 use Rattle.std.specs.Prelude.{if◌then◌else◌, nat_eq}
 use Rattle.std.specs.Result.{IsErrAnd}
 use Rattle.std.proofs.Math.Nat.{zero-add}
@@ -20,7 +20,6 @@ use Rattle.cell_turns.specs.declared.watch.Watch.{Watch}
 use Rattle.cell_turns.specs.Logs.{ActLog}
 use Rattle.cell_turns.specs.Minds.{Mind}
 use Rattle.cell_turns.specs.Six.{at}
-use Rattle.cell_turns.specs.Handing.{IsHis}
 use Rattle.cell_turns.specs.Schedules.{Now, now, Leads, FitAll, Led, Scheduled, Grown, entries_of, same_actor}
 use Rattle.cell_turns.specs.Schedules.Leads.{stays, turns as one_turn, refuses as one_refused, hands as one_hand, spares as one_spared, fails as one_failed}
 use Rattle.cell_turns.proofs.Joined.{leads_join, led_join}

@@ -1,5 +1,5 @@
 -- A run in rounds as one schedule
-use Rattle.std.proofs.Common.{◌≡◌, ℕ, ◌+◌, List, [], ◌∷◌, ◌++◌, subst, sym}
+use Rattle.std.proofs.Common.{ℕ, ◌+◌, List, [], ◌∷◌, ◌++◌, subst, sym}
 use Rattle.std.proofs.Math.Nat.{zero-add}
 use Rattle.cell_types.specs.declared.words.Entry.{Entry}
 use Rattle.plate_book.specs.declared.limits.BookLimits.{BookLimits}
@@ -14,7 +14,7 @@ use Rattle.cell_turns.proofs.Joined.{leads_join}
 use Rattle.cell_workers.specs.declared.ends.End.{End}
 use Rattle.cell_workers.specs.declared.ends.End.TheVariants as end
 use Rattle.operator_desk.specs.Next.{entry_of}
-use Rattle.cell_runs.specs.Rounds.{Place, place, Operates, Round, Rounds, ComesToRest, Breaks, Stops, Ends, RunsAreSchedules, round_steps}
+use Rattle.cell_runs.specs.Rounds.{Place, place, Operates, Round, Rounds, ComesToRest, Breaks, Ends, RunsAreSchedules, round_steps}
 use Rattle.cell_runs.specs.Rounds.Operates.{rests, waits, books, fails}
 use Rattle.cell_runs.specs.Rounds.Rounds.{none as no_round, more as one_more}
 

@@ -6,25 +6,27 @@ ghost use Rattle.cell_runs.specs.Runs.{PartOfReport, PartOfRounds, TellsPart, Te
 use crate::inputs::{Inputs, read_inputs};
 use crate::refused::refuse_input;
 use crate::report::{write_outcome, write_report, write_run_error};
+use crate::rounds::Outcome;
 use crate::simulation::{ports_of, simulate};
 use cell_audit::{WatchedWriter, WriteFault};
+use cell_journal::Journal;
 use cell_lines::status;
 use cell_sim::{SimOperator, World};
-use cell_workers::run_cell;
+use cell_workers::{Report, run_cell};
 use std::alloc::AllocError;
 use std::io::Write;
 use std::sync::{Mutex, Wait};
 use std::thread::Threads;
 
-// Runs the simulated cell over a new world in rounds, and writes what comes of it.
+// Runs the simulated cell over a new world in rounds, writes what comes of it, and keeps the journal.
 fn write_rounds<R: AllocGlobal + Wait, W: Write>(
     rt: &R,
     inputs: Inputs,
     journal: bool,
     writer: &mut WatchedWriter<'_, W>,
-) -> Result<u8, WriteFault>
+) -> Result<(u8, Option<Journal>), WriteFault>
     ensures writer { IsSameWriter writer.old writer.new }
-    ensures whole { IfOk result (WritesRounds journal inputs.plan inputs.script (bytes_held W.contents writer.old) (bytes_held W.contents writer.new)) }
+    ensures whole { IfOk result (λ ran. WritesRounds journal inputs.plan inputs.script (bytes_held W.contents writer.old) (bytes_held W.contents writer.new) ran.0) }
     ensures part { IsErr result → PartOfRounds journal inputs.plan inputs.script (bytes_held W.contents writer.old) (bytes_held W.contents writer.new) }
     ensures fault { IsErr result → has_refused writer.new ≡ true }
 {
@@ -36,20 +38,24 @@ fn write_rounds<R: AllocGlobal + Wait, W: Write>(
     let world = Mutex::new(World::new(plan.plates));
     let mut hands = SimOperator::new(rt, &world);
     match simulate(rt, &plan, &faults, script, &world, &mut hands) {
-        Ok(outcome) => write_outcome(rt.alloc(), &outcome, journal, writer),
-        Err(AllocError) => Ok(status::OUT_OF_MEMORY),
+        Ok(outcome) => {
+            let status = write_outcome(rt.alloc(), &outcome, journal, writer)?;
+            let Outcome { book, .. } = outcome;
+            Ok((status, Some(book.into_journal())))
+        }
+        Err(AllocError) => Ok((status::OUT_OF_MEMORY, None)),
     }
 }
 
-// Runs the simulated cell over a new world by workers on threads, and writes what comes of it.
+// Runs the simulated cell over a new world by workers on threads, writes what comes of it, and keeps the journal.
 fn write_threads<R: AllocGlobal + Threads + Wait + Sync, W: Write>(
     rt: &R,
     inputs: Inputs,
     journal: bool,
     writer: &mut WatchedWriter<'_, W>,
-) -> Result<u8, WriteFault>
+) -> Result<(u8, Option<Journal>), WriteFault>
     ensures writer { IsSameWriter writer.old writer.new }
-    ensures whole { IfOk result (WritesReport journal (limits_of inputs.plan) (bytes_held W.contents writer.old) (bytes_held W.contents writer.new)) }
+    ensures whole { IfOk result (λ ran. WritesReport journal (limits_of inputs.plan) (bytes_held W.contents writer.old) (bytes_held W.contents writer.new) ran.0) }
     ensures part { IsErr result → PartOfReport journal (limits_of inputs.plan) (bytes_held W.contents writer.old) (bytes_held W.contents writer.new) }
     ensures fault { IsErr result → has_refused writer.new ≡ true }
 {
@@ -63,8 +69,39 @@ fn write_threads<R: AllocGlobal + Threads + Wait + Sync, W: Write>(
     let mut ports = ports_of(rt, &world, &faults);
     let mut hands = SimOperator::new(rt, &world);
     match run_cell(rt, alloc, &mut ports, &mut hands, script, &plan) {
-        Ok(report) => write_report(alloc, &report, journal, writer),
-        Err(error) => write_run_error(writer, error),
+        Ok(report) => {
+            let status = write_report(alloc, &report, journal, writer)?;
+            let Report { journal, .. } = report;
+            Ok((status, Some(journal)))
+        }
+        Err(error) => Ok((write_run_error(writer, error)?, None)),
+    }
+}
+
+// Runs the simulated cell by its texts, writes what comes of it, and keeps the journal.
+fn run_kept<R: AllocGlobal + Threads + Wait + Sync, W: Write>(
+    rt: &R,
+    settings: &[u8],
+    faults: &[u8],
+    operator: &[u8],
+    threads: bool,
+    journal: bool,
+    writer: &mut WatchedWriter<'_, W>,
+) -> Result<(u8, Option<Journal>), WriteFault>
+    ensures writer { IsSameWriter writer.old writer.new }
+    ensures whole { IfOk result (λ ran. TellsRun settings.now faults.now operator.now threads journal (bytes_held W.contents writer.old) (bytes_held W.contents writer.new) ran.0) }
+    ensures part { IsErr result → TellsPart settings.now faults.now operator.now threads journal (bytes_held W.contents writer.old) (bytes_held W.contents writer.new) }
+    ensures fault { IsErr result → has_refused writer.new ≡ true }
+{
+    match read_inputs(rt.alloc(), settings, faults, operator) {
+        Ok(inputs) => {
+            if threads {
+                write_threads(rt, inputs, journal, writer)
+            } else {
+                write_rounds(rt, inputs, journal, writer)
+            }
+        }
+        Err(error) => Ok((refuse_input(writer, error)?, None)),
     }
 }
 
@@ -85,16 +122,8 @@ pub fn run_texts_watched<R: AllocGlobal + Threads + Wait + Sync, W: Write>(
     // It answers that the writer failed only where a write was refused.
     ensures fault { IsErr result → has_refused writer.new ≡ true }
 {
-    match read_inputs(rt.alloc(), settings, faults, operator) {
-        Ok(inputs) => {
-            if threads {
-                write_threads(rt, inputs, journal, writer)
-            } else {
-                write_rounds(rt, inputs, journal, writer)
-            }
-        }
-        Err(error) => refuse_input(writer, error),
-    }
+    let (status, _journal) = run_kept(rt, settings, faults, operator, threads, journal, writer)?;
+    Ok(status)
 }
 
 /// Reads the texts of a run, the settings, the script of faults and the operator's script, runs the simulated cell, writes
@@ -126,6 +155,32 @@ pub fn run_texts<R: AllocGlobal + Threads + Wait + Sync, W: Write>(
 {
     let mut writer = WatchedWriter::new(writer);
     run_texts_watched(
+        rt,
+        settings,
+        faults,
+        operator,
+        threads,
+        journal,
+        &mut writer,
+    )
+}
+
+/// Runs the simulated cell by its texts, as `run_texts` does, and gives besides the exit status the journal of the run, if it
+/// left one: where no text is refused, and memory and threads are to be had.
+pub fn run_texts_kept<R: AllocGlobal + Threads + Wait + Sync, W: Write>(
+    rt: &R,
+    settings: &[u8],
+    faults: &[u8],
+    operator: &[u8],
+    threads: bool,
+    journal: bool,
+    writer: &mut W,
+) -> Result<(u8, Option<Journal>), WriteFault>
+    ensures whole { IfOk result (λ ran. TellsRun settings.now faults.now operator.now threads journal (W.contents writer.old) (W.contents writer.new) ran.0) }
+    ensures part { IsErr result → TellsPart settings.now faults.now operator.now threads journal (W.contents writer.old) (W.contents writer.new) }
+{
+    let mut writer = WatchedWriter::new(writer);
+    run_kept(
         rt,
         settings,
         faults,
