@@ -47,6 +47,9 @@ audit_texts() {
     measure 'a quoted field of 50 MB' 'unreadable 1' 1 200 20 audit < <(printf "$good\""; bytes $((50 * mega)) a)
     measure '5 MB of commas after a quoted field' 'unreadable 1' 1 160 20 audit < <(printf "$good\"a\""; bytes $((5 * mega)) ,)
     measure 'a migration of 100 MB of letters' '' 1 12 20 migrate < <(printf "$good"; bytes $((100 * mega)) a)
+    measure 'a picture of 100 MB of letters' 'After 0 entries: the opening' 1 12 20 show < <(printf "$good"; bytes $((100 * mega)) a)
+    measure 'an explanation of 50 MB of commas' 'line 2, entry 1: 52428801 fields, and not four' 1 150 20 explain < <(printf "$good"; bytes $((50 * mega)) ,)
+    measure 'an explanation of 10 MB of random bytes' 'line 1: the first record is profile,1,, or profile,2,,' 1 40 20 explain < <(head -c $((10 * mega)) /dev/urandom)
 }
 
 settings_texts() {
@@ -104,7 +107,8 @@ unwritten() {
 # Each command with standard output closed, full, and a pipe that nobody reads.
 outputs_that_fail() {
     printf 'profile,1,,\n' > journal
-    for words in 'audit' 'migrate' '--help' 'check good' 'sim good none none' 'sim --journal good none none' 'run good none none' 'run --journal good none none'; do
+    for words in 'audit' 'migrate' 'show' 'show --svg' 'show --html' 'explain' 'explain --settings good' '--help' 'check good' \
+        'sim good none none' 'sim --explain good none none' 'sim --journal good none none' 'run good none none' 'run --journal good none none'; do
         # The words of a command are parted at blanks.
         # shellcheck disable=SC2086
         {

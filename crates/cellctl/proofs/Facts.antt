@@ -1,6 +1,8 @@
 -- The subcommand that clap's matches name, and what is matched below it.
 use Rattle.std.proofs.Common.{◌≡◌, ℕ, Bor, List, Option, Some, None, option_map, refl, sym}
-use Rattle.std.specs.Prelude.{IfSome}
+use Rattle.std.specs.Prelude.{IfSome, true}
+use Rattle.clap.specs.Words.{is_simple, is_simple_and_free}
+use Rattle.cellctl.specs.Shape.{cellctl, reading}
 
 abbrev pub both : {X A B : Type 0} → (X → A) → (X → B) → X → A × B
 both f g x = (f x, g x)
@@ -15,3 +17,12 @@ joined (Some x) f g a b h k = let p : a ≡ f x = cc h in let q : b ≡ g x = cc
 pub same-value : (o : Option (Bor (List ℕ))) (found : Option (List ℕ)) → option_map (λ s. s.now) o ≡ found → IfSome o (λ p. found ≡ Some p.now)
 same-value None found h = tt
 same-value (Some p) found h = sym h
+
+-- the program's command line is one of which clap's definitions tell the matches and the faults
+pub cellctl-simple : is_simple cellctl ≡ true
+unfolding reading
+cellctl-simple = refl
+
+pub cellctl-free : is_simple_and_free cellctl ≡ true
+unfolding reading
+cellctl-free = refl

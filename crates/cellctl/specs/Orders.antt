@@ -1,14 +1,22 @@
 -- What an order has of the words
-use Rattle.std.specs.Prelude.{◌≡◌, Bool, true, false, List, Some, None, codes}
+use Rattle.std.specs.Prelude.{◌≡◌, ℕ, Bool, true, false, List, Option, Some, None, codes, option_map}
+use Rattle.std.specs.Borrow.{Bor}
 use Rattle.clap.specs.Words.{Row, Text, first_of, one_of, subcommand_of}
 use Rattle.cellctl.specs.Shape.{cellctl}
+use Rattle.cellctl.specs.declared.order.Explaining.{Explaining}
 use Rattle.cellctl.specs.declared.order.Paths.{Paths}
+use Rattle.cellctl.specs.declared.order.Running.{Running}
+use Rattle.cellctl.specs.declared.order.Showing.{Showing}
 use Rattle.cellctl.specs.declared.order.Order.{Order}
 use Rattle.cellctl.specs.declared.order.Order.TheVariants as order
 
 -- the path that is matched at an id
 abbrev pub HasPath : List Row → Text → Text → Type 0
 HasPath rows id path = first_of id rows ≡ Some path
+
+-- the value that is matched at an id, or none
+abbrev pub HasValue : List Row → Text → Option (Bor (List ℕ)) → Type 0
+HasValue rows id value = option_map (λ v. v.now) value ≡ first_of id rows
 
 -- the flag is set where it is matched
 abbrev pub HasFlag : List Row → Text → Bool → Type 0
@@ -22,13 +30,32 @@ HasPaths rows paths = HasPath rows (codes "settings") paths.settings.now
     × HasPath rows (codes "faults") paths.faults.now
     × HasPath rows (codes "operator") paths.operator.now
 
+-- the flags of a run, and its files
+abbrev pub IsRun : List Row → Running → Type 0
+IsRun rows r = HasFlag rows (codes "journal") r.journal × HasFlag rows (codes "explain") r.explain × HasPaths rows r.paths
+
+-- the flags of a picture, and how many entries it takes
+abbrev pub IsShown : List Row → Showing → Type 0
+IsShown rows s = HasFlag rows (codes "svg") s.svg
+    × HasFlag rows (codes "html") s.html
+    × HasFlag rows (codes "unicode") s.unicode
+    × HasValue rows (codes "entry") s.entry
+
+-- the files that are explained
+abbrev pub IsExplained : List Row → Explaining → Type 0
+IsExplained rows e = HasValue rows (codes "settings") e.settings
+    × HasValue rows (codes "faults") e.faults
+    × HasValue rows (codes "operator") e.operator
+
 -- the order of a command's name and what is matched below it
 abbrev pub Fits : Text → List Row → Order → Type 0
 Fits name rows order.Audit = name ≡ codes "audit"
 Fits name rows order.Migrate = name ≡ codes "migrate"
+Fits name rows (order.Show showing) = (name ≡ codes "show") × IsShown rows showing
+Fits name rows (order.Explain explaining) = (name ≡ codes "explain") × IsExplained rows explaining
 Fits name rows (order.Check path) = (name ≡ codes "check") × HasPath rows (codes "settings") path.now
-Fits name rows (order.Sim journal paths) = (name ≡ codes "sim") × HasFlag rows (codes "journal") journal × HasPaths rows paths
-Fits name rows (order.Run journal paths) = (name ≡ codes "run") × HasFlag rows (codes "journal") journal × HasPaths rows paths
+Fits name rows (order.Sim running) = (name ≡ codes "sim") × IsRun rows running
+Fits name rows (order.Run running) = (name ≡ codes "run") × IsRun rows running
 
 -- the words have a command that clap matches in them, and the order is of it
 abbrev pub IsOrdered : List Text → Order → Type 0

@@ -20,21 +20,38 @@ path_rule id = record (new_rule id) { required = true; value_names = 1 }
 abbrev pub check : App
 check = with_rule (new_app (codes "check")) (path_rule (codes "settings"))
 
--- the flag for the journal's text
-abbrev pub journal_rule : Rule
-journal_rule = record (new_rule (codes "journal")) { long = Some (codes "journal"); action = Some SetTrue }
+-- a flag
+abbrev pub flag_rule : Text → Rule
+flag_rule id = record (new_rule id) { long = Some id; action = Some SetTrue }
+
+-- an option with a file
+abbrev pub file_rule : Text → Rule
+file_rule id = record (new_rule id) { long = Some id; value_names = 1 }
+
+-- how many entries are shown, which may be given
+abbrev pub entry_rule : Rule
+entry_rule = record (new_rule (codes "entry")) { value_names = 1 }
+
+abbrev pub show : App
+show = with_rule (with_rule (with_rule (with_rule (new_app (codes "show")) (flag_rule (codes "svg"))) (flag_rule (codes "html"))) (flag_rule (codes "unicode"))) entry_rule
+
+abbrev pub explain : App
+explain = with_rule (with_rule (with_rule (new_app (codes "explain")) (file_rule (codes "settings"))) (file_rule (codes "faults"))) (file_rule (codes "operator"))
+
+-- a command that runs the cell, with its flags
+abbrev pub flagged : Text → App
+flagged name = with_rule (with_rule (new_app name) (flag_rule (codes "journal"))) (flag_rule (codes "explain"))
 
 -- a command that runs the cell by three files
 abbrev pub running : Text → App
 running name =
-    with_rule
-    (with_rule (with_rule (with_rule (new_app name) journal_rule) (path_rule (codes "settings"))) (path_rule (codes "faults")))
-    (path_rule (codes "operator"))
+    with_rule (with_rule (with_rule (flagged name) (path_rule (codes "settings"))) (path_rule (codes "faults"))) (path_rule (codes "operator"))
+
+-- the program with the commands that read a journal
+unfoldable pub reading : App
+reading = with_subcommand (with_subcommand (with_subcommand (with_subcommand (new_app (codes "cellctl")) audit.top) migrate.top) show.top) explain.top
 
 abbrev pub cellctl : App
 cellctl =
-    let whole =
-    with_subcommand
-    (with_subcommand (with_subcommand (with_subcommand (with_subcommand (new_app (codes "cellctl")) audit.top) migrate.top) check.top) (running (codes "sim")).top)
-    (running (codes "run")).top in
+    let whole = with_subcommand (with_subcommand (with_subcommand reading check.top) (running (codes "sim")).top) (running (codes "run")).top in
     record whole { top = needing_help whole.top }

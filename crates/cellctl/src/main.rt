@@ -1,15 +1,22 @@
-//! `cellctl`: the audit and the migration of a production cell's journal, the check of a run's settings, and the runs of the simulated cell.
+//! `cellctl`: the audit and the migration of a production cell's journal, its pictures and explanations, the check of a run's
+//! settings, and the runs of the simulated cell.
 #![tactic(auto)]
 
 mod command;
+mod explain;
+mod help;
 mod order;
+mod show;
 
+use cell_endings::write_ending;
 use cell_lines::{WriteFault, audit_lines, migrate_lines, status};
-use cell_runs::run_texts;
+use cell_runs::run_texts_kept;
 use cell_settings::check_lines;
 use clap::Error;
 use clap::error::ErrorKind;
-use order::{Order, Paths, read_words};
+use explain::explain_words;
+use order::{Order, Running, read_words};
+use show::show_input;
 use std::env::Env;
 use std::io::Write;
 use std::process::ExitCode;
@@ -83,32 +90,44 @@ fn check_file<R: AllocGlobal + Files + Print>(rt: &R, path: &str) -> io::Result<
 }
 
 // Runs the simulated cell by three files, on threads or in rounds. The files are all read before any is judged. All that is
-// printed is written out before the status is given.
-fn run_files<R: AllocGlobal + Files + Print + Threads + Wait + Sync>(
+// printed is written out before the end is explained, and the status is given.
+fn run_files<R: AllocGlobal + Files + Print + Threads + Wait + Sync, E: Print>(
     rt: &R,
+    errors: &E,
     threads: bool,
-    journal: bool,
-    paths: Paths<'_>,
+    running: Running<'_>,
 ) -> io::Result<u8> {
-    let settings = fs::read(rt, paths.settings)?;
-    let faults = fs::read(rt, paths.faults)?;
-    let operator = fs::read(rt, paths.operator)?;
+    let settings = fs::read(rt, running.paths.settings)?;
+    let faults = fs::read(rt, running.paths.faults)?;
+    let operator = fs::read(rt, running.paths.operator)?;
     let mut output = io::BufWriter::new(rt.alloc(), io::writer(rt))?;
-    match run_texts(
+    let (status, journal) = match run_texts_kept(
         rt,
         settings.as_slice(),
         faults.as_slice(),
         operator.as_slice(),
         threads,
-        journal,
+        running.journal,
         &mut output,
     ) {
-        Ok(status) => {
-            output.flush()?;
-            Ok(status)
+        Ok(ran) => ran,
+        Err(WriteFault) => return Ok(status::DEVICE_FAULT),
+    };
+    output.flush()?;
+    match journal {
+        Some(journal) if running.explain => {
+            let mut errors = io::writer(errors);
+            write_ending(
+                rt.alloc(),
+                &journal,
+                faults.as_slice(),
+                operator.as_slice(),
+                &mut errors,
+            )?;
         }
-        Err(WriteFault) => Ok(status::DEVICE_FAULT),
+        _ => {}
     }
+    Ok(status)
 }
 
 // Reads the words, does what they say, and gives the status.
@@ -133,9 +152,11 @@ fn run<R: AllocGlobal + Env + Files + Input + Print + Eprint + Threads + Wait + 
     match read_words(alloc, texts.as_slice()) {
         Ok(Order::Audit) => audit_input(rt),
         Ok(Order::Migrate) => migrate_input(rt, errors),
+        Ok(Order::Show(showing)) => show_input(rt, showing),
+        Ok(Order::Explain(explaining)) => explain_words(rt, explaining),
         Ok(Order::Check(path)) => check_file(rt, path),
-        Ok(Order::Sim(journal, paths)) => run_files(rt, false, journal, paths),
-        Ok(Order::Run(journal, paths)) => run_files(rt, true, journal, paths),
+        Ok(Order::Sim(running)) => run_files(rt, errors, false, running),
+        Ok(Order::Run(running)) => run_files(rt, errors, true, running),
         Err(error) => Ok(refuse(rt, &error)),
     }
 }

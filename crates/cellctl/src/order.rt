@@ -1,9 +1,9 @@
 //! The words of the command line.
-ghost use Rattle.std.specs.Prelude.{IfOk, IfSome, codes, map};
+ghost use Rattle.std.specs.Prelude.{IfOk, IfSome, map};
 ghost use Rattle.clap.specs.Kinds.{FailsBy};
 ghost use Rattle.clap.specs.Words.{fault_of, found_of, rows_of};
 ghost use Rattle.cellctl.specs.Shape.{cellctl};
-ghost use Rattle.cellctl.specs.Orders.{Fits, HasFlag, HasPath, HasPaths, IsOrdered};
+ghost use Rattle.cellctl.specs.Orders.{Fits, HasFlag, HasPath, HasPaths, HasValue, IsExplained, IsOrdered, IsRun, IsShown};
 
 use crate::command::command;
 use clap::{ArgMatches, Error};
@@ -17,6 +17,32 @@ pub struct Paths<'a> {
     pub operator: &'a str,
 }
 
+/// How the simulated cell is to be run: whether its journal is printed alone, whether its end is explained, and where its files
+/// are.
+#[derive(Clone, Copy, Debug, PartialEq, Eq)]
+pub struct Running<'a> {
+    pub journal: bool,
+    pub explain: bool,
+    pub paths: Paths<'a>,
+}
+
+/// How a journal is to be shown: which flags are given, and the number of entries as it is written.
+#[derive(Clone, Copy, Debug, PartialEq, Eq)]
+pub struct Showing<'a> {
+    pub svg: bool,
+    pub html: bool,
+    pub unicode: bool,
+    pub entry: Option<&'a str>,
+}
+
+/// The files that are to be explained; with none the journal on standard input is.
+#[derive(Clone, Copy, Debug, PartialEq, Eq)]
+pub struct Explaining<'a> {
+    pub settings: Option<&'a str>,
+    pub faults: Option<&'a str>,
+    pub operator: Option<&'a str>,
+}
+
 /// What the program is to do.
 #[derive(Clone, Copy, Debug, PartialEq, Eq)]
 pub enum Order<'a> {
@@ -24,12 +50,23 @@ pub enum Order<'a> {
     Audit,
     /// Write the text of profile 1 on standard input in profile 2.
     Migrate,
+    /// Draw the cell as the journal's text on standard input leaves it.
+    Show(Showing<'a>),
+    /// Say why a text is refused.
+    Explain(Explaining<'a>),
     /// Check the settings in the file of this path.
     Check(&'a str),
-    /// Run the simulated cell on one thread by these files, and print its journal where this is true.
-    Sim(bool, Paths<'a>),
-    /// Run the simulated cell by workers on threads by these files, and print its journal where this is true.
-    Run(bool, Paths<'a>),
+    /// Run the simulated cell on one thread.
+    Sim(Running<'a>),
+    /// Run the simulated cell by workers on threads.
+    Run(Running<'a>),
+}
+
+// The value at an id, if it has one.
+fn value<'a>(matches: &ArgMatches<'a>, id: &str) -> Option<&'a str>
+    ensures { HasValue (rows_of (found_of matches.now)) id.now result }
+{
+    matches.get_str(id)
 }
 
 // The path at an id.
@@ -39,11 +76,45 @@ fn path<'a>(matches: &ArgMatches<'a>, id: &str) -> Option<&'a str>
     matches.get_str(id)
 }
 
-// Whether the journal is wanted.
-fn journal(matches: &ArgMatches<'_>) -> bool
-    ensures { HasFlag (rows_of (found_of matches.now)) (codes "journal") result }
+// Whether a flag is given.
+fn flag(matches: &ArgMatches<'_>, id: &str) -> bool
+    ensures { HasFlag (rows_of (found_of matches.now)) id.now result }
 {
-    matches.get_flag("journal")
+    matches.get_flag(id)
+}
+
+// How the simulated cell is to be run.
+fn run_words<'a>(matches: &ArgMatches<'a>) -> Option<Running<'a>>
+    ensures { IfSome result (IsRun (rows_of (found_of matches.now))) }
+{
+    Some(Running {
+        journal: flag(matches, "journal"),
+        explain: flag(matches, "explain"),
+        paths: three_paths(matches)?,
+    })
+}
+
+// How a journal is to be shown.
+fn show_words<'a>(matches: &ArgMatches<'a>) -> Showing<'a>
+    ensures { IsShown (rows_of (found_of matches.now)) result }
+{
+    Showing {
+        svg: flag(matches, "svg"),
+        html: flag(matches, "html"),
+        unicode: flag(matches, "unicode"),
+        entry: value(matches, "entry"),
+    }
+}
+
+// What is to be explained.
+fn explain_words<'a>(matches: &ArgMatches<'a>) -> Explaining<'a>
+    ensures { IsExplained (rows_of (found_of matches.now)) result }
+{
+    Explaining {
+        settings: value(matches, "settings"),
+        faults: value(matches, "faults"),
+        operator: value(matches, "operator"),
+    }
 }
 
 // The paths of a run.
@@ -67,9 +138,11 @@ fn order_of<'a>(name: &str, matches: &ArgMatches<'a>) -> Option<Order<'a>>
     match name {
         "audit" => Some(Order::Audit),
         "migrate" => Some(Order::Migrate),
+        "show" => Some(Order::Show(show_words(matches))),
+        "explain" => Some(Order::Explain(explain_words(matches))),
         "check" => Some(Order::Check(path(matches, "settings")?)),
-        "sim" => Some(Order::Sim(journal(matches), three_paths(matches)?)),
-        "run" => Some(Order::Run(journal(matches), three_paths(matches)?)),
+        "sim" => Some(Order::Sim(run_words(matches)?)),
+        "run" => Some(Order::Run(run_words(matches)?)),
         _ => None,
     }
 }

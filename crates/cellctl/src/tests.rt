@@ -1,6 +1,6 @@
 mod refused;
 
-use crate::order::{Order, Paths, read_words};
+use crate::order::{Explaining, Order, Paths, Running, Showing, read_words};
 use clap::error::ErrorKind;
 
 #[test]
@@ -42,6 +42,11 @@ fn reads_the_words_of_the_command_line(rt: HostRuntime) {
             &["cellctl", "migrate", "journal.csv"],
             ErrorKind::UnknownArgument,
         ),
+        (&["cellctl", "show", "1", "2"], ErrorKind::UnknownArgument),
+        (
+            &["cellctl", "explain", "journal.csv"],
+            ErrorKind::UnknownArgument,
+        ),
         (&["cellctl", "--help"], ErrorKind::DisplayHelp),
         (&["cellctl", "audit", "--help"], ErrorKind::DisplayHelp),
         (
@@ -56,27 +61,90 @@ fn reads_the_words_of_the_command_line(rt: HostRuntime) {
     }
 }
 
+const PATHS: Paths<'static> = Paths {
+    settings: "cell.toml",
+    faults: "none.faults",
+    operator: "none.operator",
+};
+
 #[test]
 fn reads_the_words_of_runs(rt: HostRuntime) {
-    let paths = Paths {
-        settings: "cell.toml",
-        faults: "none.faults",
-        operator: "none.operator",
+    let plain = Running {
+        journal: false,
+        explain: false,
+        paths: PATHS,
     };
-    for (command, wanted) in [
-        ("sim", [Order::Sim(false, paths), Order::Sim(true, paths)]),
-        ("run", [Order::Run(false, paths), Order::Run(true, paths)]),
-    ] {
-        let words = [
-            "cellctl",
-            command,
-            "cell.toml",
-            "none.faults",
-            "none.operator",
-            "--journal",
-        ];
-        let [without, with] = wanted;
-        assert_eq!(rt; read_words(rt.alloc(), &words[..5]).ok(), Some(without));
-        assert_eq!(rt; read_words(rt.alloc(), &words).ok(), Some(with));
-    }
+    let journal = Running {
+        journal: true,
+        explain: false,
+        paths: PATHS,
+    };
+    let explain = Running {
+        journal: false,
+        explain: true,
+        paths: PATHS,
+    };
+    let words = [
+        "cellctl",
+        "sim",
+        "cell.toml",
+        "none.faults",
+        "none.operator",
+        "--journal",
+    ];
+    assert_eq!(rt;
+        read_words(rt.alloc(), &words[..5]).ok(),
+        Some(Order::Sim(plain))
+    );
+    assert_eq!(rt;
+        read_words(rt.alloc(), &words).ok(),
+        Some(Order::Sim(journal))
+    );
+    let words = [
+        "cellctl",
+        "run",
+        "--explain",
+        "cell.toml",
+        "none.faults",
+        "none.operator",
+    ];
+    assert_eq!(rt;
+        read_words(rt.alloc(), &words).ok(),
+        Some(Order::Run(explain))
+    );
+}
+
+#[test]
+fn reads_the_words_that_show_and_explain(rt: HostRuntime) {
+    let whole = Showing {
+        svg: false,
+        html: false,
+        unicode: false,
+        entry: None,
+    };
+    let picture = Showing {
+        svg: true,
+        html: false,
+        unicode: false,
+        entry: Some("20"),
+    };
+    let words = ["cellctl", "show", "--svg", "20"];
+    assert_eq!(rt;
+        read_words(rt.alloc(), &words).ok(),
+        Some(Order::Show(picture))
+    );
+    assert_eq!(rt;
+        read_words(rt.alloc(), &words[..2]).ok(),
+        Some(Order::Show(whole))
+    );
+    let faults = Explaining {
+        settings: None,
+        faults: Some("press_fails.faults"),
+        operator: None,
+    };
+    let words = ["cellctl", "explain", "--faults", "press_fails.faults"];
+    assert_eq!(rt;
+        read_words(rt.alloc(), &words).ok(),
+        Some(Order::Explain(faults))
+    );
 }

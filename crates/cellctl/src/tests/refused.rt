@@ -1,7 +1,7 @@
 //! The words of the command line where any allocation may be refused (docs/HOSTILE.md). The tests take no memory but the
 //! call's.
 use crate::order;
-use crate::order::{Order, Paths};
+use crate::order::{Order, Paths, Running};
 use clap::error::ErrorKind;
 use std::process::Abort;
 
@@ -32,7 +32,12 @@ fn read_words(rt: HostRuntime) {
         operator: "c",
     };
     let words = ["cellctl", "sim", "--journal", "a", "b", "c"];
-    check_order(&rt, &words, Order::Sim(true, paths));
+    let running = Running {
+        journal: true,
+        explain: false,
+        paths,
+    };
+    check_order(&rt, &words, Order::Sim(running));
 }
 
 #[test]
