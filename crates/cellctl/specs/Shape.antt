@@ -3,9 +3,9 @@ use Rattle.std.specs.Prelude.{true, Some, codes}
 use Rattle.clap.specs.Words.{App, Rule, Shape, Text, new_app, new_rule, with_rule, with_subcommand}
 use Rattle.clap.specs.declared.builder.ArgAction.TheVariants.{SetTrue}
 
--- the program's name alone asks for help
-abbrev pub needing_help : Shape → Shape
-needing_help s = record s { subcommand_required = true; arg_required_else_help = true }
+-- the program's name alone asks for help, and `--version` for the version
+abbrev pub for_people : Shape → Shape
+for_people s = record s { subcommand_required = true; arg_required_else_help = true; has_version = true }
 
 abbrev pub audit : App
 audit = new_app (codes "audit")
@@ -54,4 +54,4 @@ reading = with_subcommand (with_subcommand (with_subcommand (with_subcommand (ne
 abbrev pub cellctl : App
 cellctl =
     let whole = with_subcommand (with_subcommand (with_subcommand reading check.top) (running (codes "sim")).top) (running (codes "run")).top in
-    record whole { top = needing_help whole.top }
+    record whole { top = for_people whole.top }

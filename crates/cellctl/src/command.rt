@@ -5,11 +5,12 @@ ghost use Rattle.clap.specs.declared.builder.command.Command.TheViews.{out-Comma
 ghost use Rattle.cellctl.specs.Shape.{audit, cellctl, check, entry_rule, explain, file_rule, flag_rule, flagged, migrate, path_rule, reading, running, show};
 
 use crate::help::{
-    ABOUT, AUDIT_ABOUT, AUDIT_HELP, CHECK_ABOUT, CHECK_EXAMPLE, CHECK_HELP, ENTRY_HELP, EXAMPLE,
-    EXPLAIN_ABOUT, EXPLAIN_EXAMPLE, EXPLAIN_HELP, FAULTS_HELP, HTML_HELP, JOURNAL_HELP,
-    MIGRATE_ABOUT, MIGRATE_EXAMPLE, MIGRATE_HELP, OPERATOR_HELP, RUN_ABOUT, RUN_EXAMPLE, RUN_HELP,
-    SETTINGS_HELP, SHOW_ABOUT, SHOW_EXAMPLE, SHOW_HELP, SIM_ABOUT, SIM_EXAMPLE, SIM_HELP, SVG_HELP,
-    UNICODE_HELP, WHY_HELP,
+    ABOUT, AFTER, AUDIT_ABOUT, AUDIT_EXAMPLE, AUDIT_HELP, AUDIT_USAGE, CHECK_ABOUT, CHECK_EXAMPLE,
+    CHECK_HELP, ENTRY_HELP, EXPLAIN_ABOUT, EXPLAIN_EXAMPLE, EXPLAIN_HELP, EXPLAIN_USAGE,
+    FAULTS_HELP, HTML_HELP, JOURNAL_HELP, MIGRATE_ABOUT, MIGRATE_EXAMPLE, MIGRATE_HELP,
+    MIGRATE_USAGE, OPERATOR_HELP, RUN_ABOUT, RUN_EXAMPLE, RUN_HELP, SETTINGS_HELP, SHOW_ABOUT,
+    SHOW_EXAMPLE, SHOW_HELP, SHOW_USAGE, SIM_ABOUT, SIM_EXAMPLE, SIM_HELP, SVG_HELP, UNICODE_HELP,
+    VERSION, WHY_HELP,
 };
 use clap::{Arg, ArgAction, Command};
 use std::alloc::{AllocError, Global};
@@ -21,7 +22,8 @@ fn audit_command<'a>(alloc: Global) -> Command<'a>
     Command::new(alloc, "audit")
         .about(AUDIT_ABOUT)
         .long_about(AUDIT_HELP)
-        .after_help(EXAMPLE)
+        .override_usage(AUDIT_USAGE)
+        .after_help(AUDIT_EXAMPLE)
 }
 
 fn migrate_command<'a>(alloc: Global) -> Command<'a>
@@ -31,6 +33,7 @@ fn migrate_command<'a>(alloc: Global) -> Command<'a>
     Command::new(alloc, "migrate")
         .about(MIGRATE_ABOUT)
         .long_about(MIGRATE_HELP)
+        .override_usage(MIGRATE_USAGE)
         .after_help(MIGRATE_EXAMPLE)
 }
 
@@ -113,6 +116,7 @@ fn show_command<'a>(alloc: Global) -> Result<Command<'a>, AllocError>
         command
             .about(SHOW_ABOUT)
             .long_about(SHOW_HELP)
+            .override_usage(SHOW_USAGE)
             .after_help(SHOW_EXAMPLE),
     )
 }
@@ -137,6 +141,7 @@ fn explain_command<'a>(alloc: Global) -> Result<Command<'a>, AllocError>
         command
             .about(EXPLAIN_ABOUT)
             .long_about(EXPLAIN_HELP)
+            .override_usage(EXPLAIN_USAGE)
             .after_help(EXPLAIN_EXAMPLE),
     )
 }
@@ -223,7 +228,8 @@ pub(crate) fn command<'a>(alloc: Global) -> Result<Command<'a>, AllocError>
     Ok(
         command
             .about(ABOUT)
-            .after_help(EXAMPLE)
+            .version(VERSION)
+            .after_help(AFTER)
             .subcommand_required(true)
             .arg_required_else_help(true),
     )

@@ -1,164 +1,282 @@
-//! The texts of the help.
+//! The texts of the help, in lines of at most 79 columns. The manual page is made of them.
 
-pub(crate) const ABOUT: &str =
-    "Simulates a fault-tolerant production cell, and judges its journals.";
+/// The program's version.
+pub(crate) const VERSION: &str = "1.0.0";
 
-pub(crate) const AUDIT_ABOUT: &str = "Says whether a journal is legal, and what it counts";
+pub(crate) const ABOUT: &str = "\
+Runs a simulated fault-tolerant production cell, and judges, draws and explains
+journals of it.";
+
+pub(crate) const AFTER: &str = "\
+Each command's --help says what it reads and prints, and its words.
+
+Exit status, of each command:
+  0  good: legal, shown, settings ok, finished
+  1  refused, unreadable, or a run that ended otherwise
+  2  wrong arguments
+  3  a read or a write failed: 'read fault' on standard error
+  4  memory was refused: 'out of memory' on standard error
+
+Example: cellctl audit < examples/whole.journal";
+
+pub(crate) const AUDIT_ABOUT: &str = "Say whether a journal is legal, and what it counts";
+
+pub(crate) const AUDIT_USAGE: &str = "cellctl audit < JOURNAL";
 
 pub(crate) const AUDIT_HELP: &str = "\
-Reads a journal's text on standard input: the record profile,2,, or profile,1,, and then one record of four fields for \
-each entry, such as lamp,feed,green, or conveyed,feed_belt,1,table. In profile 1 no plate is laid back.
+Judges a journal's text, which it reads on standard input.
 
-Prints, for a legal journal, its numbers of entries and of admitted, forged, quarantined and delivered plates, and in \
-profile 2 of plates that were laid back:
+Its first record is profile,2,, or profile,1,, and then each entry has a record
+of four fields, by the rules of CSV, with no heading and no comments:
+  lamp,LIGHT,COLOUR,            admitted,PLATE,,
+  claimed,MACHINE,ZONE,         yielded,MACHINE,ZONE,
+  started,AXIS,POSE,            arrived,AXIS,POSE,
+  conveyed,AXIS,PLATE,STATION   forged,MACHINE,PLATE,
+  gripped,ARM,PLATE,STATION     dropped,ARM,PLATE,STATION
+  delivered,PLATE,,             declared,MACHINE,CAUSE,
+  stop_asked,MACHINE,,          quarantined,PLATE,STATION,
+  repaired,MACHINE,,
+and in profile 2 alone, in which a plate can be laid back:
+  expected,PLATE,,              reinstated,PLATE,,
+
+  PLATE    1 to 100000
+  MACHINE  feed table robot press1 press2 deposit
+  STATION  feed_in feed_end table arm1 arm2 press1 press2 dep_in dep_end
+  AXIS     feed_belt table_lift table_turn robot_turn arm_one arm_two
+           press_one press_two deposit_belt
+  POSE     rest to_end to_table low high belt robot table1 p1_load p1_unload
+           p2_load p2_unload deposit2 in out middle top bottom
+  ZONE     z1 z2 z3 z4 z5
+  ARM      arm1 arm2
+  LIGHT    feed deposit
+  COLOUR   red green
+  CAUSE    stuck_switch contradictory stray_position no_departure
+           missing_motion lost_position plate_lost strange_plate silent
+           command_fault operator_stop
+
+Prints, for a legal journal, how many entries it has and how many plates were
+admitted, forged, quarantined, delivered and, in profile 2, laid back:
   legal 4
   admitted 1
   forged 0
   quarantined 0
   delivered 0
   reinstated 0
-or the first entry that isn't allowed after those before it, counted from 1:
+or the first entry that isn't allowed after those before it, counted from 1,
+with the refusal and the machine, axis, zone, station or light that it names:
   refused 3 LampRed feed
 or the first record that can't be read, 0 for the profile's:
   unreadable 1
+Records are counted and not lines: blank lines don't count. The command explain
+names the line.
 
-Exit status: 0 legal, 1 refused or unreadable, 2 wrong arguments, 3 a read or a write failed, 4 out of memory.";
+The refusals, in their order:
+  JournalFull  PlateLimit  MachineFailed MACHINE  MachineHealthy MACHINE
+  OwnerFailed MACHINE  WrongPose AXIS  ZoneTaken ZONE  NotHolder ZONE
+  NotNeighbour  StationEmpty STATION  StationFull STATION  WrongPlate
+  LampRed LIGHT  LampAlready LIGHT  NoPress  AlreadyAsked MACHINE
+  PlateStillThere STATION  PlateExpected  NotReturnable
 
-pub(crate) const MIGRATE_ABOUT: &str = "Writes a journal of profile 1 in profile 2";
+Exit status: 0 legal, 1 refused or unreadable, 2 wrong arguments, 3 a read or a
+write failed, 4 out of memory.";
+
+pub(crate) const AUDIT_EXAMPLE: &str = "Example: cellctl audit < examples/whole.journal";
+
+pub(crate) const MIGRATE_ABOUT: &str = "Write a journal of profile 1 in profile 2";
+
+pub(crate) const MIGRATE_USAGE: &str = "cellctl migrate < JOURNAL";
 
 pub(crate) const MIGRATE_HELP: &str = "\
-Reads a journal's text of profile 1 on standard input: the record profile,1,, and then one record of four fields for each \
-entry. In profile 1 no plate is laid back.
+Reads a journal's text of profile 1 on standard input, and prints the same
+journal's text of profile 2: the record profile,2,, and then the same entries'
+records.
 
-Prints the same journal's text of profile 2: the record profile,2,, and then the same entries' records.
-
-The whole text is judged before anything is printed. Of a text that isn't a legal journal's the first entry that isn't \
-allowed is told on standard error, counted from 1:
+The whole text is judged before anything is printed. Where it isn't a legal
+journal's, nothing is, and standard error has the line of the command audit:
+the first entry that isn't allowed, counted from 1
   refused 3 LampRed feed
-or the first record that can't be read, 0 for the profile's, as where the text is of profile 2 already:
+or the first record that can't be read, 0 for the profile's, as of a text of
+profile 2
   unreadable 0
 
-Exit status: 0 migrated, 1 refused or unreadable, 2 wrong arguments, 3 a read or a write failed, 4 out of memory.";
+Exit status: 0 migrated, 1 refused or unreadable, 2 wrong arguments, 3 a read
+or a write failed, 4 out of memory.";
 
-pub(crate) const CHECK_ABOUT: &str = "Says whether a run's settings are good";
+pub(crate) const MIGRATE_EXAMPLE: &str = "Example: cellctl migrate < examples/whole.journal";
+
+pub(crate) const CHECK_ABOUT: &str = "Say whether a run's settings are good";
 
 pub(crate) const CHECK_HELP: &str = "\
-Reads settings in TOML from a file:
-  plates = 5               required, 1 to 100000
-  journal_limit = 100000   1 to 1000000, by default 100000
-  turns = 100000           1 to 10000000, by default 100000
-  [watch.press_one]        a table for each axis, or none
-  leave = 3                2 to 999, by default 3
-  limit = 20               above leave, to 1000, by default 20
-The axes are feed_belt, table_lift, table_turn, robot_turn, arm_one, arm_two, press_one, press_two and deposit_belt.
+Reads a run's settings, in TOML, from a file:
+  plates = 5               how many plates are laid in: required, 1 to 100000
+  journal_limit = 100000   how many entries the journal has at most, but for
+                           six failures more: 1 to 1000000
+  turns = 100000           how many readings of its own each machine takes at
+                           most: 1 to 10000000
+  [watch.press_one]        of an axis's motions, in its machine's readings:
+  leave = 3                one that shows nothing but the old pose up to this
+                           reading is at fault: 2 to 999
+  limit = 20               one that hasn't ended by this reading is at fault:
+                           above leave, to 1000
+What isn't given but for plates is as it stands here. The axes are feed_belt,
+table_lift, table_turn, robot_turn, arm_one, arm_two, press_one, press_two and
+deposit_belt.
 
-Prints, for good settings:
+Prints, for good settings,
   settings ok
-or the first fault and the key that has it:
+or the first fault, and the key that has it:
   settings OutOfRange watch.press_one.limit
-The faults are, in this order, NotToml, UnknownKey, and then key by key Missing, NotNumber and OutOfRange.
+The faults, in this order:
+  NotToml     the text is no TOML
+  UnknownKey  no such key is known, or a key that has to be a table is none
+  Missing     plates isn't there
+  NotNumber   what stands there is no whole number
+  OutOfRange  the number is outside its range
 
-Exit status: 0 good, 1 a fault, 2 wrong arguments, 3 a read or a write failed, 4 out of memory.";
+Exit status: 0 good, 1 a fault, 2 wrong arguments, 3 a read or a write failed,
+4 out of memory.";
 
-pub(crate) const SIM_ABOUT: &str = "Runs the simulated cell on one thread";
+pub(crate) const CHECK_EXAMPLE: &str = "Example: cellctl check examples/cell.toml";
+
+pub(crate) const SIM_ABOUT: &str = "Run the simulated cell on one thread";
 
 pub(crate) const SIM_HELP: &str = "\
-Runs the simulated cell on one thread, in rounds, until nothing more is to be done in it. It reads three files:
-  SETTINGS  TOML, as of the command check: plates = 6
-  FAULTS    what goes wrong, in records of four fields: an axis, which of its motions, the fault, its argument
-            press_two,1,no_motion,
-            The faults are no_motion, keeps_old, both, slow (readings, 1 to 1000), lose_plate, silent (readings) and
-            refuse_command.
-  OPERATOR  what the operator does, one after another, in records of four fields: when, its argument, what, where
-            failed,press2,clear,press2
-            failed,press2,repair,press2
-            When: always, admitted, delivered or quarantined (so many plates), failed (a machine). What: stop or repair
-            (a machine), clear (a station). A line that isn't allowed yet waits.
-An empty file has no faults, or no lines for the operator.
+Runs the simulated cell on one thread, in rounds, until nothing more is to be
+done in it. It reads three files. SETTINGS is TOML, as of the command check.
+FAULTS and OPERATOR have records of four fields, by the rules of CSV, at most
+1000 each, with no comments; an empty file, or /dev/null, has none.
 
-Prints how the run ended, finished, stalled, turn limit, memory or full, and what it counted:
+A record of FAULTS is AXIS,N,KIND,ARGUMENT for the axis's N-th motion, 1 to
+1000000, no two for one motion:
+  press_two,1,no_motion,
+The kinds, of which slow and silent take an argument, 1 to 1000:
+  no_motion       the axis stays where it is
+  keeps_old       it moves, and its old switch stays shown
+  both            all its switches are shown from the second reading on
+  slow            so many more readings show nothing
+  lose_plate      the plates on its machine, or arm, are gone
+  silent          so many readings are missing first
+  refuse_command  the command to move fails
+
+A record of OPERATOR is WHEN,ARGUMENT,ACTION,ARGUMENT:
+  failed,press2,clear,press2
+  failed,press2,repair,press2
+WHEN is
+  always          no argument
+  admitted        so many plates at least, 0 to 100000; also delivered and
+                  quarantined
+  failed          the machine is booked failed
+and ACTION
+  stop, repair    a machine
+  clear           a station, whose plate is taken out by hand
+  expect          a plate's number, 1 to 100000, that is to be laid back
+The records are done in their order; one that isn't allowed yet waits.
+
+Prints how the run ended, and what it counted:
   finished
   admitted 6
   forged 5
   quarantined 1
   delivered 5
-or, with --journal, the run's journal alone, which the command audit reads; or what is wrong with the first text that is
-refused:
+The ends:
+  finished    nothing is left to do, all plates were laid in, and none is left
+  stalled     nothing is left to do, and that isn't so
+  turn limit  each machine has taken as many readings as the settings allow
+  full        the journal has as many entries as the settings allow
+  memory      memory was refused
+Or prints, with --journal, the run's journal alone, which the command audit
+reads. Or says what is wrong with the first text that is refused, of a script
+with the record's number:
   settings OutOfRange plates
   faults unreadable 1
   operator too long
 
-With --explain there stand, on standard error, the failed machines with their causes, the plates in the cell and what each \
-waits for, the first line of the operator's that isn't done, and the faults whose motions were never reached.
+With --explain there stand besides, on standard error, the failed machines with
+their causes, the plates in the cell and what each waits for, the operator's
+first record that isn't done, and the faults whose motions were never reached.
 
-Exit status: 0 finished, 1 another end or a text refused, 2 wrong arguments, 3 a read or a write failed, 4 out of memory.";
+Exit status: 0 finished, 1 another end or a text refused, 2 wrong arguments, 3
+a read or a write failed, 4 out of memory.";
 
-pub(crate) const RUN_ABOUT: &str = "Runs the simulated cell on threads";
+pub(crate) const SIM_EXAMPLE: &str = "\
+Example: cellctl sim examples/press_fails.toml \\
+           examples/press_fails.faults examples/press_fails.operator";
+
+pub(crate) const RUN_ABOUT: &str = "Run the simulated cell on threads";
 
 pub(crate) const RUN_HELP: &str = "\
-Runs the simulated cell with each machine's worker and the operator's on a thread of its own, until nothing more is to be \
-done in it. It reads the three files of the command sim, and prints the same lines, or the same of a text that is refused.
+Runs the simulated cell with a worker for each machine and one for the
+operator, each on a thread of its own, until nothing more is to be done in it.
+It reads the three files of the command sim, whose --help has their words, and
+prints the same lines, or the same of a text that is refused. Here the line
+  turn limit
+says that one machine has taken as many readings as the settings allow.
 
-Which worker acts first isn't determined, so two runs by the same files may print different journals. Where the operator \
-stops a machine, or the end is turn limit or full, what is counted may differ too. The line
+Which worker acts first isn't determined, so two runs by the same files may
+print different journals. Where the operator stops a machine, or the end is
+turn limit or full, what is counted may differ too. The line
   journal disagrees
-says that some worker's list of what it booked isn't what the journal has of it.
+says that some worker's list of what it booked isn't what the journal has of
+it.
 
-Exit status: 0 finished, 1 another end, a text refused or a journal that disagrees, 2 wrong arguments, 3 a read or a write \
-failed, 4 out of memory, or no thread to be had.";
+Exit status: 0 finished, 1 another end, a text refused or a journal that
+disagrees, 2 wrong arguments, 3 a read or a write failed, 4 out of memory, or
+no thread to be had.";
 
-pub(crate) const JOURNAL_HELP: &str = "Print the run's journal alone";
+pub(crate) const RUN_EXAMPLE: &str = "\
+Example: cellctl run examples/press_fails.toml \\
+           examples/press_fails.faults examples/press_fails.operator";
 
-pub(crate) const SETTINGS_HELP: &str = "The file with the settings";
+pub(crate) const SHOW_ABOUT: &str = "Draw the cell as a journal's first entries left it";
 
-pub(crate) const FAULTS_HELP: &str = "The file with the script of faults";
-
-pub(crate) const OPERATOR_HELP: &str = "The file with the operator's script";
-
-pub(crate) const EXAMPLE: &str = "Example: cellctl audit < examples/whole.journal";
-
-pub(crate) const MIGRATE_EXAMPLE: &str = "Example: cellctl migrate < examples/whole.journal";
-
-pub(crate) const CHECK_EXAMPLE: &str = "Example: cellctl check examples/cell.toml";
-
-pub(crate) const SIM_EXAMPLE: &str =
-    "Example: cellctl sim examples/press_fails.toml examples/press_fails.faults examples/press_fails.operator";
-
-pub(crate) const RUN_EXAMPLE: &str =
-    "Example: cellctl run examples/press_fails.toml examples/press_fails.faults examples/press_fails.operator";
-
-pub(crate) const SHOW_ABOUT: &str = "Draws the cell as a journal's first entries left it";
+pub(crate) const SHOW_USAGE: &str = "cellctl show [--svg | --html | --unicode] [ENTRY] < JOURNAL";
 
 pub(crate) const SHOW_HELP: &str = "\
-Reads a journal's text on standard input, as the command audit does, and draws the cell as its first ENTRY entries left it, \
-or all of them where no ENTRY is given: each station with its plate, a forged one with a star, each axis with its pose and \
-where it is going, who holds each zone, which machines are failed or asked to stop, the lights, what was counted, the \
-expected plate, how many plates are in quarantine, and the last entry in words.
+Reads a journal's text on standard input, as the command audit does, and draws
+the cell as its first ENTRY entries left it, or all of them where no ENTRY is
+given: each station with its plate, a forged one with a star, each axis with
+its pose and where it is going, who holds each zone, which machines are failed
+or asked to stop, the lights, what was counted, the expected plate, how many
+plates are in quarantine, and the last entry in words.
 
-Prints at most 24 lines of 78 characters, plain ASCII or with --unicode also other signs; with --svg one picture file; with \
---html one page for a browser, which has the states after all entries, of which it shows at most 20000.
+Prints at most 24 lines of 78 characters, plain ASCII or with --unicode also
+other signs; with --svg one picture file; with --html one page for a browser,
+which has the states after all entries, of which it shows at most 20000.
 
-A journal that is refused or can't be read is shown up to its last good entry, and below stands the line of the command \
-audit.
+A journal that is refused or can't be read is shown up to its last good entry,
+and below stands the line of the command audit.
 
-Exit status: 0 legal, 1 refused or unreadable, 2 wrong arguments, no such entry or too many entries for a page, 3 a read or \
-a write failed, 4 out of memory.";
+Exit status: 0 legal, 1 refused or unreadable, 2 wrong arguments, no such entry
+or too many entries for a page, 3 a read or a write failed, 4 out of memory.";
 
-pub(crate) const EXPLAIN_ABOUT: &str = "Says why a journal, settings or a script is refused";
+pub(crate) const SHOW_EXAMPLE: &str = "Example: cellctl show 20 < examples/whole.journal";
+
+pub(crate) const EXPLAIN_ABOUT: &str = "Say why a journal, settings or a script is refused";
+
+pub(crate) const EXPLAIN_USAGE: &str = "\
+cellctl explain < JOURNAL
+       cellctl explain --settings FILE | --faults FILE | --operator FILE";
 
 pub(crate) const EXPLAIN_HELP: &str = "\
-Reads a journal's text on standard input, or with an option a file with settings, with the script of faults or with the \
-operator's script.
+Reads a journal's text on standard input, or with an option a file with
+settings, with the script of faults or with the operator's script.
 
-Prints, for a legal journal, the lines of the command audit; for another one the line and the entry at which it stops, its \
-record, why it stops, and the entry since which that is so:
-  line 4, entry 3: admitted,2,,: LampRed feed: the feed light is red, since entry 2 admitted plate 1
-or which field can't be read and what may stand there.
+Prints, for a legal journal, the lines of the command audit; for another one
+the line and the entry at which it stops, its record, the refusal, what is so
+there, and the entry since which that is so:
+  line 3, entry 2: lamp,feed,green,: LampAlready feed: (and so on)
+or which field of the record can't be read, and what may stand there.
 
-Prints, for settings, the line of the command check, and what may stand at the key; for a script how many lines it has, or \
-the line and the field that can't be read and what may stand there.
+Prints, for settings, the line of the command check, and what may stand at the
+key; for a script how many lines it has, or the line and the field that can't
+be read and what may stand there.
 
-Exit status: 0 good, 1 refused or unreadable, 2 wrong arguments, 3 a read or a write failed, 4 out of memory.";
+Exit status: 0 good, 1 refused or unreadable, 2 wrong arguments, 3 a read or a
+write failed, 4 out of memory.";
+
+pub(crate) const EXPLAIN_EXAMPLE: &str = "Example: cellctl explain < examples/refused.journal";
+
+pub(crate) const JOURNAL_HELP: &str = "Print the run's journal alone";
 
 pub(crate) const WHY_HELP: &str = "Say on standard error why the run ended so";
 
@@ -170,6 +288,8 @@ pub(crate) const UNICODE_HELP: &str = "Draw with signs beyond ASCII";
 
 pub(crate) const ENTRY_HELP: &str = "How many of the first entries to take";
 
-pub(crate) const SHOW_EXAMPLE: &str = "Example: cellctl show 20 < examples/whole.journal";
+pub(crate) const SETTINGS_HELP: &str = "The file with the settings";
 
-pub(crate) const EXPLAIN_EXAMPLE: &str = "Example: cellctl explain < examples/refused.journal";
+pub(crate) const FAULTS_HELP: &str = "The file with the script of faults";
+
+pub(crate) const OPERATOR_HELP: &str = "The file with the operator's script";

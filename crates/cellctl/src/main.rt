@@ -5,6 +5,7 @@
 mod command;
 mod explain;
 mod help;
+mod named;
 mod order;
 mod show;
 
@@ -15,6 +16,7 @@ use cell_settings::check_lines;
 use clap::Error;
 use clap::error::ErrorKind;
 use explain::explain_words;
+use named::Named;
 use order::{Order, Running, read_words};
 use show::show_input;
 use std::env::Env;
@@ -136,7 +138,7 @@ fn run<R: AllocGlobal + Env + Files + Input + Print + Eprint + Threads + Wait + 
     errors: &E,
 ) -> io::Result<u8> {
     let alloc = rt.alloc();
-    let arguments = match env::args(rt) {
+    let arguments = match env::args(&(Named { rt }, alloc)) {
         Ok(arguments) => arguments,
         Err(e) if e.kind() == io::ErrorKind::InvalidData => {
             eprintln!(rt; "error: an argument isn't UTF-8")?;
