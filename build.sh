@@ -74,6 +74,7 @@ done
 wait
 [ -e "$work/failed" ] && exit 1
 echo "cellctl: the program is proved and built last"
-(cd "$here/crates/cellctl" && rt run -- --help) </dev/null >"$work/cellctl.said" 2>&1 && exit
+(cd "$here/crates/cellctl" && rt run -- --help) </dev/null >"$work/cellctl.said" 2>&1 &&
+    touch "$here/crates/cellctl/out/cellctl" && exit
 tail -n 5 "$work/cellctl.said"
 exit 1
