@@ -1,0 +1,24 @@
+# Completion of cellctl's words for bash. Source this file, or lay it under the name cellctl into a folder of
+# bash-completion's, as ~/.local/share/bash-completion/completions.
+_cellctl() {
+    local word=${COMP_WORDS[COMP_CWORD]} before=${COMP_WORDS[COMP_CWORD - 1]} words=
+    COMPREPLY=()
+    if [ "$COMP_CWORD" = 1 ]; then
+        words='audit migrate show explain check sim run help --help --version'
+    else
+        case "${COMP_WORDS[1]} $before" in
+            'explain --settings' | 'explain --faults' | 'explain --operator') return ;;
+        esac
+        case ${COMP_WORDS[1]} in
+            show) words='--svg --html --unicode --help' ;;
+            explain) words='--settings --faults --operator --help' ;;
+            sim | run) words='--journal --explain --help' ;;
+            audit | migrate | check) words='--help' ;;
+            help) words='audit migrate show explain check sim run' ;;
+        esac
+        # Elsewhere a file may stand, which bash completes itself.
+        [[ ${COMP_WORDS[1]} = help || $word = -* ]] || return
+    fi
+    mapfile -t COMPREPLY < <(compgen -W "$words" -- "$word")
+}
+complete -o default -F _cellctl cellctl ./cellctl
