@@ -94,6 +94,14 @@ script_texts() {
     measure 'scripts of 50 MB of blank lines' 'finished' 0 200 20 run good blank blank
 }
 
+# The program by a path that isn't UTF-8, and a word that isn't.
+odd_names() {
+    odd=$(printf 'odd\377')
+    ln -s "$cellctl" "$odd"
+    cellctl=./$odd measure 'a path with a byte FF, by which it is called' 'settings ok' 0 8 20 check good
+    measure 'a word with a byte FF' '' 2 8 20 check "$odd"
+}
+
 # Looks for status 3 and the words `read fault` where standard output can't be written.
 # unwritten NAME STATUS
 unwritten() {
@@ -107,7 +115,7 @@ unwritten() {
 # Each command with standard output closed, full, and a pipe that nobody reads.
 outputs_that_fail() {
     printf 'profile,1,,\n' > journal
-    for words in 'audit' 'migrate' 'show' 'show --svg' 'show --html' 'explain' 'explain --settings good' '--help' 'check good' \
+    for words in 'audit' 'migrate' 'show' 'show --svg' 'show --html' 'explain' 'explain --settings good' '--help' '--version' 'check good' \
         'sim good none none' 'sim --explain good none none' 'sim --journal good none none' 'run good none none' 'run --journal good none none'; do
         # The words of a command are parted at blanks.
         # shellcheck disable=SC2086
@@ -127,6 +135,7 @@ outputs_that_fail() {
 audit_texts
 settings_texts
 script_texts
+odd_names
 outputs_that_fail
 echo "hostile texts and outputs: $([ $failed = 0 ] && echo all as due || echo some are another)"
 exit $failed

@@ -1,0 +1,181 @@
+#!/bin/bash
+# Looks whether the documents are true where a script can tell: each command in a block of the kind `console` is run, and
+# prints what stands there; each excerpt of code stands in its file; each link leads somewhere; each crate is in the map and
+# has its README; the manual page is what the help texts make, and the completion has each command and option.
+# Usage: checks/docs.sh     Build the program first: any call of ./cellctl does. CELLCTL names another one.
+set -u
+here=$(cd "$(dirname "$0")/.." && pwd) || exit 1
+cellctl=${CELLCTL:-$here/crates/cellctl/out/cellctl}
+work=$(mktemp -d) || exit 1
+trap 'rm -rf "$work"' EXIT
+cd "$here" || exit 1
+documents=$(ls README.md docs/*.md crates/*/README.md)
+commands=0
+failed=0
+
+wrong() {
+    echo "documents: $1"
+    failed=1
+}
+
+# The blocks of a kind in a document, each in a file that is named after the line where it begins.
+blocks() {
+    rm -rf "$work/blocks"
+    mkdir "$work/blocks"
+    awk -v kind="$1" -v folder="$work/blocks" '
+        /^```/ { if (on) on = 0; else { on = 1; file = folder "/" NR; wanted = ($0 == "```" kind); if (wanted) printf "" > file } next }
+        on && wanted { print > file }' "$2"
+    ls "$work/blocks" | sort -n
+}
+
+# Parts a block into its commands and, for each, what it has to print; and makes the script that runs them.
+part_block() {
+    rm -rf "$work/parts"
+    mkdir "$work/parts"
+    awk -v folder="$work/parts" '
+        function open(number) { printf "" > (folder "/" number ".due") }
+        /^\$ / {
+            if (number) print "} > \"$parts/" number ".got\" 2>&1"
+            number++
+            open(number)
+            print "{"
+            print substr($0, 3)
+            more = /\\$/
+            next
+        }
+        more && /^> / { print substr($0, 3); more = /\\$/; next }
+        number { print > (folder "/" number ".due") }
+        END { if (number) print "} > \"$parts/" number ".got\" 2>&1" }' "$1" > "$work/script"
+}
+
+# Runs the commands of a block in a folder with the program, the examples and the documents.
+run_block() {
+    local document=$1 line=$2 due
+    part_block "$work/blocks/$line"
+    (cd "$work/top" && parts=$work/parts timeout 60 bash "$work/script" < /dev/null)
+    for due in "$work/parts"/*.due; do
+        commands=$((commands + 1))
+        cmp -s "$due" "${due%.due}.got" && continue
+        wrong "$document, the block at line $line prints another thing (< due, > printed):"
+        diff "$due" "${due%.due}.got" | head -n 20
+    done
+}
+
+run_commands() {
+    local document line
+    mkdir "$work/top"
+    cp -r examples docs "$work/top"
+    ln -s "$cellctl" "$work/top/cellctl"
+    for document in $documents; do
+        for line in $(blocks console "$document"); do
+            run_block "$document" "$line"
+        done
+        grep -n '^    \./cellctl\|^    \$ ' "$document" > "$work/bare" &&
+            wrong "$document has a command outside of a block: $(head -n 1 "$work/bare")"
+    done
+    [ "$commands" -gt 0 ] || wrong "no command was run"
+}
+
+# Commands that aren't run here: the gate itself, which calls this, and what takes minutes or a browser.
+look_at_scripts() {
+    local document line
+    for document in $documents; do
+        for line in $(blocks sh "$document"); do
+            while read -r command rest; do
+                case $command in
+                    .ci/run | checks/*.sh | bench/*.sh | rt | cd) ;;
+                    *) wrong "$document, the block at line $line has a command that isn't run: $command $rest" ;;
+                esac
+                case $command in
+                    .ci/run | checks/*.sh | bench/*.sh) [ -x "$command" ] || wrong "$document: there is no $command" ;;
+                esac
+            done < "$work/blocks/$line"
+        done
+    done
+}
+
+# An excerpt names its file in its first line, and stands in it line by line.
+look_at_excerpts() {
+    local document line file
+    for document in $documents; do
+        for line in $(blocks rust "$document"); do
+            file=$(sed -n '1s,^// *,,p' "$work/blocks/$line")
+            [ -f "$file" ] || { wrong "$document, line $line: no file is named"; continue; }
+            sed 1d "$work/blocks/$line" > "$work/excerpt"
+            awk 'NR == FNR { want[++n] = $0; next }
+                { have[FNR] = $0 }
+                END {
+                    for (i = 1; i + n - 1 <= FNR; i++) {
+                        for (j = 1; j <= n && have[i + j - 1] == want[j]; j++);
+                        if (j > n) exit 0
+                    }
+                    exit 1
+                }' "$work/excerpt" "$file" || wrong "$document, line $line: this doesn't stand in $file"
+        done
+    done
+}
+
+look_at_links() {
+    local document target
+    for document in $documents; do
+        while read -r target; do
+            [ -e "$(dirname "$document")/${target%%#*}" ] || wrong "$document links to $target, which isn't there"
+        done < <(grep -o '](\([^)]*\))' "$document" | sed 's/^](//; s/)$//' | grep -v '^https\?://\|^#')
+    done
+}
+
+look_at_crates() {
+    local crate heading stands
+    for crate in $(sed -n 's/^\([a-z_]*\):.*/\1/p' crates.txt); do
+        stands=$(sed -n "s/^| \[\`$crate\`\](.*| \([^|]*\)|\$/\1/p" docs/CRATES.md | tr -d '`,' | sed 's/ *$//')
+        [ "$crate: $stands" = "$(grep "^$crate:" crates.txt)" ] || [ "$crate:" = "$(grep "^$crate:" crates.txt)$stands" ] ||
+            wrong "docs/CRATES.md tells of $crate that it stands on '$stands'"
+        [ -f "crates/$crate/README.md" ] || { wrong "there is no crates/$crate/README.md"; continue; }
+        for heading in "# $crate" '## What it has' '## Proved, by which clause' '## Only tested' '## Neither'; do
+            grep -qxF "$heading" "crates/$crate/README.md" || wrong "crates/$crate/README.md has no heading '$heading'"
+        done
+    done
+    [ "$(wc -l < README.md)" -le 80 ] || wrong "README.md has more than 80 lines"
+}
+
+# The words of a part of a help text: its commands, or its long options.
+words_of() {
+    "$cellctl" $2 --help | awk -v part="$1" '
+        /^[^ ]/ { on = ($0 == part ":") ; next }
+        on && part == "Commands" && NF { print $1 }
+        on && part == "Options" && /^ +-/ && match($0, /--[a-z]+/) { print substr($0, RSTART, RLENGTH) }'
+}
+
+# What the completion offers where the words begin so.
+offers() {
+    bash -c 'source docs/cellctl.bash; COMP_WORDS=("$@" ""); COMP_WORDS[$#]=${last-}; COMP_CWORD=$#; _cellctl; echo "${COMPREPLY[@]}"' \
+        completion "$@"
+}
+
+# The manual page is made anew, and the completion is asked for each command and option.
+look_at_words() {
+    local command option
+    CELLCTL=$cellctl checks/man.sh > "$work/page"
+    cmp -s "$work/page" docs/cellctl.1 || wrong "docs/cellctl.1 isn't what checks/man.sh prints"
+    for command in $(words_of Commands ''); do
+        [ "$command" = help ] || grep -qx "\.SS cellctl $command" docs/cellctl.1 || wrong "docs/cellctl.1 lacks $command"
+        case " $(offers cellctl) " in *" $command "*) ;; *) wrong "docs/cellctl.bash lacks $command" ;; esac
+        [ "$command" = help ] && continue
+        for option in $(words_of Options "$command"); do
+            grep -qF -- "$(echo "$option" | sed 's/-/\\-/g')" docs/cellctl.1 || wrong "docs/cellctl.1 lacks $option"
+            case " $(last=- offers cellctl "$command") " in
+                *" $option "*) ;;
+                *) wrong "docs/cellctl.bash lacks $option of $command" ;;
+            esac
+        done
+    done
+}
+
+run_commands
+look_at_scripts
+look_at_excerpts
+look_at_links
+look_at_crates
+look_at_words
+echo "documents: $commands commands run; $([ $failed = 0 ] && echo all as they stand || echo some are another)"
+exit $failed
