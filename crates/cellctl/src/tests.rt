@@ -49,6 +49,11 @@ fn reads_the_words_of_the_command_line(rt: HostRuntime) {
         ),
         (&["cellctl", "--help"], ErrorKind::DisplayHelp),
         (&["cellctl", "audit", "--help"], ErrorKind::DisplayHelp),
+        (&["cellctl", "--version"], ErrorKind::DisplayVersion),
+        (
+            &["cellctl", "audit", "--version"],
+            ErrorKind::UnknownArgument,
+        ),
         (
             &["cellctl"],
             ErrorKind::DisplayHelpOnMissingArgumentOrSubcommand,
