@@ -1,6 +1,6 @@
 #!/bin/sh
-# Proves the program's libraries, each once those that it stands on are proved and up to three at a time, and builds
-# cellctl over them. It says how far it is. What is proved already is not proved again.
+# Proves the program's libraries, each once those that it stands on are proved, and builds cellctl over them. Of libraries
+# that stand on the same ones rt proves one after another. It says how far it is. What is proved already is not proved again.
 here=$(cd "$(dirname "$0")" && pwd) || exit 1
 work=$(mktemp -d) || exit 1
 trap 'rm -rf "$work"' EXIT
