@@ -1,8 +1,10 @@
 -- What is told of a journal's text beside the picture
-use Rattle.std.specs.Prelude.{◌≡◌, ◌⊎◌, ℕ, List, Option, Result, IfSome}
+use Rattle.std.specs.Prelude.{◌≡◌, ◌⊎◌, ◌<◌, ◌≤◌, ℕ, List, length, Option, Some, Result, IfSome, ⊤}
 use Rattle.cell_rows.specs.Rows.{rows_of}
+use Rattle.cell_types.specs.declared.words.Entry.{Entry}
 use Rattle.cell_types.specs.declared.words.Totals.{Totals}
 use Rattle.cell_audit.specs.Meaning.{Due, IsFault}
+use Rattle.cell_audit.specs.Reading.{IsBefore, SpellsFirst}
 use Rattle.cell_audit.specs.declared.error.AuditError.{AuditError}
 use Rattle.cell_lines.specs.Lines.{status_of}
 use Rattle.cell_page.specs.declared.error.PageError.{PageError}
@@ -19,3 +21,25 @@ of_page page.WriteFault = error.WriteFault
 abbrev pub TellsStatus : Option (List ℕ) → ℕ → Type 0
 TellsStatus text status =
     (answer : Result (ℕ × Totals) AuditError) × IfSome text (λ known. IsFault answer ⊎ Due (rows_of known) answer) × (status ≡ status_of answer)
+
+-- the good entries of a text: its first records are theirs, and the answer that is due for it names the place after them,
+-- or has their counts
+abbrev pub AreGood : List Entry → List ℕ → Type 0
+AreGood J text =
+    (answer : Result (ℕ × Totals) AuditError) × Due (rows_of text) answer × IsBefore answer J × SpellsFirst J (rows_of text)
+
+-- where there is no such entry, more entries were asked for than are told
+abbrev pub AsksPast : Option ℕ → ShowError → Type 0
+AsksPast entry (error.NoSuchEntry n) = (k : ℕ) × (entry ≡ Some k) × (n < k)
+AsksPast entry error.TooManyEntries = ⊤
+AsksPast entry error.WriteFault = ⊤
+
+-- a text has as many good entries as are told where there is no such entry, and else too many for a page
+abbrev pub TellsEntries : ShowError → List ℕ → Type 0
+TellsEntries (error.NoSuchEntry n) text = (J : List Entry) × AreGood J text × (length J ≡ n)
+TellsEntries error.TooManyEntries text = (J : List Entry) × AreGood J text × (20000 < length J)
+TellsEntries error.WriteFault text = ⊤
+
+-- a text has at least as many good entries as were asked for, if any were
+abbrev pub HasEntry : Option ℕ → List ℕ → Type 0
+HasEntry entry text = (J : List Entry) × AreGood J text × IfSome entry (λ k. k ≤ length J)

@@ -1,7 +1,7 @@
 //! Showing the cell as the first entries of a journal left it.
-ghost use Rattle.std.specs.Prelude.{◌≡◌, ◌≢◌, ◌≤◌, ◌<◌, IfErr, IfOk, length};
+ghost use Rattle.std.specs.Prelude.{◌≡◌, ◌≢◌, ◌≤◌, ◌<◌, ℕ, IfErr, IfOk, IfSome, length};
 ghost use Rattle.cell_lines.specs.Lines.{status_of};
-ghost use Rattle.cell_show.specs.Shown.{TellsStatus};
+ghost use Rattle.cell_show.specs.Shown.{TellsStatus, AsksPast, TellsEntries, HasEntry};
 
 use crate::ShowError;
 use cell_audit::{AuditError, read_journal};
@@ -47,6 +47,9 @@ fn draw<W: Write>(
     answer: Option<AuditError>,
 ) -> Result<(), ShowError>
     requires { entries ≤ length book.now.entries }
+    ensures entry { (n : ℕ) → result ≢ Err (ShowError.NoSuchEntry n) }
+    ensures page { result ≡ Err ShowError.TooManyEntries → form ≡ Form.Page }
+    ensures long { result ≡ Err ShowError.TooManyEntries → 20000 < length book.now.entries }
     ensures nothing { IfErr result (λ e. e ≢ ShowError.WriteFault → writer.new ≡ writer.old) }
 {
     let (facts, last) = facts_after(book, entries);
@@ -81,6 +84,14 @@ pub fn show_journal<R: Read + Drop, W: Write>(
     // The status is that of the audit's answer.
     ensures status { IfOk result (TellsStatus (R.remaining reader)) }
     ensures unread { IfOk result (λ status. 1 < status → writer.new ≡ writer.old) }
+    // Where the cell is shown, the text has at least as many good entries as were asked for.
+    ensures there { IfOk result (λ status. status ≤ 1 → IfSome (R.remaining reader) (HasEntry entry)) }
+    // Where there is no such entry, more were asked for than are told.
+    ensures past { IfErr result (AsksPast entry) }
+    // There are as many good entries as are told, or too many for a page.
+    ensures entries { IfErr result (λ why. IfSome (R.remaining reader) (TellsEntries why)) }
+    // Only a page has too many entries.
+    ensures page { result ≡ Err ShowError.TooManyEntries → form ≡ Form.Page }
     ensures nothing { IfErr result (λ e. e ≢ ShowError.WriteFault → writer.new ≡ writer.old) }
 {
     let Ok(reading) = read_journal(alloc, reader) else {
