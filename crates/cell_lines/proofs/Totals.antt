@@ -1,5 +1,5 @@
 -- The lines of totals, in the pieces in which they are written.
-use Rattle.std.proofs.Common.{◌≡◌, ◌≢◌, Bool, true, false, List, ℕ, [], ◌∷◌, ◌++◌, append_assoc, inl, inr, refl}
+use Rattle.std.proofs.Common.{◌≡◌, ◌≢◌, true, false, List, ℕ, [], ◌∷◌, ◌++◌, append_assoc, inl, inr, refl}
 use Rattle.std.specs.Prelude.{◌==◌, codes, decimal}
 use Rattle.std.proofs.lemmas.Bool.{cases_Bool}
 use Rattle.std.proofs.lemmas.Bool.Decides.{Decides-eqb}
