@@ -1,14 +1,31 @@
 -- What the program prints for settings, and the status with which it ends
-use Rattle.std.specs.Prelude.{◌≡◌, ℕ, List, [], ◌∷◌, ◌++◌, Option, Result, Ok, Err, codes}
+use Rattle.std.specs.Prelude.{◌≡◌, ◌/◌, ◌%◌, ◌==◌, ◌||◌, ℕ, Bool, List, [], ◌∷◌, ◌++◌, Option, Result, Ok, Err, map, slice_index, nat_lt, if◌then◌else◌, codes}
 use Rattle.std.specs.Io.KnownBytes.{Appends}
+use Rattle.std.specs.List.{concat}
 use Rattle.cell_audit.specs.Watched.{WritesPart}
 use Rattle.cell_settings.specs.Settings.{AnswersText, Numbers}
 use Rattle.cell_settings.specs.declared.error.SettingsError.{SettingsError}
 use Rattle.cell_settings.specs.declared.error.SettingsError.TheVariants as error
 
+-- the control characters of ASCII
+abbrev pub is_control : ℕ → Bool
+is_control byte = nat_lt byte 32 || byte == 127
+
+-- the digit of a number below 16
+abbrev pub hex_digit : ℕ → ℕ
+hex_digit n = slice_index (codes "0123456789ABCDEF") n
+
+-- a control character as TOML's escape of it, by four digits, and another byte as it stands
+abbrev pub escaped_byte : ℕ → List ℕ
+escaped_byte byte = if is_control byte then codes "\\u00" ++ hex_digit (byte / 16) ∷ hex_digit (byte % 16) ∷ [] else byte ∷ []
+
+-- a path as it is printed, byte by byte
+abbrev pub escaped : List ℕ → List ℕ
+escaped path = concat (map escaped_byte path)
+
 -- the line of an error that names a path
 abbrev pub path_line : List ℕ → List ℕ → List ℕ
-path_line name path = name ++ (path ++ 10 ∷ [])
+path_line name path = name ++ (escaped path ++ 10 ∷ [])
 
 -- the line of an error
 abbrev pub error_line : SettingsError → List ℕ

@@ -6,6 +6,7 @@ ghost use Rattle.cell_settings.specs.Settings.{numbers_of};
 ghost use Rattle.cell_settings.specs.Checked.{TellsCheck, TellsPart, WritesLine, line_of, path_line};
 
 use crate::error::SettingsError;
+use crate::escaped::write_escaped;
 use crate::key_path::KeyPath;
 use crate::read::read_settings;
 use cell_audit::{WatchedWriter, WriteFault};
@@ -25,7 +26,9 @@ fn write_path<W: Write>(
     ensures part { IsErr result → WritesPart (bytes_held W.contents writer.old) (bytes_held W.contents writer.new) (path_line name.now path.now) }
     ensures fault { IsErr result → has_refused writer.new ≡ true }
 {
-    writer.write_pieces(&[name.as_bytes(), path.as_str().as_bytes(), b"\n"])
+    writer.write_bytes(name.as_bytes())?;
+    write_escaped(writer, path)?;
+    writer.write_bytes(b"\n")
 }
 
 // Writes the line of an answer.
@@ -87,8 +90,8 @@ pub fn check_lines_watched<W: Write>(
 /// Reads settings, writes what is found, and gives the exit status.
 ///
 /// Good settings: `settings ok`, status 0. Settings that are refused: `settings`, the error's name and the path of the
-/// key, if it names one, status 1. Where memory is refused (status 4) nothing is written. `WriteFault` comes only where
-/// the writer failed.
+/// key, if it names one, as `write_escaped` writes it, status 1. Where memory is refused (status 4) nothing is written.
+/// `WriteFault` comes only where the writer failed.
 pub fn check_lines<W: Write>(alloc: Global, text: &[u8], writer: &mut W) -> Result<u8, WriteFault>
     // The line and the status are those of the settings' answer.
     ensures whole { IfOk result (TellsCheck text.now (W.contents writer.old) (W.contents writer.new)) }

@@ -3,6 +3,7 @@
 
 mod check;
 mod error;
+mod escaped;
 mod key_path;
 mod keys;
 mod numbers;
@@ -10,5 +11,6 @@ mod read;
 
 pub use check::{check_lines, check_lines_watched, write_checked};
 pub use error::SettingsError;
+pub use escaped::write_escaped;
 pub use key_path::KeyPath;
 pub use read::read_settings;

@@ -4,6 +4,7 @@ use cell_lines::WriteFault;
 use cell_samples::{FailingWriter, Unwilling};
 use cell_settings::{KeyPath, SettingsError, check_lines, read_settings};
 use std::alloc::Global;
+use std::process::Abort;
 use std::test::Fail;
 
 // What is printed for a text, and the status.
@@ -11,6 +12,15 @@ fn checked(alloc: Global, text: &[u8]) -> Result<(Vec<u8>, Result<u8, WriteFault
     let mut written = Vec::new(alloc);
     let status = check_lines(alloc, text, &mut written);
     Ok((written, status))
+}
+
+// The text is refused with this line.
+fn prints(rt: &impl Abort, alloc: Global, text: &[u8], wanted: &[u8]) -> Result<(), Fail> {
+    let (written, status) = checked(alloc, text)?;
+    let shown = String::from_utf8_lossy(alloc, text)?;
+    assert_eq!(rt; status, Ok(1), "{shown}");
+    assert_eq!(rt; written.as_slice(), wanted, "{shown}");
+    Ok(())
 }
 
 #[test]
@@ -79,10 +89,7 @@ fn prints_what_a_check_finds(rt: HostRuntime) -> Result<(), Fail> {
             b"settings NotNumber watch.arm_one.limit\n",
         ),
     ] {
-        let (written, status) = checked(alloc, text)?;
-        let shown = String::from_utf8_lossy(alloc, text)?;
-        assert_eq!(rt; status, Ok(1), "{shown}");
-        assert_eq!(rt; written.as_slice(), wanted, "{shown}");
+        prints(&rt, alloc, text, wanted)?;
     }
     let (written, status) = checked(alloc, b"plates = 5")?;
     assert_eq!(rt; status, Ok(0));
@@ -133,10 +140,53 @@ fn tells_the_first_fault(rt: HostRuntime) -> Result<(), Fail> {
             b"settings OutOfRange watch.deposit_belt.leave\n",
         ),
     ] {
-        let (written, status) = checked(alloc, text)?;
-        let shown = String::from_utf8_lossy(alloc, text)?;
-        assert_eq!(rt; status, Ok(1), "{shown}");
-        assert_eq!(rt; written.as_slice(), wanted, "{shown}");
+        prints(&rt, alloc, text, wanted)?;
+    }
+    Ok(())
+}
+
+#[test]
+fn prints_a_control_character_as_its_escape(rt: HostRuntime) -> Result<(), Fail> {
+    for (text, wanted) in [
+        (
+            b"\"x\\nsettings ok\" = 1".as_slice(),
+            b"settings UnknownKey x\\u000Asettings ok\n".as_slice(),
+        ),
+        (
+            b"\"\\u0000\\u0007\\b\\t\\r\\u000F\\u0010\\u001F\" = 1",
+            b"settings UnknownKey \\u0000\\u0007\\u0008\\u0009\\u000D\\u000F\\u0010\\u001F\n",
+        ),
+        (b"\"\\u007F\" = 1", b"settings UnknownKey \\u007F\n"),
+        (b"'a\tb' = 1", b"settings UnknownKey a\\u0009b\n"),
+        (
+            b"[watch.\"arm\\none\"]\nleave = 3",
+            b"settings UnknownKey watch.arm\\u000Aone\n",
+        ),
+        (
+            b"[watch.arm_one]\n\"\\n\" = 3",
+            b"settings UnknownKey watch.arm_one.\\u000A\n",
+        ),
+    ] {
+        prints(&rt, rt.alloc(), text, wanted)?;
+    }
+    Ok(())
+}
+
+#[test]
+fn prints_all_other_characters_as_they_stand(rt: HostRuntime) -> Result<(), Fail> {
+    for (text, wanted) in [
+        (
+            b"\"caf\xC3\xA9 \xE2\x82\xAC\" = 1".as_slice(),
+            b"settings UnknownKey caf\xC3\xA9 \xE2\x82\xAC\n".as_slice(),
+        ),
+        (b"'a\\nb\\u000A' = 1", b"settings UnknownKey a\\nb\\u000A\n"),
+        (
+            b"\" ~.\\\"\\u0080\" = 1",
+            b"settings UnknownKey  ~.\"\xC2\x80\n",
+        ),
+        (b"\"\" = 1", b"settings UnknownKey \n"),
+    ] {
+        prints(&rt, rt.alloc(), text, wanted)?;
     }
     Ok(())
 }
@@ -201,4 +251,16 @@ fn tells_that_the_writer_failed(rt: HostRuntime) {
     assert_eq!(rt; check_lines(rt.alloc(), text, &mut writer), Ok(0));
     let answer = check_lines(rt.alloc(), text, &mut Unwilling);
     assert_eq!(rt; answer, Err(WriteFault), "nothing was taken");
+}
+
+#[test]
+fn a_failed_writer_took_a_first_part(rt: HostRuntime) {
+    let text = b"\"a\\nb\" = 1".as_slice();
+    let due = b"settings UnknownKey a\\u000Ab\n".as_slice();
+    for left in 0..due.len() {
+        let mut writer = FailingWriter::new(Vec::new(rt.alloc()), left);
+        let answer = check_lines(rt.alloc(), text, &mut writer);
+        assert_eq!(rt; answer, Err(WriteFault), "after {left} bytes");
+        assert_eq!(rt; writer.inner().as_slice(), &due[..left]);
+    }
 }
