@@ -108,6 +108,28 @@ answer_is_right() {
     [ "$refused" != 0 ] && tells_want
 }
 
+# What was said of a run's end before `out of memory`: a first part of what is due, after all that is due on standard output; or,
+# where the run ended for want of memory, lines on that end.
+is_part_of_ending() {
+    head -n -1 "$folder/errors" > "$folder/ending"
+    if [ "$(head -n 1 "$folder/output")" = memory ]; then
+        ! grep -v -q -e '^[a-z].* is failed since entry [0-9]*: ' -e "^line [0-9]* of the operator's script isn't done: " \
+            -e '^plate [0-9]* is [a-z].*; next is ".*", ' -e '^the fault in motion [0-9]* of .* was never reached: ' \
+            "$folder/ending"
+    else
+        cmp -s "$folder/output" "$folder/due.output" &&
+            head -c "$(wc -c < "$folder/ending")" "$folder/due.errors" | cmp -s - "$folder/ending"
+    fi
+}
+
+# The same of a run whose end is explained: where memory is refused, a part of that may stand before `out of memory`.
+ending_is_right() {
+    answer_is_right && return 0
+    [ "$refused" != 0 ] && [ "$status" = 4 ] && [ "$(tail -n 1 "$folder/errors")" = "out of memory" ] || return 1
+    wanted=1
+    is_part_of_ending
+}
+
 # The same of a run on threads, whose journal isn't the same each time: where it is whole it has the totals that are due,
 # and no entry of it is refused where it is cut.
 journal_is_right() {
@@ -131,18 +153,39 @@ refuse_words() {
     refuse_both "$judge" "cellctl $name" 1 "$cellctl" "$@"
 }
 
-# The files of a short run in rounds, whose only plate is taken from the feed belt by hand.
+# The files of a short run in rounds, whose only plate is taken from the feed belt by hand, and of texts that are refused.
 write_files() {
     echo 'plates = 1' > "$folder/short.toml"
+    printf '%s\n' 'plates = 1' '[watch.press_one]' 'limit = 2000' > "$folder/refused.toml"
+    printf '%s\n' profile,2,, lamp,feed,green, admited,1,, > "$folder/unreadable.journal"
+    printf '%s\n' press_two,1,no_motion, press_two,99,no_motion, > "$folder/unreached.faults"
     echo '"press_two",1,no_motion,' > "$folder/short.faults"
     printf '%s\n' admitted,1,stop,feed failed,feed,clear,feed_in '"failed",feed,repair,feed' > "$folder/short.operator"
     : > "$folder/input"
+}
+
+# The commands that show and explain texts.
+refuse_shown() {
+    cp "$examples/whole.journal" "$folder/input"
+    refuse_words answer_is_right "show" show
+    refuse_words answer_is_right "show --svg" show --svg
+    refuse_words answer_is_right "show --html" show --html
+    refuse_words answer_is_right "explain (a legal journal)" explain
+    cp "$examples/refused.journal" "$folder/input"
+    refuse_words answer_is_right "explain (a refused journal)" explain
+    cp "$folder/unreadable.journal" "$folder/input"
+    refuse_words answer_is_right "explain (an unreadable journal)" explain
+    refuse_words answer_is_right "explain --settings (out of range)" explain --settings "$folder/refused.toml"
+    refuse_words answer_is_right "explain --settings (no TOML)" explain --settings "$examples/press_fails.faults"
+    refuse_words answer_is_right "explain --faults" explain --faults "$examples/press_fails.operator"
+    refuse_words answer_is_right "explain --operator" explain --operator "$examples/press_fails.operator"
 }
 
 refuse_program() {
     local short=("$folder/short.toml" "$folder/short.faults" "$folder/short.operator")
     local none=$examples/no_faults.faults
     local run=("$examples/press_fails.toml" "$examples/press_fails.faults" "$examples/press_fails.operator")
+    local stalled=("${run[0]}" "$examples/arm_fails.faults" "${run[2]}")
     write_files
     refuse_words answer_is_right "--help" --help
     refuse_words answer_is_right "brew (no such command)" brew
@@ -157,6 +200,9 @@ refuse_program() {
     refuse_words answer_is_right "audit (quoted fields)" audit
     sed -i '1s/^profile,2/profile,1/' "$folder/input"
     refuse_words answer_is_right "migrate" migrate
+    refuse_shown
+    refuse_words ending_is_right "sim --explain" sim --explain "${stalled[@]}"
+    refuse_words ending_is_right "run --explain" run --explain "${run[0]}" "$folder/unreached.faults" "${run[2]}"
     refuse_words answer_is_right "run" run "${run[@]}"
     printf '%s\n' 'admitted 1' 'forged 1' 'quarantined 0' 'delivered 1' 'reinstated 0' > "$folder/due.totals"
     refuse_words journal_is_right "run --journal" run --journal "$folder/short.toml" "$none" "$none"

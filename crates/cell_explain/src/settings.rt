@@ -3,9 +3,9 @@ ghost use Rattle.std.specs.Prelude.{◌≡◌, IfOk};
 ghost use Rattle.cell_explain.specs.Explained.{EndsAsCheck};
 
 use crate::written::written;
-use cell_audit::WriteFault;
+use cell_audit::{WatchedWriter, WriteFault};
 use cell_lines::status;
-use cell_settings::{SettingsError, check_lines, read_settings};
+use cell_settings::{KeyPath, SettingsError, check_lines, read_settings, write_escaped};
 use cell_types::texts::read_axis;
 use std::alloc::Global;
 use std::io::Write;
@@ -96,18 +96,19 @@ fn key_at(path: &str) -> &'static str {
 // Writes what may stand at a path, with the line that writes its key, if that is found.
 fn write_wanted<W: Write>(
     text: &[u8],
-    path: &str,
+    path: &KeyPath,
     wanted: &str,
     writer: &mut W,
 ) -> Result<(), WriteFault> {
     let line = match str::from_utf8(text) {
-        Ok(text) => line_of(text, path),
+        Ok(text) => line_of(text, path.as_str()),
         Err(_) => None,
     };
-    match line {
-        Some(line) => written(writeln!(writer, "line {line}: {path}: {wanted}")),
-        None => written(writeln!(writer, "{path}: {wanted}")),
+    if let Some(line) = line {
+        written(write!(writer, "line {line}: "))?;
     }
+    write_escaped(&mut WatchedWriter::new(writer), path)?;
+    written(writeln!(writer, ": {wanted}"))
 }
 
 // The line and the column, both from 1, of the place behind a first part of a text. A column counts characters.
@@ -144,14 +145,14 @@ fn write_wrong<W: Write>(alloc: Global, text: &[u8], writer: &mut W) -> Result<b
     match read_settings(alloc, text) {
         Err(SettingsError::NotToml) => return write_syntax(alloc, text, writer),
         Err(SettingsError::UnknownKey(path)) => {
-            write_wanted(text, path.as_str(), key_at(path.as_str()), writer)?;
+            write_wanted(text, &path, key_at(path.as_str()), writer)?;
         }
         Err(
             SettingsError::Missing(path)
             | SettingsError::NotNumber(path)
             | SettingsError::OutOfRange(path),
         ) => {
-            write_wanted(text, path.as_str(), number_at(path.as_str()), writer)?;
+            write_wanted(text, &path, number_at(path.as_str()), writer)?;
         }
         Err(SettingsError::OutOfMemory) | Ok(_) => return Ok(false),
     }

@@ -56,6 +56,24 @@ fn settings_are_explained(rt: HostRuntime) -> Result<(), Fail> {
 }
 
 #[test]
+fn a_path_is_printed_in_one_line(rt: HostRuntime) -> Result<(), Fail> {
+    for (key, shown) in [
+        ("\"x\\ny\"", "x\\u000Ay"),
+        ("\"\\t\\u0007\\u007F\"", "\\u0009\\u0007\\u007F"),
+        ("\"caf\u{e9}\"", "caf\u{e9}"),
+        ("'a\\nb'", "a\\nb"),
+    ] {
+        let alloc = rt.alloc();
+        let text = format!(in alloc; "plates = 5\n{key} = 1\n")?;
+        let wanted = format!(in alloc;
+            "settings UnknownKey {shown}\n{shown}: no such key, but plates, journal_limit, turns and watch\n"
+        )?;
+        settings_are(&rt, alloc, text.as_str(), 1, wanted.as_str())?;
+    }
+    Ok(())
+}
+
+#[test]
 fn a_text_that_is_no_toml_is_told_by_its_place(rt: HostRuntime) -> Result<(), Fail> {
     let mut written = Vec::new(rt.alloc());
     let answer = explain_settings(rt.alloc(), b"plates = 5\nturns = = 3\n", &mut written);

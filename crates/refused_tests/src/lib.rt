@@ -7,7 +7,11 @@
 #[cfg(test)]
 mod books;
 #[cfg(test)]
+mod explained;
+#[cfg(test)]
 mod runs;
+#[cfg(test)]
+mod shown;
 #[cfg(test)]
 mod texts;
 #[cfg(test)]

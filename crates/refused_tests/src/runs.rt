@@ -1,8 +1,13 @@
 //! Whole runs by their texts, in rounds on one thread and on threads.
 use cell_audit::{AuditError, audit};
+use cell_endings::write_ending;
+use cell_journal::Journal;
 use cell_lines::WriteFault;
+use cell_runs::run_texts_kept;
 use cell_samples::{CLEARED_PRESS, STUCK_PRESS, call_begins, call_ends};
 use cell_types::Totals;
+use std::alloc::Global;
+use std::io::ErrorKind;
 use std::process::Abort;
 use std::sync::Wait;
 use std::test::Fail;
@@ -132,6 +137,118 @@ fn run_texts_on_threads_with_journal(rt: HostRuntime) -> Result<(), Fail> {
             }
             Err(why) => panic!(rt; "the journal is legal: {why:?}"),
         }
+    }
+    Ok(())
+}
+
+// A run in rounds with its journal, which is kept. Where it is marked, memory may be refused to it.
+fn keep<R: AllocGlobal + Abort + Threads + Wait + Sync>(
+    rt: &R,
+    texts: Texts,
+    marked: bool,
+) -> Result<(Vec<u8>, u8, Option<Journal>), Fail> {
+    let alloc = rt.alloc();
+    let [settings, faults, operator] = texts;
+    let [settings, faults, operator] = [
+        settings.as_bytes(),
+        faults.as_bytes(),
+        operator.as_bytes(),
+    ];
+    let mut written = Vec::with_capacity(alloc, ROOM)?;
+    if marked {
+        call_begins(alloc);
+    }
+    let answer = run_texts_kept(rt, settings, faults, operator, false, false, &mut written);
+    if marked {
+        call_ends(alloc, matches!(&answer, Ok((4, _))));
+    }
+    match answer {
+        Ok((status, journal)) => Ok((written, status, journal)),
+        Err(WriteFault) => panic!(rt; "there is room for all that is written"),
+    }
+}
+
+// Whether a journal's entries are the first of another's.
+fn begins(journal: &Journal, whole: &Journal) -> bool {
+    let mut same = journal.len() <= whole.len();
+    for place in 0..journal.len() {
+        same = same && journal.get(place) == whole.get(place);
+    }
+    same
+}
+
+// Where memory is wanting, a journal that is kept is a first part of the one that is due.
+#[test]
+fn run_texts_kept_in_rounds(rt: HostRuntime) -> Result<(), Fail> {
+    let (due, status, whole) = keep(&rt, SHORT, false)?;
+    let whole = whole.expect(&rt, "a journal");
+    assert_eq!(rt; status, 0);
+    let (written, status, journal) = keep(&rt, SHORT, true)?;
+    let lines = written.as_slice();
+    if let Some(journal) = &journal {
+        assert!(rt; begins(journal, &whole));
+    }
+    if status == 4 {
+        assert!(rt; lines.is_empty() || tells_memory(lines));
+    } else {
+        assert_eq!(rt; status, 0);
+        assert_eq!(rt; lines, due.as_slice());
+        assert_eq!(rt; journal.map(|kept| kept.len()), Some(whole.len()));
+    }
+    Ok(())
+}
+
+// The plate stays on the feed belt, which fails, since the operator waits for more plates, and no plate sets the second press
+// in motion.
+const STALLED: Texts = [
+    "plates = 1",
+    "\"press_two\",1,no_motion,\n",
+    "admitted,1,stop,feed\n\"admitted\",2,repair,feed\n",
+];
+
+// What is said of the end of a run, and whether memory was wanting.
+fn ending(
+    rt: &impl Abort,
+    alloc: Global,
+    journal: &Journal,
+    marked: bool,
+) -> Result<(Vec<u8>, bool), Fail> {
+    let [_, faults, operator] = STALLED;
+    let mut written = Vec::with_capacity(alloc, ROOM)?;
+    if marked {
+        call_begins(alloc);
+    }
+    let answer = write_ending(
+        alloc,
+        journal,
+        faults.as_bytes(),
+        operator.as_bytes(),
+        &mut written,
+    );
+    if marked {
+        call_ends(alloc, answer.is_err());
+    }
+    if let Err(why) = &answer {
+        assert!(rt; why.kind() == ErrorKind::OutOfMemory);
+    }
+    Ok((written, answer.is_err()))
+}
+
+#[test]
+fn write_ending_of_a_stalled_run(rt: HostRuntime) -> Result<(), Fail> {
+    let alloc = rt.alloc();
+    let (_, status, journal) = keep(&rt, STALLED, false)?;
+    let journal = journal.expect(&rt, "a journal");
+    assert_eq!(rt; status, 1);
+    let (due, wanted) = ending(&rt, alloc, &journal, false)?;
+    assert!(rt; !wanted);
+    let ends = due.iter().filter(|byte| **byte == b'\n').count();
+    assert_eq!(rt; ends, 4);
+    let (written, wanted) = ending(&rt, alloc, &journal, true)?;
+    if wanted {
+        assert!(rt; due.as_slice().starts_with(written.as_slice()));
+    } else {
+        assert_eq!(rt; written.as_slice(), due.as_slice());
     }
     Ok(())
 }

@@ -1,0 +1,85 @@
+//! Journals that are read for more than their audit, and shown.
+use crate::texts::{PROFILE_1, QUOTED, clearing};
+use cell_audit::AuditError;
+use cell_samples::{begun, call_begins, call_ends};
+use cell_show::{Form, ShowError, show_journal};
+use std::alloc::Global;
+use std::process::Abort;
+use std::test::Fail;
+
+// Room for all that is drawn, so that the writer asks for no memory.
+const ROOM: usize = 1_000_000;
+
+#[test]
+fn read_journal(rt: HostRuntime) -> Result<(), Fail> {
+    let alloc = rt.alloc();
+    let text = clearing(alloc, PROFILE_1, QUOTED)?;
+    let first = begun(alloc, 100, 10, 7).expect(&rt, "a book");
+    call_begins(alloc);
+    let answer = cell_audit::read_journal(alloc, text.as_slice());
+    let wanted = match &answer {
+        Ok(reading) => matches!(reading.answer, Err(AuditError::OutOfMemory)),
+        Err(_) => true,
+    };
+    call_ends(alloc, wanted);
+    if let Ok(reading) = answer {
+        let journal = reading.book.journal();
+        assert!(rt; journal.len() == 10 || wanted && journal.len() < 10);
+        for place in 0..journal.len().min(7) {
+            assert_eq!(rt; journal.get(place), first.journal().get(place));
+        }
+        match reading.answer {
+            Ok((number, totals)) => {
+                assert_eq!(rt;
+                    [number as u32, totals.entries, totals.quarantined],
+                    [1, 10, 1]
+                );
+            }
+            Err(why) => assert_eq!(rt; why, AuditError::OutOfMemory),
+        }
+    }
+    Ok(())
+}
+
+// What is written where a journal is shown, and the answer. Where the call is marked, memory may be refused to it.
+fn show(alloc: Global, form: Form, marked: bool) -> Result<(Vec<u8>, Result<u8, ShowError>), Fail> {
+    let text = clearing(alloc, PROFILE_1, QUOTED)?;
+    let mut written = Vec::with_capacity(alloc, ROOM)?;
+    if marked {
+        call_begins(alloc);
+    }
+    let answer = show_journal(alloc, text.as_slice(), form, None, &mut written);
+    if marked {
+        call_ends(alloc, answer == Ok(4));
+    }
+    Ok((written, answer))
+}
+
+// A journal is shown, or nothing is written, where memory was refused.
+fn check_show<R: AllocGlobal + Abort>(rt: &R, form: Form) -> Result<(), Fail> {
+    let (due, status) = show(rt.alloc(), form, false)?;
+    assert_eq!(rt; status, Ok(0));
+    let (written, answer) = show(rt.alloc(), form, true)?;
+    if answer == Ok(4) {
+        assert!(rt; written.is_empty());
+    } else {
+        assert_eq!(rt; answer, Ok(0));
+        assert_eq!(rt; written.as_slice(), due.as_slice());
+    }
+    Ok(())
+}
+
+#[test]
+fn show_journal_as_text(rt: HostRuntime) -> Result<(), Fail> {
+    check_show(&rt, Form::Text)
+}
+
+#[test]
+fn show_journal_as_picture(rt: HostRuntime) -> Result<(), Fail> {
+    check_show(&rt, Form::Picture)
+}
+
+#[test]
+fn show_journal_as_page(rt: HostRuntime) -> Result<(), Fail> {
+    check_show(&rt, Form::Page)
+}
