@@ -66,7 +66,7 @@ prove() {
 
 crates=$(needed)
 total=$(echo "$crates" | wc -l)
-echo "cellctl: $total libraries are proved first, once, and then the program, which took 25 minutes on four cores that did other work too."
+echo "cellctl: $total libraries are proved first, once, and then the program: 25 minutes were seen on four cores, and more than an hour."
 echo "cellctl: to run it within a minute with nothing proved: ./cellctl --unproved .."
 for crate in $crates; do
     prove "$crate" &
