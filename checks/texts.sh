@@ -102,6 +102,20 @@ odd_names() {
     measure 'a word with a byte FF' '' 2 8 20 check "$odd"
 }
 
+# Each command with a stack of 512 KB.
+small_stack() {
+    printf 'profile,1,,\n' > journal
+    for words in 'audit' 'migrate' 'show' 'show --svg' 'show --html' 'explain' 'explain --settings good' 'check good' \
+        'sim --explain good none none' 'run good none none'; do
+        # The words of a command are parted at blanks.
+        # shellcheck disable=SC2086
+        (ulimit -S -s 512 && exec "$cellctl" $words < journal > said 2> told)
+        got=$?
+        printf '%-60s status %s\n' "cellctl $words, a stack of 512 KB" "$got"
+        [ "$got" = 0 ] || { echo '  wanted: status 0'; failed=1; }
+    done
+}
+
 # Looks for status 3 and the words `read fault` where standard output can't be written.
 # unwritten NAME STATUS
 unwritten() {
@@ -136,6 +150,7 @@ audit_texts
 settings_texts
 script_texts
 odd_names
+small_stack
 outputs_that_fail
 echo "hostile texts and outputs: $([ $failed = 0 ] && echo all as due || echo some are another)"
 exit $failed
