@@ -157,9 +157,10 @@ pub fn audit_lines_watched<R: Read + Drop, W: Write>(
 /// Audits the journal's text that the reader gives, writes what is found, and gives the exit status.
 ///
 /// A legal journal: the lines `legal`, `admitted`, `forged`, `quarantined` and `delivered`, each with its number, and in
-/// profile 2 the line `reinstated` with its number, status 0. A refused entry: `refused`, its place counted from 1, the refusal's name and the word of what it names, status 1.
-/// A record that can't be read: `unreadable` and its number, 0 for the profile's, status 1. Where the reader fails
-/// (status 3) or memory is refused (status 4) nothing is written. `WriteFault` comes only where the writer failed.
+/// profile 2 the line `reinstated` with its number, status 0. A refused entry: `refused`, its place counted from 1, the
+/// refusal's name and the word of what it names, status 1. A record that can't be read: `unreadable` and its number, 0 for
+/// the profile's, status 1. Where the reader fails (status 3) or memory is refused (status 4) nothing is written.
+/// `WriteFault` comes only where the writer failed.
 pub fn audit_lines<R: Read + Drop, W: Write>(
     alloc: Global,
     reader: R,

@@ -5,7 +5,8 @@
 //! skipped. Fields are bytes, which needn't be UTF-8.
 //!
 //! A line without quotes that turns out to be no record of four fields of at most 20 bytes each is refused there (`Unfit`),
-//! so that no such line is held in memory, however long it is: what is read here has no longer records.
+//! so that no such line is held in memory, however long it is: what is read here has no longer records. csv holds the
+//! records that it reads, and of a text that begins with a byte order mark it reads all.
 #![tactic(auto)]
 
 mod ahead;

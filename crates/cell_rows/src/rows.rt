@@ -46,7 +46,8 @@ enum Source<R> {
 /// The records of a reader's text, with the one that was read last.
 ///
 /// Lines of four plain fields are taken straight from the bytes, which is what csv reads there. From the first line on that
-/// has a quote, a carriage return or fewer fields, csv reads all that is left.
+/// has a quote, a carriage return or fewer fields, csv reads all that is left, and all of a text that begins with a byte
+/// order mark.
 #[derive(Drop)]
 pub struct RowReader<R> {
     alloc: Global,

@@ -368,7 +368,7 @@ fn a_seventh_thousand_hostile_schedules_are_lawful(rt: HostRuntime) {
 }
 
 #[test]
-fn a_eighth_thousand_hostile_schedules_are_lawful(rt: HostRuntime) {
+fn an_eighth_thousand_hostile_schedules_are_lawful(rt: HostRuntime) {
     check_thousand(&rt, 7_000);
 }
 
