@@ -1,5 +1,5 @@
 -- What is told of a journal's text beside the picture
-use Rattle.std.specs.Prelude.{◌≡◌, ◌⊎◌, ◌<◌, ◌≤◌, ℕ, List, length, Option, Some, Result, IfSome, ⊤}
+use Rattle.std.specs.Prelude.{◌≡◌, ◌⊎◌, ◌<◌, ◌≤◌, ℕ, List, ◌++◌, length, Option, Some, Result, IfSome, ⊤, codes, decimal}
 use Rattle.cell_rows.specs.Rows.{rows_of}
 use Rattle.cell_types.specs.declared.words.Entry.{Entry}
 use Rattle.cell_types.specs.declared.words.Totals.{Totals}
@@ -43,3 +43,9 @@ TellsEntries error.WriteFault text = ⊤
 -- a text has at least as many good entries as were asked for, if any were
 abbrev pub HasEntry : Option ℕ → List ℕ → Type 0
 HasEntry entry text = (J : List Entry) × AreGood J text × IfSome entry (λ k. k ≤ length J)
+
+-- what is printed of an error
+abbrev pub error_text : ShowError → List ℕ
+error_text (error.NoSuchEntry n) = codes "NoSuchEntry: the journal has " ++ (decimal n ++ codes " entries")
+error_text error.TooManyEntries = codes "TooManyEntries: a page shows at most " ++ (decimal 20000 ++ codes " entries")
+error_text error.WriteFault = codes "WriteFault"

@@ -16,6 +16,11 @@ pub enum ShowError {
 }
 
 impl fmt::Display for ShowError {
+    ghost use Rattle.std.specs.Prelude.{Some};
+    ghost use Rattle.cell_show.specs.Shown.{error_text};
+
+    ghost output = { λ why. Some (error_text why) };
+
     fn fmt<W: fmt::Write>(&self, f: &mut fmt::Formatter<W>) -> fmt::Result {
         match self {
             ShowError::NoSuchEntry(entries) => {
