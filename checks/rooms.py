@@ -1,0 +1,121 @@
+"""Rooms: folders in which rt works on one crate over libraries that are built already, so that crates are proved side by side.
+
+rt locks every crate below the one that it works on, so in one tree it proves one crate after another. A room has its own copy of
+them: sources, and libraries as hard links where the file system has them. rt makes each library anew in a new folder and writes
+none in place, so the tree's own stay as they are.
+"""
+
+import os
+import shutil
+import subprocess
+import threading
+import time
+
+TREE = os.path.dirname(os.path.dirname(os.path.realpath(__file__)))
+PARTS = ("src", "specs", "proofs")
+# No check of a crate of this tree was seen to take more memory.
+GREATEST_CHECK = 4_500_000_000
+
+
+def read_crates(tree=TREE):
+    """The crates of crates.txt, each with those of them that it names."""
+    named = {}
+    with open(f"{tree}/crates.txt", encoding="utf-8") as lines:
+        for line in lines:
+            name, colon, words = line.partition("#")[0].partition(":")
+            if colon:
+                named[name.split()[0]] = words.split()
+    return {name: [it for it in words if it in named] for name, words in named.items()}
+
+
+def all_below(crates, name):
+    """The crates that one stands on, each after those that it stands on."""
+    found = []
+    for it in crates[name]:
+        found += [below for below in [*all_below(crates, it), it] if below not in found]
+    return found
+
+
+def lines_of(name, tree=TREE):
+    """The lines of a crate's sources."""
+    files = (f"{at}/{it}" for part in PARTS for at, _, names in os.walk(f"{tree}/crates/{name}/{part}") for it in names)
+    return sum(open(it, "rb").read().count(b"\n") for it in files)
+
+
+def longest_chains(crates, weight):
+    """For each crate the weight of the longest chain of crates that begins with it and goes up."""
+    above = {name: [it for it in crates if name in crates[it]] for name in crates}
+    found = {}
+
+    def chain(name):
+        if name not in found:
+            found[name] = weight[name] + max(map(chain, above[name]), default=0)
+        return found[name]
+
+    return {name: chain(name) for name in crates}
+
+
+def lanes():
+    """How many checks may run side by side: one a processor, as many as the free memory holds."""
+    with open("/proc/meminfo", encoding="utf-8") as lines:
+        free = next(1024 * int(it.split()[1]) for it in lines if it.startswith("MemAvailable"))
+    return max(1, min(len(os.sched_getaffinity(0)), free // GREATEST_CHECK))
+
+
+def link(origin, copy):
+    """Copies a folder as hard links, or as files where there are none."""
+    os.makedirs(os.path.dirname(copy), exist_ok=True)
+    if subprocess.run(["cp", "-al", origin, copy], stderr=subprocess.DEVNULL).returncode:
+        shutil.rmtree(copy, ignore_errors=True)
+        subprocess.run(["cp", "-a", origin, copy], check=True)
+
+
+def open_room(room, crates, name, tree=TREE):
+    """Makes a room for a crate, with the libraries below it, and returns the crate's folder in it. What rt kept of the crate stays behind."""
+    below = all_below(crates, name)
+    os.makedirs(f"{room}/crates")
+    with open(f"{tree}/crates.txt", encoding="utf-8") as origin, open(f"{room}/crates.txt", "w", encoding="utf-8") as copy:
+        copy.writelines(line for line in origin if line.split(":")[0].split()[:1] and line.split(":")[0].split()[0] in {*below, name})
+    for it in [*below, name]:
+        for part in PARTS:
+            if os.path.isdir(f"{tree}/crates/{it}/{part}"):
+                shutil.copytree(f"{tree}/crates/{it}/{part}", f"{room}/crates/{it}/{part}")
+    for it in below:
+        link(f"{tree}/crates/{it}/out/rlib", f"{room}/crates/{it}/out/rlib")
+    return f"{room}/crates/{name}"
+
+
+def in_lanes(tasks, count):
+    """Runs tasks side by side, and returns what each gave. A task is a name, the names of those that it waits for, its rank and a call that is given how many
+    processors it may use; of those that may begin the one with the highest rank begins. None begins once one has given None."""
+    given, running, turn, left = {}, {}, threading.Condition(), dict(tasks)
+
+    def work(name, call, jobs):
+        result = call(jobs)
+        with turn:
+            given[name] = result
+            del running[name]
+            turn.notify_all()
+
+    with turn:
+        while (left or running) and None not in given.values():
+            ready = sorted((it for it in left if all(below in given for below in left[it][0])), key=lambda it: -left[it][1])
+            for at, name in enumerate(ready):
+                idle = count - sum(running.values())
+                if idle > 0:
+                    running[name] = max(1, min(4, idle // (len(ready) - at)))
+                    threading.Thread(target=work, args=(name, left.pop(name)[2], running[name]), daemon=True).start()
+            turn.wait()
+        while running:
+            turn.wait()
+    return given
+
+
+class Clock:
+    """Minutes since it was made."""
+
+    def __init__(self):
+        self.start = time.monotonic()
+
+    def __str__(self):
+        return f"{(time.monotonic() - self.start) / 60:.1f} min"
