@@ -4,7 +4,6 @@ says how far it is. What is proved already is not proved again. With names of cr
 
 import os
 import shutil
-import subprocess
 import sys
 import tempfile
 
@@ -30,21 +29,21 @@ def prove(crates, name, jobs, place):
     is_program = os.path.isfile(f"{folder}/src/main.rt")
     words = ["rt", "run", "--jobs", str(jobs), "--", "--help"] if is_program else ["rt", "lib", "--jobs", str(jobs)]
     try:
-        ran = subprocess.run(words, cwd=folder, stdin=subprocess.DEVNULL, stdout=subprocess.PIPE, stderr=subprocess.STDOUT, text=True, errors="replace")
+        status, said = rooms.run(words, folder)
     finally:
         for part in ("incremental", "rlib"):
             keep(f"{folder}/out/{part}", f"{own}/{part}")
-    if is_program and not ran.returncode:
+    if is_program and not status:
         shutil.copy(f"{folder}/out/{name}", f"{own}/{name}.new")
         os.replace(f"{own}/{name}.new", f"{own}/{name}")
     shutil.rmtree(room, ignore_errors=True)
-    return not ran.returncode, ran.stdout
+    return not status, said
 
 
-def main(names):
+def prove_all(names):
+    """Proves these crates and those below them, and returns whether all were proved."""
     crates = rooms.read_crates()
-    tops = names or ["cellctl"]
-    wanted = {below for it in tops for below in [*rooms.all_below(crates, it), it]}
+    wanted = {below for it in names for below in [*rooms.all_below(crates, it), it]}
     needed = {it: below for it, below in crates.items() if it in wanted}
     clock, done = rooms.Clock(), []
     chains = rooms.longest_chains(needed, {it: rooms.lines_of(it) for it in needed})
@@ -62,8 +61,9 @@ def main(names):
 
         tasks = {it: (below, chains[it], lambda jobs, name=it: task(name, jobs)) for it, below in needed.items()}
         given = rooms.in_lanes(tasks, rooms.lanes())
-    return 0 if len(given) == len(needed) and all(given.values()) else 1
+    return len(given) == len(needed) and all(given.values())
 
 
 if __name__ == "__main__":
-    sys.exit(main(sys.argv[1:]))
+    with rooms.alone():
+        sys.exit(0 if prove_all(sys.argv[1:] or ["cellctl"]) else 1)

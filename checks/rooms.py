@@ -5,8 +5,11 @@ them: sources, and libraries as hard links where the file system has them. rt ma
 none in place, so the tree's own stay as they are.
 """
 
+import contextlib
+import fcntl
 import os
 import shutil
+import signal
 import subprocess
 import threading
 import time
@@ -91,24 +94,59 @@ def in_lanes(tasks, count):
     given, running, turn, left = {}, {}, threading.Condition(), dict(tasks)
 
     def work(name, call, jobs):
-        result = call(jobs)
-        with turn:
-            given[name] = result
-            del running[name]
-            turn.notify_all()
+        result = None
+        try:
+            result = call(jobs)
+        finally:
+            with turn:
+                given[name] = result
+                del running[name]
+                turn.notify_all()
 
     with turn:
-        while (left or running) and None not in given.values():
-            ready = sorted((it for it in left if all(below in given for below in left[it][0])), key=lambda it: -left[it][1])
-            for at, name in enumerate(ready):
-                idle = count - sum(running.values())
-                if idle > 0:
-                    running[name] = max(1, min(4, idle // (len(ready) - at)))
-                    threading.Thread(target=work, args=(name, left.pop(name)[2], running[name]), daemon=True).start()
-            turn.wait()
-        while running:
-            turn.wait()
+        try:
+            while (left or running) and None not in given.values():
+                ready = sorted((it for it in left if all(below in given for below in left[it][0])), key=lambda it: -left[it][1])
+                for at, name in enumerate(ready):
+                    idle = count - sum(running.values())
+                    if idle > 0:
+                        running[name] = max(1, min(4, idle // (len(ready) - at)))
+                        threading.Thread(target=work, args=(name, left.pop(name)[2], running[name])).start()
+                turn.wait()
+        finally:
+            while running:
+                turn.wait()
     return given
+
+
+STARTED = set()
+
+
+def run(words, folder):
+    """Runs a command in a folder, and returns its status and what it said. It is ended where this program is."""
+    with subprocess.Popen(words, cwd=folder, stdin=subprocess.DEVNULL, stdout=subprocess.PIPE, stderr=subprocess.STDOUT, text=True, errors="replace") as started:
+        STARTED.add(started)
+        said = started.communicate()[0]
+        STARTED.discard(started)
+    return started.returncode, said
+
+
+@contextlib.contextmanager
+def alone(tree=TREE):
+    """Waits until no other call of this works in the tree. Where this one is ended, it first ends what it started, so that what rt kept gets back to its place."""
+
+    def end(*_):
+        for it in (signal.SIGINT, signal.SIGTERM):
+            signal.signal(it, signal.SIG_IGN)
+        for started in [*STARTED]:
+            started.terminate()
+        raise KeyboardInterrupt
+
+    for it in (signal.SIGINT, signal.SIGTERM):
+        signal.signal(it, end)
+    with open(f"{tree}/crates.txt", encoding="utf-8") as held:
+        fcntl.flock(held, fcntl.LOCK_EX)
+        yield
 
 
 class Clock:
