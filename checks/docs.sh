@@ -2,7 +2,7 @@
 # Looks whether the documents are true where a script can tell: each command in a block of the kind `console` is run, and
 # prints what stands there; each excerpt of code stands in its file; each link leads somewhere; each crate is in the map and
 # has its README; the manual page is what the help texts make, and the completion has each command and option.
-# Usage: checks/docs.sh     Build the program first: any call of ./cellctl does. CELLCTL names another one.
+# Usage: checks/docs.sh     Build the program first: ./cellctl --prove does. CELLCTL names another one.
 set -u
 here=$(cd "$(dirname "$0")/.." && pwd) || exit 1
 cellctl=${CELLCTL:-$here/crates/cellctl/out/cellctl}
@@ -82,6 +82,7 @@ look_at_scripts() {
     for document in $documents; do
         for line in $(blocks sh "$document"); do
             while read -r command rest; do
+                [ "$command $rest" != "./cellctl --prove" ] || continue
                 case $command in
                     .ci/run | checks/*.sh | bench/*.sh | rt | cd) ;;
                     *) wrong "$document, the block at line $line has a command that isn't run: $command $rest" ;;

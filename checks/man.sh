@@ -1,6 +1,6 @@
 #!/bin/bash
 # Prints the manual page of cellctl, made of the program's own help texts. docs/cellctl.1 is what it prints.
-# Usage: checks/man.sh > docs/cellctl.1     Build the program first: any call of ./cellctl does. CELLCTL names another one.
+# Usage: checks/man.sh > docs/cellctl.1     Build the program first: ./cellctl --prove does. CELLCTL names another one.
 set -euo pipefail
 here=$(cd "$(dirname "$0")/.." && pwd)
 cellctl=${CELLCTL:-$here/crates/cellctl/out/cellctl}

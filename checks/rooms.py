@@ -110,7 +110,8 @@ def in_lanes(tasks, count):
                 for at, name in enumerate(ready):
                     idle = count - sum(running.values())
                     if idle > 0:
-                        running[name] = max(1, min(4, idle // (len(ready) - at)))
+                        # What most others wait for gets two processors at least, where there are two.
+                        running[name] = min(4, idle, max(1 if at else 2, idle // (len(ready) - at)))
                         threading.Thread(target=work, args=(name, left.pop(name)[2], running[name])).start()
                 turn.wait()
         finally:

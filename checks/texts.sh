@@ -1,7 +1,7 @@
 #!/bin/bash
 # Gives the program hostile texts and outputs that fail, and looks for the answer that is due, within so many megabytes
 # and seconds, and never a signal. It prints a line for each with what it took, and fails where one is another.
-# Usage: checks/texts.sh     Build the program first: any call of ./cellctl does. CELLCTL names another one.
+# Usage: checks/texts.sh     Build the program first: ./cellctl --prove does. CELLCTL names another one.
 set -u
 here=$(cd "$(dirname "$0")/.." && pwd) || exit 1
 cellctl=${CELLCTL:-$here/crates/cellctl/out/cellctl}
