@@ -25,7 +25,7 @@ if [ "$1" = make ]; then
     # (the program's text alone: what was built may have been made with other rights)
     cat "$built" >"$name" && chmod 755 "$name" && sha256sum "$name" >SHA256SUMS && echo "$sources" >SOURCES || exit 1
     echo "release: made of the program that was built: $(cat SHA256SUMS)"
-elif [ "$sources" != "$(cat "$here/release/SOURCES")" ]; then
+elif [ "$sources" != "$(cat "$here/release/SOURCES" 2>/dev/null)" ]; then
     echo "release: the sources have moved on since it was made"
 elif ! (cd "$here/release" && sha256sum -c --status SHA256SUMS); then
     echo "release: the released program isn't the one that release/SHA256SUMS names"
