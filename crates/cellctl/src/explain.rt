@@ -1,5 +1,5 @@
 //! The command that says why a text is refused.
-use crate::order::Explaining;
+use cell_command::Explaining;
 use cell_explain::{explain_faults, explain_journal, explain_operator, explain_settings};
 use cell_lines::{WriteFault, status};
 use std::io::{Read, Write};

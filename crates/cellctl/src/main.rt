@@ -2,13 +2,11 @@
 //! settings, and the runs of the simulated cell.
 #![tactic(auto)]
 
-mod command;
 mod explain;
-mod help;
 mod named;
-mod order;
 mod show;
 
+use cell_command::{Order, Running, read_words};
 use cell_endings::write_ending;
 use cell_lines::{WriteFault, audit_lines, migrate_lines, status};
 use cell_runs::run_texts_kept;
@@ -17,7 +15,6 @@ use clap::Error;
 use clap::error::ErrorKind;
 use explain::explain_words;
 use named::Named;
-use order::{Order, Running, read_words};
 use show::show_input;
 use std::env::Env;
 use std::io::Write;
@@ -26,9 +23,6 @@ use std::rt::Files;
 use std::sync::Wait;
 use std::thread::Threads;
 use std::{env, fs, io};
-
-#[cfg(test)]
-mod tests;
 
 // The status of an error of the system.
 fn status_of(error: &io::Error) -> u8 {

@@ -1,5 +1,5 @@
 //! The command that shows the cell.
-use crate::order::Showing;
+use cell_command::Showing;
 use cell_lines::status;
 use cell_show::{Form, ShowError, show_journal};
 use std::io;
