@@ -87,7 +87,7 @@ refuse_tests() {
 refuse_calls() {
     refuse_tests refused_tests '::' 0
     refuse_tests worker_tests 'refusals::' 0
-    refuse_tests cellctl 'refused::' 1
+    refuse_tests command_tests 'refused::' 1
 }
 
 # The program told want of memory: by its status and on standard error, and it had written a first part of what is due, or

@@ -1,7 +1,9 @@
 //! The command that says why a text is refused.
-use crate::order::Explaining;
+use crate::finish;
+use cell_command::Explaining;
 use cell_explain::{explain_faults, explain_journal, explain_operator, explain_settings};
-use cell_lines::{WriteFault, status};
+use cell_lines::status;
+use std::alloc::Global;
 use std::io::{Read, Write};
 use std::rt::Files;
 use std::{fs, io};
@@ -16,22 +18,20 @@ enum Kind {
 }
 
 // Explains a text. All that is printed is written out before the status is given.
-fn explain_text<R: AllocGlobal + Print>(rt: &R, kind: Kind, text: &[u8]) -> io::Result<u8> {
-    let alloc = rt.alloc();
-    let mut output = io::BufWriter::new(alloc, io::writer(rt))?;
+fn explain<W: Write>(alloc: Global, kind: Kind, text: &[u8], output: &mut W) -> io::Result<u8> {
     let explained = match kind {
-        Kind::Journal => explain_journal(alloc, text, &mut output),
-        Kind::Settings => explain_settings(alloc, text, &mut output),
-        Kind::Faults => explain_faults(alloc, text, &mut output),
-        Kind::Operator => explain_operator(alloc, text, &mut output),
+        Kind::Journal => explain_journal(alloc, text, output),
+        Kind::Settings => explain_settings(alloc, text, output),
+        Kind::Faults => explain_faults(alloc, text, output),
+        Kind::Operator => explain_operator(alloc, text, output),
     };
-    match explained {
-        Ok(status) => {
-            output.flush()?;
-            Ok(status)
-        }
-        Err(WriteFault) => Ok(status::DEVICE_FAULT),
-    }
+    finish(output, explained)
+}
+
+// Explains a text on standard output.
+fn explain_text<R: AllocGlobal + Print>(rt: &R, kind: Kind, text: &[u8]) -> io::Result<u8> {
+    let mut output = io::BufWriter::new(rt.alloc(), io::writer(rt))?;
+    explain(rt.alloc(), kind, text, &mut output)
 }
 
 // Explains the journal on standard input.

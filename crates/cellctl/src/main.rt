@@ -2,13 +2,11 @@
 //! settings, and the runs of the simulated cell.
 #![tactic(auto)]
 
-mod command;
 mod explain;
-mod help;
 mod named;
-mod order;
 mod show;
 
+use cell_command::{Order, Paths, Running, read_words};
 use cell_endings::write_ending;
 use cell_lines::{WriteFault, audit_lines, migrate_lines, status};
 use cell_runs::run_texts_kept;
@@ -17,18 +15,15 @@ use clap::Error;
 use clap::error::ErrorKind;
 use explain::explain_words;
 use named::Named;
-use order::{Order, Running, read_words};
 use show::show_input;
+use std::alloc::{AllocError, Global};
 use std::env::Env;
-use std::io::Write;
+use std::io::{Read, Write};
 use std::process::ExitCode;
 use std::rt::Files;
 use std::sync::Wait;
 use std::thread::Threads;
 use std::{env, fs, io};
-
-#[cfg(test)]
-mod tests;
 
 // The status of an error of the system.
 fn status_of(error: &io::Error) -> u8 {
@@ -50,116 +45,199 @@ fn refuse<R: Print + Eprint>(rt: &R, error: &Error) -> u8 {
     }
 }
 
-// Audits standard input. All that is printed is written out before the status is given.
+// Writes out all that was printed, unless the writer failed, and gives the status.
+fn finish<W: Write>(output: &mut W, written: Result<u8, WriteFault>) -> io::Result<u8> {
+    match written {
+        Ok(status) => {
+            output.flush()?;
+            Ok(status)
+        }
+        Err(WriteFault) => Ok(status::DEVICE_FAULT),
+    }
+}
+
+// Audits a journal's text. All that is printed is written out before the status is given.
+fn audit<I: Read + Drop, W: Write>(alloc: Global, input: I, output: &mut W) -> io::Result<u8> {
+    let written = audit_lines(alloc, input, output);
+    finish(output, written)
+}
+
+// Audits standard input.
 fn audit_input<R: AllocGlobal + Input + Print>(rt: &R) -> io::Result<u8> {
-    let alloc = rt.alloc();
-    let mut output = io::BufWriter::new(alloc, io::writer(rt))?;
-    match audit_lines(alloc, rt.reader(), &mut output) {
-        Ok(status) => {
-            output.flush()?;
-            Ok(status)
-        }
-        Err(WriteFault) => Ok(status::DEVICE_FAULT),
-    }
+    let mut output = io::BufWriter::new(rt.alloc(), io::writer(rt))?;
+    audit(rt.alloc(), rt.reader(), &mut output)
 }
 
-// Writes the text on standard input in profile 2. Of a text that is refused there is a line on standard error, and nothing is
-// printed. All that is printed is written out before the status is given.
+// Writes a journal's text in profile 2. Of a text that is refused there is a line among the errors, and nothing is printed. All
+// that is printed is written out before the status is given.
+fn migrate<I: Read + Drop, W: Write, E: Write>(
+    alloc: Global,
+    input: I,
+    output: &mut W,
+    errors: &mut E,
+) -> io::Result<u8> {
+    let written = migrate_lines(alloc, input, output, errors);
+    finish(output, written)
+}
+
+// Writes the text on standard input in profile 2.
 fn migrate_input<R: AllocGlobal + Input + Print, E: Print>(rt: &R, errors: &E) -> io::Result<u8> {
-    let alloc = rt.alloc();
-    let mut output = io::BufWriter::new(alloc, io::writer(rt))?;
-    match migrate_lines(alloc, rt.reader(), &mut output, &mut io::writer(errors)) {
-        Ok(status) => {
-            output.flush()?;
-            Ok(status)
-        }
-        Err(WriteFault) => Ok(status::DEVICE_FAULT),
-    }
+    let mut output = io::BufWriter::new(rt.alloc(), io::writer(rt))?;
+    migrate(
+        rt.alloc(),
+        rt.reader(),
+        &mut output,
+        &mut io::writer(errors),
+    )
 }
 
-// Checks the settings in a file. All that is printed is written out before the status is given.
+// Checks the text of settings. All that is printed is written out before the status is given.
+fn check<W: Write>(alloc: Global, text: &[u8], output: &mut W) -> io::Result<u8> {
+    let written = check_lines(alloc, text, output);
+    finish(output, written)
+}
+
+// Checks the settings in a file.
 fn check_file<R: AllocGlobal + Files + Print>(rt: &R, path: &str) -> io::Result<u8> {
-    let alloc = rt.alloc();
     let text = fs::read(rt, path)?;
-    let mut output = io::BufWriter::new(alloc, io::writer(rt))?;
-    match check_lines(alloc, text.as_slice(), &mut output) {
-        Ok(status) => {
-            output.flush()?;
-            Ok(status)
-        }
-        Err(WriteFault) => Ok(status::DEVICE_FAULT),
-    }
+    let mut output = io::BufWriter::new(rt.alloc(), io::writer(rt))?;
+    check(rt.alloc(), text.as_slice(), &mut output)
 }
 
-// Runs the simulated cell by three files, on threads or in rounds. The files are all read before any is judged. All that is
-// printed is written out before the end is explained, and the status is given.
-fn run_files<R: AllocGlobal + Files + Print + Threads + Wait + Sync, E: Print>(
+// What a run's files say.
+#[derive(Drop)]
+struct Texts {
+    settings: Vec<u8>,
+    faults: Vec<u8>,
+    operator: Vec<u8>,
+}
+
+// Reads the files of a run.
+fn read_files<R: AllocGlobal + Files>(rt: &R, paths: Paths<'_>) -> io::Result<Texts> {
+    let settings = fs::read(rt, paths.settings)?;
+    let faults = fs::read(rt, paths.faults)?;
+    let operator = fs::read(rt, paths.operator)?;
+    Ok(Texts {
+        settings,
+        faults,
+        operator,
+    })
+}
+
+// Runs the simulated cell by what its files say, on threads or in rounds. All that is printed is written out before the end is
+// explained, and the status is given.
+fn run_texts<R: AllocGlobal + Threads + Wait + Sync, W: Write, E: Write>(
     rt: &R,
-    errors: &E,
     threads: bool,
     running: Running<'_>,
+    texts: &Texts,
+    output: &mut W,
+    errors: &mut E,
 ) -> io::Result<u8> {
-    let settings = fs::read(rt, running.paths.settings)?;
-    let faults = fs::read(rt, running.paths.faults)?;
-    let operator = fs::read(rt, running.paths.operator)?;
-    let mut output = io::BufWriter::new(rt.alloc(), io::writer(rt))?;
-    let (status, journal) = match run_texts_kept(
+    let settings = texts.settings.as_slice();
+    let faults = texts.faults.as_slice();
+    let operator = texts.operator.as_slice();
+    let ran = run_texts_kept(
         rt,
-        settings.as_slice(),
-        faults.as_slice(),
-        operator.as_slice(),
+        settings,
+        faults,
+        operator,
         threads,
         running.journal,
-        &mut output,
-    ) {
-        Ok(ran) => ran,
-        Err(WriteFault) => return Ok(status::DEVICE_FAULT),
+        output,
+    );
+    let Ok((status, journal)) = ran else {
+        return Ok(status::DEVICE_FAULT);
     };
     output.flush()?;
     match journal {
         Some(journal) if running.explain => {
-            let mut errors = io::writer(errors);
-            write_ending(
-                rt.alloc(),
-                &journal,
-                faults.as_slice(),
-                operator.as_slice(),
-                &mut errors,
-            )?;
+            write_ending(rt.alloc(), &journal, faults, operator, errors)?;
         }
         _ => {}
     }
     Ok(status)
 }
 
-// Reads the words, does what they say, and gives the status.
+// Runs the simulated cell by three files, on threads or in rounds. The files are all read before any is judged.
+fn run_files<R: AllocGlobal + Files + Print + Threads + Wait + Sync, E: Print>(
+    rt: &R,
+    errors: &E,
+    threads: bool,
+    running: Running<'_>,
+) -> io::Result<u8> {
+    let texts = read_files(rt, running.paths)?;
+    let mut output = io::BufWriter::new(rt.alloc(), io::writer(rt))?;
+    run_texts(
+        rt,
+        threads,
+        running,
+        &texts,
+        &mut output,
+        &mut io::writer(errors),
+    )
+}
+
+// Does what an order says, and gives the status.
+fn carry_out<R: AllocGlobal + Files + Input + Print + Eprint + Threads + Wait + Sync, E: Print>(
+    rt: &R,
+    errors: &E,
+    order: Order<'_>,
+) -> io::Result<u8> {
+    match order {
+        Order::Audit => audit_input(rt),
+        Order::Migrate => migrate_input(rt, errors),
+        Order::Show(showing) => show_input(rt, showing),
+        Order::Explain(explaining) => explain_words(rt, explaining),
+        Order::Check(path) => check_file(rt, path),
+        Order::Sim(running) => run_files(rt, errors, false, running),
+        Order::Run(running) => run_files(rt, errors, true, running),
+    }
+}
+
+// Reads words, does what they say, and gives the status.
+fn follow<R: AllocGlobal + Files + Input + Print + Eprint + Threads + Wait + Sync, E: Print>(
+    rt: &R,
+    errors: &E,
+    words: &[&str],
+) -> io::Result<u8> {
+    match read_words(rt.alloc(), words) {
+        Ok(order) => carry_out(rt, errors, order),
+        Err(error) => Ok(refuse(rt, &error)),
+    }
+}
+
+// The words of the command line, of which the first is the program's name. A word that isn't UTF-8 is invalid data.
+fn words_of<R: AllocGlobal + Env>(rt: &R) -> io::Result<Vec<String>> {
+    let alloc = rt.alloc();
+    let arguments = env::args(&(Named { rt }, alloc))?;
+    Ok(arguments.collect(alloc)?)
+}
+
+// The same words, as they are read.
+fn texts_of(alloc: Global, words: &[String]) -> Result<Vec<&str>, AllocError> {
+    let mut texts = Vec::new(alloc);
+    for word in words {
+        texts.push(word.as_str())?;
+    }
+    Ok(texts)
+}
+
+// Reads the words of the command line, does what they say, and gives the status.
 fn run<R: AllocGlobal + Env + Files + Input + Print + Eprint + Threads + Wait + Sync, E: Print>(
     rt: &R,
     errors: &E,
 ) -> io::Result<u8> {
-    let alloc = rt.alloc();
-    let arguments = match env::args(&(Named { rt }, alloc)) {
-        Ok(arguments) => arguments,
+    match words_of(rt) {
+        Ok(words) => {
+            let texts = texts_of(rt.alloc(), words.as_slice())?;
+            follow(rt, errors, texts.as_slice())
+        }
         Err(e) if e.kind() == io::ErrorKind::InvalidData => {
             eprintln!(rt; "error: an argument isn't UTF-8")?;
-            return Ok(status::WRONG_ARGUMENTS);
+            Ok(status::WRONG_ARGUMENTS)
         }
-        Err(e) => return Err(e),
-    };
-    let words: Vec<String> = arguments.collect(alloc)?;
-    let mut texts = Vec::new(alloc);
-    for word in words.iter() {
-        texts.push(word.as_str())?;
-    }
-    match read_words(alloc, texts.as_slice()) {
-        Ok(Order::Audit) => audit_input(rt),
-        Ok(Order::Migrate) => migrate_input(rt, errors),
-        Ok(Order::Show(showing)) => show_input(rt, showing),
-        Ok(Order::Explain(explaining)) => explain_words(rt, explaining),
-        Ok(Order::Check(path)) => check_file(rt, path),
-        Ok(Order::Sim(running)) => run_files(rt, errors, false, running),
-        Ok(Order::Run(running)) => run_files(rt, errors, true, running),
-        Err(error) => Ok(refuse(rt, &error)),
+        Err(e) => Err(e),
     }
 }
 

@@ -1,9 +1,9 @@
 //! The command that shows the cell.
-use crate::order::Showing;
+use cell_command::Showing;
 use cell_lines::status;
 use cell_show::{Form, ShowError, show_journal};
 use std::io;
-use std::io::Write;
+use std::io::{Read, Write};
 
 // The form that the flags ask for, if they ask for one alone.
 fn form_of(showing: &Showing<'_>) -> Option<Form> {
@@ -16,15 +16,15 @@ fn form_of(showing: &Showing<'_>) -> Option<Form> {
     }
 }
 
-// Shows the journal on standard input. All that is printed is written out before the status is given.
-fn show_form<R: AllocGlobal + Input + Print + Eprint>(
+// Shows a journal's text. All that is printed is written out before the status is given.
+fn show<R: AllocGlobal + Eprint, I: Read + Drop, W: Write>(
     rt: &R,
+    input: I,
     form: Form,
     entry: Option<u32>,
+    output: &mut W,
 ) -> io::Result<u8> {
-    let alloc = rt.alloc();
-    let mut output = io::BufWriter::new(alloc, io::writer(rt))?;
-    match show_journal(alloc, rt.reader(), form, entry, &mut output) {
+    match show_journal(rt.alloc(), input, form, entry, output) {
         Ok(status) => {
             output.flush()?;
             Ok(status)
@@ -35,6 +35,16 @@ fn show_form<R: AllocGlobal + Input + Print + Eprint>(
             Ok(status::WRONG_ARGUMENTS)
         }
     }
+}
+
+// Shows the journal on standard input.
+fn show_form<R: AllocGlobal + Input + Print + Eprint>(
+    rt: &R,
+    form: Form,
+    entry: Option<u32>,
+) -> io::Result<u8> {
+    let mut output = io::BufWriter::new(rt.alloc(), io::writer(rt))?;
+    show(rt, rt.reader(), form, entry, &mut output)
 }
 
 /// Shows the journal on standard input, as the words of the command line ask.

@@ -1,13 +1,12 @@
 //! The words of the command line where any allocation may be refused (docs/HOSTILE.md). The tests take no memory but the
 //! call's.
-use crate::order;
-use crate::order::{Order, Paths, Running};
+use cell_command::{Order, Paths, Running};
 use clap::error::ErrorKind;
 use std::process::Abort;
 
 // Reads words, which has to give this order, or clap's want of memory.
 fn check_order(rt: &(impl AllocGlobal + Abort), words: &[&str], wanted: Order<'_>) {
-    match order::read_words(rt.alloc(), words) {
+    match cell_command::read_words(rt.alloc(), words) {
         Ok(order) => assert_eq!(rt; order, wanted),
         Err(error) => assert_eq!(rt; error.kind(), ErrorKind::OutOfMemory),
     }
@@ -15,7 +14,7 @@ fn check_order(rt: &(impl AllocGlobal + Abort), words: &[&str], wanted: Order<'_
 
 // Reads words that clap refuses with this kind, or for want of memory.
 fn check_refused(rt: &(impl AllocGlobal + Abort), words: &[&str], wanted: ErrorKind) {
-    match order::read_words(rt.alloc(), words) {
+    match cell_command::read_words(rt.alloc(), words) {
         Ok(_) => panic!(rt; "read as an order, wanted {wanted:?}"),
         Err(error) => {
             let kind = error.kind();

@@ -1,8 +1,8 @@
 use Rattle.std.proofs.Common.{◌∙◌}
 use Rattle.clap.specs.Words.{found_of}
 use Rattle.clap.proofs.WalkLemmas.{first_value-rows}
-use Rattle.cellctl.proofs.Facts.{same-value}
-use Rattle.cellctl.proofs.order.path.Goals as goal
+use Rattle.cell_command.proofs.Facts.{same-value}
+use Rattle.cell_command.proofs.order.path.Goals as goal
 
 pub returns : goal.returns
 returns c = same-value c.get_str.result _ (c.get_str.ensures ∙ first_value-rows (found_of c.args.matches.now) c.args.id.now)

@@ -1,7 +1,7 @@
 use Rattle.std.proofs.Common.{◌∙◌}
 use Rattle.clap.specs.Words.{found_of}
 use Rattle.clap.proofs.WalkLemmas.{one_text-rows}
-use Rattle.cellctl.proofs.order.flag.Goals as goal
+use Rattle.cell_command.proofs.order.flag.Goals as goal
 
 pub returns : goal.returns
 returns c =

@@ -32,26 +32,49 @@ file_rule id = record (new_rule id) { long = Some id; value_names = 1 }
 abbrev pub entry_rule : Rule
 entry_rule = record (new_rule (codes "entry")) { value_names = 1 }
 
-abbrev pub show : App
-show = with_rule (with_rule (with_rule (with_rule (new_app (codes "show")) (flag_rule (codes "svg"))) (flag_rule (codes "html"))) (flag_rule (codes "unicode"))) entry_rule
+-- the command that shows the cell, with the flags for a picture and a page
+unfoldable pub pictured : App
+pictured = with_rule (with_rule (new_app (codes "show")) (flag_rule (codes "svg"))) (flag_rule (codes "html"))
 
-abbrev pub explain : App
+unfoldable pub show : App
+show = with_rule (with_rule pictured (flag_rule (codes "unicode"))) entry_rule
+
+unfoldable pub explain : App
 explain = with_rule (with_rule (with_rule (new_app (codes "explain")) (file_rule (codes "settings"))) (file_rule (codes "faults"))) (file_rule (codes "operator"))
 
--- a command that runs the cell, with its flags
-abbrev pub flagged : Text → App
-flagged name = with_rule (with_rule (new_app name) (flag_rule (codes "journal"))) (flag_rule (codes "explain"))
+-- a command with the flags of those that run the cell
+unfoldable pub flagged : App → App
+flagged a = with_rule (with_rule a (flag_rule (codes "journal"))) (flag_rule (codes "explain"))
+
+-- a command with the paths of a run's two scripts
+unfoldable pub scripted : App → App
+scripted a = with_rule (with_rule a (path_rule (codes "faults"))) (path_rule (codes "operator"))
 
 -- a command that runs the cell by three files
 abbrev pub running : Text → App
-running name =
-    with_rule (with_rule (with_rule (flagged name) (path_rule (codes "settings"))) (path_rule (codes "faults"))) (path_rule (codes "operator"))
+running name = scripted (with_rule (flagged (new_app name)) (path_rule (codes "settings")))
+
+-- the program with the commands that judge a journal
+unfoldable pub judging : App
+judging = with_subcommand (with_subcommand (new_app (codes "cellctl")) audit.top) migrate.top
+
+-- the program with the commands that judge and show a journal
+unfoldable pub showing : App
+showing = with_subcommand judging show.top
 
 -- the program with the commands that read a journal
 unfoldable pub reading : App
-reading = with_subcommand (with_subcommand (with_subcommand (with_subcommand (new_app (codes "cellctl")) audit.top) migrate.top) show.top) explain.top
+reading = with_subcommand showing explain.top
+
+-- the program with the commands that run nothing
+unfoldable pub checking : App
+checking = with_subcommand reading check.top
+
+-- the program with all commands but that which runs the cell on threads
+unfoldable pub simulating : App
+simulating = with_subcommand checking (running (codes "sim")).top
 
 abbrev pub cellctl : App
 cellctl =
-    let whole = with_subcommand (with_subcommand (with_subcommand reading check.top) (running (codes "sim")).top) (running (codes "run")).top in
+    let whole = with_subcommand simulating (running (codes "run")).top in
     record whole { top = for_people whole.top }

@@ -2,13 +2,13 @@
 use Rattle.std.specs.Prelude.{◌≡◌, ℕ, Bool, true, false, List, Option, Some, None, codes, option_map}
 use Rattle.std.specs.Borrow.{Bor}
 use Rattle.clap.specs.Words.{Row, Text, first_of, one_of, subcommand_of}
-use Rattle.cellctl.specs.Shape.{cellctl}
-use Rattle.cellctl.specs.declared.order.Explaining.{Explaining}
-use Rattle.cellctl.specs.declared.order.Paths.{Paths}
-use Rattle.cellctl.specs.declared.order.Running.{Running}
-use Rattle.cellctl.specs.declared.order.Showing.{Showing}
-use Rattle.cellctl.specs.declared.order.Order.{Order}
-use Rattle.cellctl.specs.declared.order.Order.TheVariants as order
+use Rattle.cell_command.specs.Shape.{cellctl}
+use Rattle.cell_command.specs.declared.order.Explaining.{Explaining}
+use Rattle.cell_command.specs.declared.order.Paths.{Paths}
+use Rattle.cell_command.specs.declared.order.Running.{Running}
+use Rattle.cell_command.specs.declared.order.Showing.{Showing}
+use Rattle.cell_command.specs.declared.order.Order.{Order}
+use Rattle.cell_command.specs.declared.order.Order.TheVariants as order
 
 -- the path that is matched at an id
 abbrev pub HasPath : List Row → Text → Text → Type 0

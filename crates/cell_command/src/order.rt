@@ -2,8 +2,8 @@
 ghost use Rattle.std.specs.Prelude.{IfOk, IfSome, map};
 ghost use Rattle.clap.specs.Kinds.{FailsBy};
 ghost use Rattle.clap.specs.Words.{fault_of, found_of, rows_of};
-ghost use Rattle.cellctl.specs.Shape.{cellctl};
-ghost use Rattle.cellctl.specs.Orders.{Fits, HasFlag, HasPath, HasPaths, HasValue, IsExplained, IsOrdered, IsRun, IsShown};
+ghost use Rattle.cell_command.specs.Shape.{cellctl};
+ghost use Rattle.cell_command.specs.Orders.{Fits, HasFlag, HasPath, HasPaths, HasValue, IsExplained, IsOrdered, IsRun, IsShown};
 
 use crate::command::command;
 use clap::{ArgMatches, Error};

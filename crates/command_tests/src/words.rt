@@ -1,6 +1,5 @@
-mod refused;
-
-use crate::order::{Explaining, Order, Paths, Running, Showing, read_words};
+//! The words of the command line, with ample memory.
+use cell_command::{Explaining, Order, Paths, Running, Showing, read_words};
 use clap::error::ErrorKind;
 
 #[test]

@@ -1,8 +1,8 @@
 use Rattle.std.proofs.Common.{◌≡◌, ◌∙◌, Err, Some, ap, map, rules, subst, sym}
 use Rattle.clap.specs.Kinds.{HasKind}
 use Rattle.clap.specs.Words.{App, fault_of, found_of, is_simple, is_simple_and_free, rows_of, subcommand_of, subcommand_rows_of}
-use Rattle.cellctl.proofs.Facts.{cellctl-free, cellctl-simple, joined}
-use Rattle.cellctl.proofs.order.read_words.Goals as goal
+use Rattle.cell_command.proofs.Facts.{cellctl-free, cellctl-simple, joined}
+use Rattle.cell_command.proofs.order.read_words.Goals as goal
 
 pub returns-in-Some-order_of-clause-order : goal.returns-in-Some-order_of-clause-order
 returns-in-Some-order_of-clause-order c =

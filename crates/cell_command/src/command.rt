@@ -1,0 +1,293 @@
+//! The command line that the program knows, and its help.
+ghost use Rattle.std.specs.Prelude.{◌≡◌, IfOk, codes, false};
+ghost use Rattle.clap.specs.Words.{app_of, new_app, with_rule, with_subcommand};
+ghost use Rattle.clap.specs.declared.builder.command.Command.TheViews.{out-Command};
+ghost use Rattle.cell_command.specs.Shape.{audit, cellctl, check, checking, entry_rule, explain, file_rule, flag_rule, flagged, judging, migrate, path_rule, pictured, reading, running, scripted, show, showing, simulating};
+
+use crate::help::{
+    ABOUT, AFTER, AUDIT_ABOUT, AUDIT_EXAMPLE, AUDIT_HELP, AUDIT_USAGE, CHECK_ABOUT, CHECK_EXAMPLE,
+    CHECK_HELP, ENTRY_HELP, EXPLAIN_ABOUT, EXPLAIN_EXAMPLE, EXPLAIN_HELP, EXPLAIN_USAGE,
+    FAULTS_HELP, HTML_HELP, JOURNAL_HELP, MIGRATE_ABOUT, MIGRATE_EXAMPLE, MIGRATE_HELP,
+    MIGRATE_USAGE, OPERATOR_HELP, RUN_ABOUT, RUN_EXAMPLE, RUN_HELP, SETTINGS_HELP, SHOW_ABOUT,
+    SHOW_EXAMPLE, SHOW_HELP, SHOW_USAGE, SIM_ABOUT, SIM_EXAMPLE, SIM_HELP, SVG_HELP, UNICODE_HELP,
+    VERSION, WHY_HELP,
+};
+use clap::{Arg, ArgAction, Command};
+use std::alloc::{AllocError, Global};
+
+// A command with its texts: its line in the list of commands, its help, and an example.
+fn described<'a>(
+    alloc: Global,
+    name: &'a str,
+    about: &'a str,
+    help: &'a str,
+    example: &'a str,
+) -> Command<'a>
+    ensures app { app_of result ≡ new_app name.entry.now }
+    ensures local { (out-Command result).has_globals ≡ false }
+{
+    Command::new(alloc, name)
+        .about(about)
+        .long_about(help)
+        .after_help(example)
+}
+
+// Adds a path that has to be given.
+fn with_path<'a>(
+    alloc: Global,
+    command: Command<'a>,
+    id: &'a str,
+    name: &'a str,
+    help: &'a str,
+) -> Result<Command<'a>, AllocError>
+    requires local { (out-Command command).has_globals ≡ false }
+    ensures app { IfOk result (λ c. app_of c ≡ with_rule (app_of command.entry) (path_rule id.entry.now)) }
+    ensures local { IfOk result (λ c. (out-Command c).has_globals ≡ false) }
+{
+    let path = Arg::new(alloc, id)
+        .required(true)
+        .value_name(name)
+        .help(help);
+    command.arg(path)
+}
+
+// Adds a flag.
+fn with_flag<'a>(
+    alloc: Global,
+    command: Command<'a>,
+    id: &'a str,
+    help: &'a str,
+) -> Result<Command<'a>, AllocError>
+    requires local { (out-Command command).has_globals ≡ false }
+    ensures app { IfOk result (λ c. app_of c ≡ with_rule (app_of command.entry) (flag_rule id.entry.now)) }
+    ensures local { IfOk result (λ c. (out-Command c).has_globals ≡ false) }
+{
+    let flag = Arg::new(alloc, id)
+        .long(id)
+        .action(ArgAction::SetTrue)
+        .help(help);
+    command.arg(flag)
+}
+
+// Adds an option with a file.
+fn with_file<'a>(
+    alloc: Global,
+    command: Command<'a>,
+    id: &'a str,
+    help: &'a str,
+) -> Result<Command<'a>, AllocError>
+    requires local { (out-Command command).has_globals ≡ false }
+    ensures app { IfOk result (λ c. app_of c ≡ with_rule (app_of command.entry) (file_rule id.entry.now)) }
+    ensures local { IfOk result (λ c. (out-Command c).has_globals ≡ false) }
+{
+    command.arg(Arg::new(alloc, id).long(id).value_name("FILE").help(help))
+}
+
+// Adds how many entries are shown, which may be given.
+fn with_entry<'a>(alloc: Global, command: Command<'a>) -> Result<Command<'a>, AllocError>
+    requires local { (out-Command command).has_globals ≡ false }
+    ensures app { IfOk result (λ c. app_of c ≡ with_rule (app_of command.entry) entry_rule) }
+    ensures local { IfOk result (λ c. (out-Command c).has_globals ≡ false) }
+{
+    let entry = Arg::new(alloc, "entry")
+        .value_name("ENTRY")
+        .help(ENTRY_HELP);
+    command.arg(entry)
+}
+
+fn audit_command<'a>(alloc: Global) -> Command<'a>
+    ensures app { app_of result ≡ audit }
+    ensures local { (out-Command result).has_globals ≡ false }
+{
+    described(alloc, "audit", AUDIT_ABOUT, AUDIT_HELP, AUDIT_EXAMPLE).override_usage(AUDIT_USAGE)
+}
+
+fn migrate_command<'a>(alloc: Global) -> Command<'a>
+    ensures app { app_of result ≡ migrate }
+    ensures local { (out-Command result).has_globals ≡ false }
+{
+    described(
+        alloc,
+        "migrate",
+        MIGRATE_ABOUT,
+        MIGRATE_HELP,
+        MIGRATE_EXAMPLE,
+    )
+    .override_usage(MIGRATE_USAGE)
+}
+
+fn check_command<'a>(alloc: Global) -> Result<Command<'a>, AllocError>
+    ensures app { IfOk result (λ c. app_of c ≡ check) }
+    ensures local { IfOk result (λ c. (out-Command c).has_globals ≡ false) }
+{
+    let command = described(alloc, "check", CHECK_ABOUT, CHECK_HELP, CHECK_EXAMPLE);
+    with_path(alloc, command, "settings", "SETTINGS", SETTINGS_HELP)
+}
+
+// The command that shows the cell, with the flags for a picture and a page.
+#[tactic(auto, unfolding(crate::specs::Shape::pictured))]
+fn pictured_command<'a>(alloc: Global) -> Result<Command<'a>, AllocError>
+    ensures app { IfOk result (λ c. app_of c ≡ pictured) }
+    ensures local { IfOk result (λ c. (out-Command c).has_globals ≡ false) }
+{
+    let command = described(alloc, "show", SHOW_ABOUT, SHOW_HELP, SHOW_EXAMPLE).override_usage(
+        SHOW_USAGE,
+    );
+    let svg = with_flag(alloc, command, "svg", SVG_HELP)?;
+    with_flag(alloc, svg, "html", HTML_HELP)
+}
+
+#[tactic(auto, unfolding(crate::specs::Shape::show))]
+fn show_command<'a>(alloc: Global) -> Result<Command<'a>, AllocError>
+    ensures app { IfOk result (λ c. app_of c ≡ show) }
+    ensures local { IfOk result (λ c. (out-Command c).has_globals ≡ false) }
+{
+    let pictured = pictured_command(alloc)?;
+    let unicode = with_flag(alloc, pictured, "unicode", UNICODE_HELP)?;
+    with_entry(alloc, unicode)
+}
+
+#[tactic(auto, unfolding(crate::specs::Shape::explain))]
+fn explain_command<'a>(alloc: Global) -> Result<Command<'a>, AllocError>
+    ensures app { IfOk result (λ c. app_of c ≡ explain) }
+    ensures local { IfOk result (λ c. (out-Command c).has_globals ≡ false) }
+{
+    let command = described(
+        alloc,
+        "explain",
+        EXPLAIN_ABOUT,
+        EXPLAIN_HELP,
+        EXPLAIN_EXAMPLE,
+    )
+    .override_usage(EXPLAIN_USAGE);
+    let settings = with_file(alloc, command, "settings", SETTINGS_HELP)?;
+    let faults = with_file(alloc, settings, "faults", FAULTS_HELP)?;
+    with_file(alloc, faults, "operator", OPERATOR_HELP)
+}
+
+// Adds the flags of a command that runs the cell.
+#[tactic(auto, unfolding(crate::specs::Shape::flagged))]
+fn with_flags<'a>(alloc: Global, command: Command<'a>) -> Result<Command<'a>, AllocError>
+    requires local { (out-Command command).has_globals ≡ false }
+    ensures app { IfOk result (λ c. app_of c ≡ flagged (app_of command.entry)) }
+    ensures local { IfOk result (λ c. (out-Command c).has_globals ≡ false) }
+{
+    let journal = with_flag(alloc, command, "journal", JOURNAL_HELP)?;
+    with_flag(alloc, journal, "explain", WHY_HELP)
+}
+
+// Adds the paths of both scripts to a command that runs the cell.
+fn with_scripts<'a>(alloc: Global, command: Command<'a>) -> Result<Command<'a>, AllocError>
+    requires local { (out-Command command).has_globals ≡ false }
+    ensures app { IfOk result (λ c. app_of c ≡ scripted (app_of command.entry)) }
+    ensures local { IfOk result (λ c. (out-Command c).has_globals ≡ false) }
+{
+    let faults = with_path(alloc, command, "faults", "FAULTS", FAULTS_HELP)?;
+    with_path(alloc, faults, "operator", "OPERATOR", OPERATOR_HELP)
+}
+
+// A command that runs the cell by three files, with its texts.
+fn running_command<'a>(
+    alloc: Global,
+    name: &'a str,
+    about: &'a str,
+    help: &'a str,
+    example: &'a str,
+) -> Result<Command<'a>, AllocError>
+    ensures app { IfOk result (λ c. app_of c ≡ running name.entry.now) }
+    ensures local { IfOk result (λ c. (out-Command c).has_globals ≡ false) }
+{
+    let flagged = with_flags(alloc, described(alloc, name, about, help, example))?;
+    let settings = with_path(alloc, flagged, "settings", "SETTINGS", SETTINGS_HELP)?;
+    with_scripts(alloc, settings)
+}
+
+// Adds a command.
+fn add<'a>(command: Command<'a>, sub: Command<'a>) -> Result<Command<'a>, AllocError>
+    requires sub { (out-Command sub).has_globals ≡ false }
+    requires local { (out-Command command).has_globals ≡ false }
+    ensures app { IfOk result (λ c. app_of c ≡ with_subcommand (app_of command.entry) (app_of sub.entry).top) }
+    ensures local { IfOk result (λ c. (out-Command c).has_globals ≡ false) }
+{
+    command.subcommand(sub)
+}
+
+// The program with the commands that judge a journal.
+#[tactic(auto, unfolding(crate::specs::Shape::judging))]
+fn judging_commands<'a>(alloc: Global) -> Result<Command<'a>, AllocError>
+    ensures app { IfOk result (λ c. app_of c ≡ judging) }
+    ensures local { IfOk result (λ c. (out-Command c).has_globals ≡ false) }
+{
+    let auditing = add(Command::new(alloc, "cellctl"), audit_command(alloc))?;
+    add(auditing, migrate_command(alloc))
+}
+
+// The program with the commands that judge and show a journal.
+#[tactic(auto, unfolding(crate::specs::Shape::showing))]
+fn showing_commands<'a>(alloc: Global) -> Result<Command<'a>, AllocError>
+    ensures app { IfOk result (λ c. app_of c ≡ showing) }
+    ensures local { IfOk result (λ c. (out-Command c).has_globals ≡ false) }
+{
+    let judging = judging_commands(alloc)?;
+    let show = show_command(alloc)?;
+    add(judging, show)
+}
+
+// The program with the commands that read a journal.
+#[tactic(auto, unfolding(crate::specs::Shape::reading))]
+fn reading_commands<'a>(alloc: Global) -> Result<Command<'a>, AllocError>
+    ensures app { IfOk result (λ c. app_of c ≡ reading) }
+    ensures local { IfOk result (λ c. (out-Command c).has_globals ≡ false) }
+{
+    let showing = showing_commands(alloc)?;
+    let explain = explain_command(alloc)?;
+    add(showing, explain)
+}
+
+// The program with the commands that run nothing.
+#[tactic(auto, unfolding(crate::specs::Shape::checking))]
+fn checking_commands<'a>(alloc: Global) -> Result<Command<'a>, AllocError>
+    ensures app { IfOk result (λ c. app_of c ≡ checking) }
+    ensures local { IfOk result (λ c. (out-Command c).has_globals ≡ false) }
+{
+    let reading = reading_commands(alloc)?;
+    let check = check_command(alloc)?;
+    add(reading, check)
+}
+
+// The program with all commands but that which runs the cell on threads.
+#[tactic(auto, unfolding(crate::specs::Shape::simulating))]
+fn simulating_commands<'a>(alloc: Global) -> Result<Command<'a>, AllocError>
+    ensures app { IfOk result (λ c. app_of c ≡ simulating) }
+    ensures local { IfOk result (λ c. (out-Command c).has_globals ≡ false) }
+{
+    let checking = checking_commands(alloc)?;
+    let sim = running_command(alloc, "sim", SIM_ABOUT, SIM_HELP, SIM_EXAMPLE)?;
+    add(checking, sim)
+}
+
+// The program with all commands.
+fn all_commands<'a>(alloc: Global) -> Result<Command<'a>, AllocError>
+    ensures app { IfOk result (λ c. app_of c ≡ with_subcommand simulating (running (codes "run")).top) }
+    ensures local { IfOk result (λ c. (out-Command c).has_globals ≡ false) }
+{
+    let simulating = simulating_commands(alloc)?;
+    let run = running_command(alloc, "run", RUN_ABOUT, RUN_HELP, RUN_EXAMPLE)?;
+    add(simulating, run)
+}
+
+/// The command line of the program.
+pub(crate) fn command<'a>(alloc: Global) -> Result<Command<'a>, AllocError>
+    ensures app { IfOk result (λ c. app_of c ≡ cellctl) }
+    ensures local { IfOk result (λ c. (out-Command c).has_globals ≡ false) }
+{
+    let command = all_commands(alloc)?;
+    Ok(
+        command
+            .about(ABOUT)
+            .version(VERSION)
+            .after_help(AFTER)
+            .subcommand_required(true)
+            .arg_required_else_help(true),
+    )
+}

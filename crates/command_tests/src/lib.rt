@@ -1,0 +1,7 @@
+//! The tests of `cell_command`.
+#![tactic(auto)]
+
+#[cfg(test)]
+mod refused;
+#[cfg(test)]
+mod words;
