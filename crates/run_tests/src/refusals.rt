@@ -65,20 +65,36 @@ fn tells_scripts_that_are_too_long(rt: HostRuntime) -> Result<(), Fail> {
     Ok(())
 }
 
+// A run, or its journal, over a writer that fails after so many bytes has to answer this.
+fn check_cut<R: AllocGlobal + Abort + Threads + Wait + Sync>(
+    rt: &R,
+    left: usize,
+    journal: bool,
+    wanted: Result<u8, WriteFault>,
+) {
+    let mut writer = FailingWriter::new(Vec::new(rt.alloc()), left);
+    let answer = run_texts(rt, GOOD, b"", b"", false, journal, &mut writer);
+    assert_eq!(rt; answer, wanted, "after {left} bytes");
+}
+
 #[test]
 fn a_failed_write_is_told(rt: HostRuntime) {
     let lines = b"finished\nadmitted 1\nforged 1\nquarantined 0\ndelivered 1\n".len();
     for left in 0..lines + 1 {
-        let mut writer = FailingWriter::new(Vec::new(rt.alloc()), left);
-        let answer = run_texts(&rt, GOOD, b"", b"", false, false, &mut writer);
         let wanted = if left < lines { Err(WriteFault) } else { Ok(0) };
-        assert_eq!(rt; answer, wanted, "after {left} bytes");
+        check_cut(&rt, left, false, wanted);
     }
+}
+
+#[test]
+fn a_failed_write_of_the_journal_is_told(rt: HostRuntime) {
     for left in 0..40usize {
-        let mut writer = FailingWriter::new(Vec::new(rt.alloc()), left);
-        let answer = run_texts(&rt, GOOD, b"", b"", false, true, &mut writer);
-        assert_eq!(rt; answer, Err(WriteFault), "after {left} bytes");
+        check_cut(&rt, left, true, Err(WriteFault));
     }
+}
+
+#[test]
+fn a_writer_that_takes_nothing_is_told(rt: HostRuntime) {
     for journal in [false, true] {
         let answer = run_texts(&rt, GOOD, b"", b"", false, journal, &mut Unwilling);
         assert_eq!(rt; answer, Err(WriteFault), "nothing was taken");

@@ -29,6 +29,35 @@ fn written_of<R: AllocGlobal + Abort + Threads + Wait + Sync>(
     written
 }
 
+// What the audit prints of a run's journal, which has to be legal.
+fn audited<R: AllocGlobal + Abort>(rt: &R, journal: &[u8]) -> Vec<u8> {
+    let mut written = Vec::new(rt.alloc());
+    let answer = audit_lines(rt.alloc(), journal, &mut written);
+    assert_eq!(rt; answer, Ok(0));
+    written
+}
+
+// A text has to be of a first and a last part.
+fn check_parts<R: Abort>(rt: &R, text: &[u8], first: &str, last: &str) {
+    assert!(rt; text.starts_with(first.as_bytes()));
+    assert!(rt; text.ends_with(last.as_bytes()));
+    assert_eq!(rt; text.len(), first.len().saturating_add(last.len()));
+}
+
+// A run's journal has to audit as legal, with these totals, and so many plates laid back.
+fn check_journal<R: AllocGlobal + Abort>(
+    rt: &R,
+    journal: &[u8],
+    totals: &str,
+    laid_back: u32,
+) -> Result<(), Fail> {
+    let audited = audited(rt, journal);
+    assert!(rt; audited.as_slice().starts_with(b"legal "));
+    let due = format!(in rt.alloc(); "{totals}reinstated {laid_back}\n")?;
+    assert!(rt; audited.as_slice().ends_with(due.as_str().as_bytes()));
+    Ok(())
+}
+
 // A run on threads that has to write an end's line and these lines of totals. Its journal has to audit as legal, with the same
 // totals.
 fn check_run<R: AllocGlobal + Abort + Threads + Wait + Sync>(
@@ -40,18 +69,9 @@ fn check_run<R: AllocGlobal + Abort + Threads + Wait + Sync>(
     laid_back: u32,
 ) -> Result<(), Fail> {
     let written = written_of(rt, texts, false, status);
-    let lines = written.as_slice();
-    assert!(rt; lines.starts_with(end.as_bytes()));
-    assert!(rt; lines.ends_with(totals.as_bytes()));
-    assert_eq!(rt; lines.len(), end.len().saturating_add(totals.len()));
+    check_parts(rt, written.as_slice(), end, totals);
     let journal = written_of(rt, texts, true, status);
-    let mut audited = Vec::new(rt.alloc());
-    let answer = audit_lines(rt.alloc(), journal.as_slice(), &mut audited);
-    assert_eq!(rt; answer, Ok(0));
-    assert!(rt; audited.as_slice().starts_with(b"legal "));
-    let due = format!(in rt.alloc(); "{totals}reinstated {laid_back}\n")?;
-    assert!(rt; audited.as_slice().ends_with(due.as_str().as_bytes()));
-    Ok(())
+    check_journal(rt, journal.as_slice(), totals, laid_back)
 }
 
 #[test]
@@ -99,6 +119,11 @@ fn count_lines(text: &[u8]) -> usize {
     text.iter().filter(|byte| **byte == b'\n').count()
 }
 
+// Fails, with the limit, where this doesn't hold.
+fn check<R: Abort>(rt: &R, holds: bool, limit: usize) {
+    assert!(rt; holds, "with {limit}");
+}
+
 // A run whose journal takes so many entries, which five plates fill. Its journal, after the line of its profile, has at most
 // six entries more, and audits as legal.
 fn check_full<R: AllocGlobal + Abort + Threads + Wait + Sync>(
@@ -108,19 +133,13 @@ fn check_full<R: AllocGlobal + Abort + Threads + Wait + Sync>(
     let settings = format!(in rt.alloc(); "plates = 5\njournal_limit = {limit}\n")?;
     let texts = [settings.as_str(), "", ""];
     let written = written_of(rt, texts, false, 1);
-    assert!(rt;
-        written.as_slice().starts_with(b"full\nadmitted "),
-        "with {limit}"
-    );
+    let is_full = written.as_slice().starts_with(b"full\nadmitted ");
+    check(rt, is_full, limit);
     let journal = written_of(rt, texts, true, 1);
     let entries = count_lines(journal.as_slice()).saturating_sub(1);
-    assert!(rt;
-        limit <= entries && entries <= limit.saturating_add(6),
-        "with {limit}"
-    );
-    let mut audited = Vec::new(rt.alloc());
-    let answer = audit_lines(rt.alloc(), journal.as_slice(), &mut audited);
-    assert_eq!(rt; answer, Ok(0), "with {limit}");
+    check(rt, limit <= entries, limit);
+    check(rt, entries <= limit.saturating_add(6), limit);
+    let _ = audited(rt, journal.as_slice());
     Ok(())
 }
 
@@ -132,26 +151,38 @@ fn writes_that_the_journal_was_full(rt: HostRuntime) -> Result<(), Fail> {
     Ok(())
 }
 
+// Three texts of which one is refused with this line.
+fn check_refused<R: AllocGlobal + Abort + Threads + Wait + Sync>(
+    rt: &R,
+    texts: [&str; 3],
+    journal: bool,
+    line: &[u8],
+) {
+    let written = written_of(rt, texts, journal, 1);
+    assert_eq!(rt; written.as_slice(), line);
+}
+
 #[test]
 fn refuses_texts_before_a_thread_is_started(rt: HostRuntime) {
-    let written = written_of(&rt, ["plates = 0", "brew", "brew"], false, 1);
-    assert_eq!(rt;
-        written.as_slice(),
-        b"settings OutOfRange plates\n".as_slice()
-    );
-    let written = written_of(&rt, ["plates = 5", "brew", "brew"], true, 1);
-    assert_eq!(rt; written.as_slice(), b"faults unreadable 1\n".as_slice());
-    let written = written_of(&rt, ["plates = 5", "", "brew"], true, 1);
-    assert_eq!(rt; written.as_slice(), b"operator unreadable 1\n".as_slice());
+    let settings = b"settings OutOfRange plates\n";
+    check_refused(&rt, ["plates = 0", "brew", "brew"], false, settings);
+    let faults = b"faults unreadable 1\n";
+    check_refused(&rt, ["plates = 5", "brew", "brew"], true, faults);
+    let operator = b"operator unreadable 1\n";
+    check_refused(&rt, ["plates = 5", "", "brew"], true, operator);
+}
+
+// A run on threads, or its journal, over a writer that fails at once, and over one that takes nothing.
+fn check_failing<R: AllocGlobal + Abort + Threads + Wait + Sync>(rt: &R, journal: bool) {
+    let mut writer = FailingWriter::new(Vec::new(rt.alloc()), 0);
+    let answer = run_texts(rt, b"plates = 1", b"", b"", true, journal, &mut writer);
+    assert_eq!(rt; answer, Err(WriteFault));
+    let answer = run_texts(rt, b"plates = 1", b"", b"", true, journal, &mut Unwilling);
+    assert_eq!(rt; answer, Err(WriteFault), "nothing was taken");
 }
 
 #[test]
 fn a_failed_write_is_told(rt: HostRuntime) {
-    for journal in [false, true] {
-        let mut writer = FailingWriter::new(Vec::new(rt.alloc()), 0);
-        let answer = run_texts(&rt, b"plates = 1", b"", b"", true, journal, &mut writer);
-        assert_eq!(rt; answer, Err(WriteFault));
-        let answer = run_texts(&rt, b"plates = 1", b"", b"", true, journal, &mut Unwilling);
-        assert_eq!(rt; answer, Err(WriteFault), "nothing was taken");
-    }
+    check_failing(&rt, false);
+    check_failing(&rt, true);
 }

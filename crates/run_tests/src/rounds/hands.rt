@@ -1,5 +1,6 @@
 //! Runs whose operator's hands fail.
-use cell_runs::{Inputs, read_inputs, simulate};
+use crate::rounds::inputs_of;
+use cell_runs::{Inputs, Outcome, simulate};
 use cell_samples::{CLEARED_PRESS, STUCK_PRESS};
 use cell_sim::{SimOperator, World};
 use cell_types::Machine;
@@ -8,7 +9,27 @@ use port_samples::{Failing, TellingHands};
 use std::process::Abort;
 use std::sync::{Mutex, Wait};
 
-// A run of six plates in which the second press fails and is to be cleared and repaired by such hands.
+// What comes of a run of six plates in which the second press fails and is to be cleared and repaired by such hands.
+fn played<R: AllocGlobal + Wait + Abort>(rt: &R, removing: Failing, homing: Failing) -> Outcome {
+    let faults = STUCK_PRESS.as_bytes();
+    let lines = CLEARED_PRESS.as_bytes();
+    let Inputs {
+        plan,
+        faults,
+        script,
+    } = inputs_of(rt, b"plates = 6", faults, lines);
+    let world = Mutex::new(World::new(plan.plates));
+    let hands = SimOperator::new(rt, &world);
+    let Ok(mut hands) = TellingHands::new(rt.alloc(), hands, removing, homing, 10) else {
+        panic!(rt; "there is memory");
+    };
+    match simulate(rt, &plan, &faults, script, &world, &mut hands) {
+        Ok(outcome) => outcome,
+        Err(_) => panic!(rt; "there is memory"),
+    }
+}
+
+// That run has to end so, with five plates forged and delivered and so many in quarantine, and with the press booked failed.
 fn check_failing<R: AllocGlobal + Wait + Abort>(
     rt: &R,
     removing: Failing,
@@ -16,31 +37,16 @@ fn check_failing<R: AllocGlobal + Wait + Abort>(
     end: End,
     quarantined: u32,
 ) {
-    let alloc = rt.alloc();
-    let faults = STUCK_PRESS.as_bytes();
-    let lines = CLEARED_PRESS.as_bytes();
-    let Ok(inputs) = read_inputs(alloc, b"plates = 6", faults, lines) else {
-        panic!(rt; "the texts are good");
-    };
-    let Inputs {
-        plan,
-        faults,
-        script,
-    } = inputs;
-    let world = Mutex::new(World::new(plan.plates));
-    let hands = SimOperator::new(rt, &world);
-    let Ok(mut hands) = TellingHands::new(alloc, hands, removing, homing, 10) else {
-        panic!(rt; "there is memory");
-    };
-    let Ok(outcome) = simulate(rt, &plan, &faults, script, &world, &mut hands) else {
-        panic!(rt; "there is memory");
-    };
+    let outcome = played(rt, removing, homing);
     let totals = outcome.book.totals();
     assert_eq!(rt; outcome.end, end);
-    assert_eq!(rt; totals.admitted, 6);
-    assert_eq!(rt; totals.forged, 5);
-    assert_eq!(rt; totals.quarantined, quarantined);
-    assert_eq!(rt; totals.delivered, 5);
+    let counted = [
+        totals.admitted,
+        totals.forged,
+        totals.quarantined,
+        totals.delivered,
+    ];
+    assert_eq!(rt; counted, [6, 5, quarantined, 5]);
     assert!(rt; outcome.book.failed(Machine::Press2));
 }
 

@@ -1,6 +1,5 @@
 //! Runs in which a plate that was cleared before it was forged is laid back.
-use crate::rounds::{check_run, told};
-use cell_audit::audit;
+use crate::rounds::{check_run, told, totals_of};
 use std::process::Abort;
 use std::sync::Wait;
 use std::test::Fail;
@@ -19,10 +18,7 @@ fn reinstated<R: AllocGlobal + Abort + Threads + Wait + Sync>(
     operator: &[u8],
 ) -> u32 {
     let (journal, _) = told(rt, settings, NO_LINES, operator, true);
-    match audit(rt.alloc(), journal.as_slice()) {
-        Ok((_, totals)) => totals.reinstated,
-        Err(error) => panic!(rt; "the journal is legal: {error:?}"),
-    }
+    totals_of(rt, journal.as_slice()).reinstated
 }
 
 #[test]
