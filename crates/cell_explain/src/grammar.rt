@@ -1,6 +1,6 @@
 //! Which fields the records of a text have.
 use crate::fields::Fields;
-use crate::wanted::Wanted;
+use crate::wanted::{Wanted, is_one_of};
 
 const KINDS_OF_ONE: Wanted = Wanted::Word(
     "lamp, admitted, claimed, yielded, started, arrived, conveyed, forged, gripped, dropped, delivered, declared, stop_asked, quarantined, repaired",
@@ -56,18 +56,28 @@ const NOTHING: Wanted = Wanted::Nothing;
 
 // What may stand in the last three fields of the record of an entry, by the word of its kind.
 fn entry_named(kind: &[u8]) -> (Wanted, Wanted, Wanted) {
-    match kind {
-        b"lamp" => (BELT, COLOUR, NOTHING),
-        b"claimed" | b"yielded" => (MACHINE, ZONE, NOTHING),
-        b"started" | b"arrived" => (AXIS, POSE, NOTHING),
-        b"conveyed" => (AXIS, PLATE, STATION),
-        b"forged" => (MACHINE, PLATE, NOTHING),
-        b"gripped" | b"dropped" => (ARM, PLATE, STATION),
-        b"declared" => (MACHINE, CAUSE, NOTHING),
-        b"stop_asked" | b"repaired" => (MACHINE, NOTHING, NOTHING),
-        b"quarantined" => (PLATE, STATION, NOTHING),
-        b"admitted" | b"delivered" | b"expected" | b"reinstated" => (PLATE, NOTHING, NOTHING),
-        _ => (NOTHING, NOTHING, NOTHING),
+    if is_one_of(kind, "lamp") {
+        (BELT, COLOUR, NOTHING)
+    } else if is_one_of(kind, "claimed, yielded") {
+        (MACHINE, ZONE, NOTHING)
+    } else if is_one_of(kind, "started, arrived") {
+        (AXIS, POSE, NOTHING)
+    } else if is_one_of(kind, "conveyed") {
+        (AXIS, PLATE, STATION)
+    } else if is_one_of(kind, "forged") {
+        (MACHINE, PLATE, NOTHING)
+    } else if is_one_of(kind, "gripped, dropped") {
+        (ARM, PLATE, STATION)
+    } else if is_one_of(kind, "declared") {
+        (MACHINE, CAUSE, NOTHING)
+    } else if is_one_of(kind, "stop_asked, repaired") {
+        (MACHINE, NOTHING, NOTHING)
+    } else if is_one_of(kind, "quarantined") {
+        (PLATE, STATION, NOTHING)
+    } else if is_one_of(kind, "admitted, delivered, expected, reinstated") {
+        (PLATE, NOTHING, NOTHING)
+    } else {
+        (NOTHING, NOTHING, NOTHING)
     }
 }
 

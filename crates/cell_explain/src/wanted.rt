@@ -13,11 +13,16 @@ pub(crate) enum Wanted {
     Nothing,
 }
 
+/// Whether the bytes are one of these words, which are parted by a comma and a blank.
+pub(crate) fn is_one_of(bytes: &[u8], words: &str) -> bool {
+    words.split(", ").any(|word| word.as_bytes() == bytes)
+}
+
 impl Wanted {
     // Whether the bytes may stand in the field.
     fn allows(self, field: &[u8]) -> bool {
         match self {
-            Wanted::Word(words) => words.split(", ").any(|word| word.as_bytes() == field),
+            Wanted::Word(words) => is_one_of(field, words),
             Wanted::Number(low, most) => {
                 low == 0 && field == b"0".as_slice() || read_number(most, field).is_some()
             }

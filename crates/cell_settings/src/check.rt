@@ -3,7 +3,7 @@ ghost use Rattle.std.specs.Prelude.{◌≡◌, IfOk, IsErr, OnOk, true};
 ghost use Rattle.std.specs.Io.KnownBytes.{Appends};
 ghost use Rattle.cell_audit.specs.Watched.{IsSameWriter, WritesPart, bytes_held, has_refused};
 ghost use Rattle.cell_settings.specs.Settings.{numbers_of};
-ghost use Rattle.cell_settings.specs.Checked.{TellsCheck, TellsPart, WritesLine, line_of, path_line};
+ghost use Rattle.cell_settings.specs.Checked.{TellsCheck, TellsPart, WritesLine, error_line, line_of, path_line};
 
 use crate::error::SettingsError;
 use crate::escaped::write_escaped;
@@ -31,6 +31,26 @@ fn write_path<W: Write>(
     writer.write_bytes(b"\n")
 }
 
+// Writes the line of an error.
+fn write_error<W: Write>(
+    writer: &mut WatchedWriter<'_, W>,
+    error: &SettingsError,
+) -> Result<(), WriteFault>
+    ensures writer { IsSameWriter writer.old writer.new }
+    ensures whole { OnOk result (Appends (bytes_held W.contents writer.old) (bytes_held W.contents writer.new) (error_line error.now)) }
+    ensures part { IsErr result → WritesPart (bytes_held W.contents writer.old) (bytes_held W.contents writer.new) (error_line error.now) }
+    ensures fault { IsErr result → has_refused writer.new ≡ true }
+{
+    match error {
+        SettingsError::NotToml => writer.write_bytes(b"settings NotToml\n"),
+        SettingsError::UnknownKey(path) => write_path(writer, "settings UnknownKey ", path),
+        SettingsError::Missing(path) => write_path(writer, "settings Missing ", path),
+        SettingsError::NotNumber(path) => write_path(writer, "settings NotNumber ", path),
+        SettingsError::OutOfRange(path) => write_path(writer, "settings OutOfRange ", path),
+        SettingsError::OutOfMemory => Ok(()),
+    }
+}
+
 // Writes the line of an answer.
 fn write_line<W: Write>(
     writer: &mut WatchedWriter<'_, W>,
@@ -43,12 +63,7 @@ fn write_line<W: Write>(
 {
     match answer {
         Ok(_) => writer.write_bytes(b"settings ok\n"),
-        Err(SettingsError::NotToml) => writer.write_bytes(b"settings NotToml\n"),
-        Err(SettingsError::UnknownKey(path)) => write_path(writer, "settings UnknownKey ", path),
-        Err(SettingsError::Missing(path)) => write_path(writer, "settings Missing ", path),
-        Err(SettingsError::NotNumber(path)) => write_path(writer, "settings NotNumber ", path),
-        Err(SettingsError::OutOfRange(path)) => write_path(writer, "settings OutOfRange ", path),
-        Err(SettingsError::OutOfMemory) => Ok(()),
+        Err(error) => write_error(writer, error),
     }
 }
 

@@ -1,5 +1,5 @@
 -- What a report says: each worker's list is its entries of the journal, and the counts of all add up
-use Rattle.std.proofs.Common.{◌≡◌, ℕ, ◌+◌, Some, List, [], ◌∷◌, ◌++◌, take, sym, ap, ap₂, ◌∙◌}
+use Rattle.std.proofs.Common.{◌≡◌, ℕ, ◌+◌, Some, List, [], ◌∷◌, ◌++◌, take, sym, ap, ◌∙◌}
 use Rattle.std.specs.Prelude.{slice_get}
 use Rattle.std.proofs.lemmas.List.Elements.{filter-append}
 use Rattle.cell_types.specs.declared.words.Actor.{Actor}
@@ -9,16 +9,11 @@ use Rattle.cell_turns.specs.Schedules.{same_actor, entries_of}
 use Rattle.cell_journal.proofs.JournalLaws.{take_get}
 use Rattle.cell_types.specs.declared.words.Totals.{Totals}
 use Rattle.cell_ledger.specs.Counts.{nothing, plus}
-use Rattle.cell_ledger.specs.Held.{Held, held}
 use Rattle.cell_turns.proofs.Schedules.{plus_none}
 
 -- the last one's counts
-pub sum_last : (k : Totals) (s : Held) → k ≡ s.counts → plus k nothing ≡ s.counts
-sum_last k s is = sym (plus_none k) ∙ is
-
--- with those of one worker more
-pub sum_more : (k x : Totals) (s a next : Held) (n : ℕ) → k ≡ s.counts → next ≡ held n (plus s.counts a.counts) → x ≡ a.counts → plus k x ≡ next.counts
-sum_more k x s a next n is gathered rest = ap₂ plus is rest ∙ sym (ap (λ (h : Held). h.counts) gathered)
+pub plus_nothing : (k : Totals) → plus k nothing ≡ k
+plus_nothing k = sym (plus_none k)
 
 -- a list that agrees with the first entries of the journal, with the next one
 pub agrees_more : (a : Actor) (J own : List Entry) (place k n : ℕ) (e : Entry) → slice_get J place ≡ Some e → take k own ≡ entries_of a (take place J) → take n own ≡ take k own ++ entries_of a (e ∷ []) → take n own ≡ entries_of a (take (place + 1) J)

@@ -1,10 +1,14 @@
 //! A whole run, and what it reports.
-ghost use Rattle.std.specs.Prelude.{◌≡◌, ◌≤◌, ◌++◌, ◌∷◌, [], true, length, take, map, IfOk, IfSome, IsTrue};
+ghost use Rattle.std.specs.Prelude.{◌≡◌, ◌≤◌, ◌+◌, ◌++◌, ◌∷◌, [], true, length, take, map, IfOk, IfSome, IsTrue};
 ghost use Rattle.cell_types.specs.Entries.{actor_of};
 ghost use Rattle.cell_types.specs.Same.{same_machine};
+ghost use Rattle.cell_types.specs.declared.words.Machine.{Machine as MachineValue};
+ghost use Rattle.cell_views.specs.Views.{count_of};
+ghost use Rattle.cell_ledger.specs.Counts.{nothing, plus};
 ghost use Rattle.cell_ledger.specs.Held.{held};
 ghost use Rattle.cell_ledger.specs.New.{AreBlank};
 ghost use Rattle.cell_turns.specs.Schedules.{same_actor, entries_of};
+ghost use Rattle.cell_turns.specs.Six.{at};
 ghost use Rattle.cell_workers.specs.Standing.{all_called_for};
 ghost use Rattle.cell_workers.specs.Report.{IsReport, AreAllOf};
 
@@ -13,7 +17,7 @@ use crate::hall::{Hall, Room};
 use crate::team::{Crew, Done, Lent, Team, crew_of, lend, run_team};
 use crate::{OperatorPort, Plan, Port, Ports, Six};
 use cell_journal::Journal;
-use cell_ledger::{Blanks, Kept, Run};
+use cell_ledger::{Blanks, Kept, Run, Shares};
 use cell_types::same::is_entry;
 use cell_types::{Actor, Entry, Machine, Totals, actor_of};
 use operator_desk::Script;
@@ -119,6 +123,63 @@ fn all_agree(
         && agrees(journal, Actor::Operator, operator)
 }
 
+/// A worker's list with what its shares count, and its shares put together with those of others.
+fn gather_done<R: Run>(
+    kept: &mut Kept<R>,
+    done: Done<R>,
+    others: Shares<R>,
+) -> ((Vec<Entry>, Totals), Shares<R>)
+    ensures kept { kept.new ≡ kept.old }
+    ensures counted { result.0.1 ≡ count_of result.0.0.items }
+    ensures parts { result.1.parts ≡ 1 + others.parts }
+    ensures sum { result.1.counts ≡ plus result.0.1 others.counts }
+{
+    let Done { entries, shares } = done;
+    let counts = shares.counts();
+    let all = kept.gather(shares, others);
+    ((entries, counts), all)
+}
+
+/// The machines' lists and the operator's, each with what its worker's shares count, and the shares of all.
+#[tactic(auto, using(crate::proofs::Reports::plus_nothing))]
+fn gather_team<R: Run>(
+    kept: &mut Kept<R>,
+    team: Team<R>,
+) -> (Six<(Vec<Entry>, Totals)>, (Vec<Entry>, Totals), Shares<R>)
+    ensures kept { kept.new ≡ kept.old }
+    ensures machines { (machine : MachineValue) → (at result.0 machine).1 ≡ count_of (at result.0 machine).0.items }
+    ensures operator { result.1.1 ≡ count_of result.1.0.items }
+    ensures parts { result.2.parts ≡ 7 }
+    ensures sum { result.2.counts ≡ plus result.0.feed.1 (plus result.0.table.1 (plus result.0.robot.1 (plus result.0.press1.1 (plus result.0.press2.1 (plus result.0.deposit.1 (plus result.1.1 nothing)))))) }
+{
+    let Team { machines, operator } = team;
+    let Six {
+        feed,
+        table,
+        robot,
+        press1,
+        press2,
+        deposit,
+    } = machines;
+    let Done { entries, shares } = operator;
+    let counts = shares.counts();
+    let (deposit, all) = gather_done(kept, deposit, shares);
+    let (press2, all) = gather_done(kept, press2, all);
+    let (press1, all) = gather_done(kept, press1, all);
+    let (robot, all) = gather_done(kept, robot, all);
+    let (table, all) = gather_done(kept, table, all);
+    let (feed, all) = gather_done(kept, feed, all);
+    let machines = Six {
+        feed,
+        table,
+        robot,
+        press1,
+        press2,
+        deposit,
+    };
+    (machines, (entries, counts), all)
+}
+
 /// What the workers bring back, against the journal.
 fn settle<R: Run>(hall: Hall<R>, team: Team<R>) -> Result<Report, RunError>
     requires { R.parts ≡ 7 }
@@ -130,7 +191,11 @@ fn settle<R: Run>(hall: Hall<R>, team: Team<R>) -> Result<Report, RunError>
         lost: _,
         end,
     } = hall;
-    let Team { machines, operator } = team;
+    let (machines, operator, mut all) = gather_team(&mut kept, team);
+    kept.audit(&mut all);
+    kept.is_lawful();
+    let totals = all.counts();
+    let journal = kept.into_book().into_journal();
     let Six {
         feed,
         table,
@@ -139,79 +204,24 @@ fn settle<R: Run>(hall: Hall<R>, team: Team<R>) -> Result<Report, RunError>
         press2,
         deposit,
     } = machines;
-    let Done {
-        entries: feed,
-        shares: feed_shares,
-    } = feed;
-    let Done {
-        entries: table,
-        shares: table_shares,
-    } = table;
-    let Done {
-        entries: robot,
-        shares: robot_shares,
-    } = robot;
-    let Done {
-        entries: press1,
-        shares: press1_shares,
-    } = press1;
-    let Done {
-        entries: press2,
-        shares: press2_shares,
-    } = press2;
-    let Done {
-        entries: deposit,
-        shares: deposit_shares,
-    } = deposit;
-    let Done {
-        entries: operator,
-        shares: operator_shares,
-    } = operator;
-    let counts = [
-        feed_shares.counts(),
-        table_shares.counts(),
-        robot_shares.counts(),
-        press1_shares.counts(),
-        press2_shares.counts(),
-        deposit_shares.counts(),
-        operator_shares.counts(),
-    ];
-    let all = kept.gather(deposit_shares, operator_shares);
-    let all = kept.gather(press2_shares, all);
-    let all = kept.gather(press1_shares, all);
-    let all = kept.gather(robot_shares, all);
-    let all = kept.gather(table_shares, all);
-    let mut all = kept.gather(feed_shares, all);
-    kept.audit(&mut all);
-    kept.is_lawful();
-    let totals = all.counts();
-    let journal = kept.into_book().into_journal();
     let same = all_agree(
         &journal,
-        feed.as_slice(),
-        table.as_slice(),
-        robot.as_slice(),
-        press1.as_slice(),
-        press2.as_slice(),
-        deposit.as_slice(),
-        operator.as_slice(),
+        feed.0.as_slice(),
+        table.0.as_slice(),
+        robot.0.as_slice(),
+        press1.0.as_slice(),
+        press2.0.as_slice(),
+        deposit.0.as_slice(),
+        operator.0.as_slice(),
     );
+    let workers = [feed, table, robot, press1, press2, deposit, operator];
     if !same {
         return Err(RunError::JournalDisagrees);
     }
-    let [c0, c1, c2, c3, c4, c5, c6] = counts;
     Ok(Report {
         journal,
         totals,
-        workers: [
-            (feed, c0),
-            (table, c1),
-            (robot, c2),
-            (press1, c3),
-            (press2, c4),
-            (deposit, c5),
-            (operator, c6),
-        ],
+        workers,
         end: end.unwrap_or(End::Stalled),
     })
 }
