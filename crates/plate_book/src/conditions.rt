@@ -1,5 +1,7 @@
 //! The tests, each with its refusal, in the words of the table.
-ghost use Rattle.std.specs.Prelude.{◌≡◌};
+ghost use Rattle.std.specs.Prelude.{◌≡◌, ◌||◌, not};
+ghost use Rattle.cell_types.specs.Same.{same_pose};
+ghost use Rattle.cell_types.specs.Cell.{is_pose_of};
 ghost use Rattle.plate_book.specs.Records.Recorded.{recorded};
 ghost use Rattle.plate_book.specs.Rules.First.{not_at_rest, not_resting_at, cannot_go, not_going, zone_taken, not_holder, station_empty, station_full, plate_not_at, other_plate_at, lamp_red, lamp_already, visited, still_there, journal_full, plate_limit, machine_failed, machine_healthy, owner_failed, visits_failed, no_neighbour, wrong_number, ends_by_arrival, no_arrival, is_before_press, waits_behind, not_waiting, plate_expected, not_returnable, not_expected};
 
@@ -120,12 +122,25 @@ impl Registers {
         (!self.rests_at(axis, pose), Refusal::WrongPose(axis))
     }
 
+    // Whether an axis stands in a pose, or left it last.
+    fn is_at(&self, axis: Axis, pose: Pose) -> bool
+        ensures { result ≡ same_pose ((recorded self.now).at axis) pose }
+    {
+        self.at(axis) == pose
+    }
+
+    // Whether an axis has no such pose, or stands in it already.
+    fn has_no_way(&self, axis: Axis, pose: Pose) -> bool
+        ensures { result ≡ (not (is_pose_of axis pose) || same_pose ((recorded self.now).at axis) pose) }
+    {
+        !is_pose_of(axis, pose) || self.is_at(axis, pose)
+    }
+
     pub fn cannot_go(&self, axis: Axis, to: Pose) -> (bool, Refusal)
         ensures { result ≡ cannot_go (recorded self.now) axis to }
     {
-        let is_there = self.at(axis) == to;
         (
-            self.is_moving(axis) || !is_pose_of(axis, to) || is_there,
+            self.is_moving(axis) || self.has_no_way(axis, to),
             Refusal::WrongPose(axis),
         )
     }
