@@ -1,4 +1,5 @@
 //! What is said of a run's end.
+use crate::same::check_same;
 use cell_endings::write_ending;
 use cell_runs::run_texts_kept;
 use std::process::Abort;
@@ -43,7 +44,7 @@ fn stalls<R: AllocGlobal + Abort + Threads + Wait + Sync>(
     let mut said = Vec::new(alloc);
     write_ending(alloc, &journal, FAULTS, operator, &mut said)?;
     let said = String::from_utf8_lossy(alloc, said.as_slice())?;
-    assert_eq!(rt; said.as_str(), wanted);
+    check_same(rt, &"what is said", &said.as_str(), &wanted);
     Ok(())
 }
 
@@ -58,5 +59,6 @@ fn no_journal_is_kept_where_a_text_is_refused(rt: HostRuntime) {
     let mut written = Vec::new(rt.alloc());
     let ran = run_texts_kept(&rt, SIX, b"x", b"", false, false, &mut written);
     assert!(rt; matches!(ran, Ok((1, None))));
-    assert_eq!(rt; written.as_slice(), b"faults unreadable 1\n".as_slice());
+    let refused = b"faults unreadable 1\n".as_slice();
+    check_same(&rt, &"what is written", &written.as_slice(), &refused);
 }

@@ -1,4 +1,6 @@
 //! What is said of journals: legal ones, refused ones and ones that can't be read.
+use crate::said::{Kind, check_said};
+use crate::same::check_same;
 use cell_audit::WriteFault;
 use cell_explain::explain_journal;
 use std::alloc::Global;
@@ -13,11 +15,7 @@ fn are_explained(
     cases: &[(&str, &str)],
 ) -> Result<(), Fail> {
     for (text, wanted) in cases {
-        let mut written = Vec::new(alloc);
-        let answer = explain_journal(alloc, text.as_bytes(), &mut written);
-        let said = String::from_utf8_lossy(alloc, written.as_slice())?;
-        assert_eq!(rt; said.as_str(), *wanted);
-        assert_eq!(rt; answer, Ok(status), "{wanted}");
+        check_said(rt, alloc, Kind::Journal, text, status, wanted)?;
     }
     Ok(())
 }
@@ -177,6 +175,6 @@ fn a_writer_that_fails_is_told_of(rt: HostRuntime) {
         let mut room = [0; 60];
         let mut writer = &mut room[..len];
         let answer = explain_journal(rt.alloc(), text, &mut writer);
-        assert_eq!(rt; answer, Err(WriteFault), "{len}");
+        check_same(&rt, &len, &answer, &Err(WriteFault));
     }
 }

@@ -8,6 +8,10 @@ mod journals;
 #[cfg(test)]
 mod readings;
 #[cfg(test)]
+mod said;
+#[cfg(test)]
+mod same;
+#[cfg(test)]
 mod scripts;
 #[cfg(test)]
 mod sentences;

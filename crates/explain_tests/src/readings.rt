@@ -1,4 +1,5 @@
 //! What is read of journals' texts: the answer, and the entries before the place that it names.
+use crate::same::check_same;
 use cell_audit::{AuditError, Reading, read_journal};
 use cell_samples::{FailingReader, entry_of};
 use cell_types::{Belt, Totals};
@@ -19,13 +20,10 @@ fn is_read(
         book,
         answer: found,
     } = read_journal(alloc, text.as_bytes())?;
-    assert_eq!(rt; found, answer, "{text}");
-    assert_eq!(rt; book.journal().len(), count, "{text}");
-    assert_eq!(rt;
-        book.journal().get(count.saturating_sub(1)),
-        entry_of(last),
-        "{text}"
-    );
+    let entry = book.journal().get(count.saturating_sub(1));
+    check_same(rt, &text, &found, &answer);
+    check_same(rt, &text, &book.journal().len(), &count);
+    check_same(rt, &text, &entry, &entry_of(last));
     Ok(())
 }
 
@@ -73,7 +71,7 @@ fn a_journal_is_read_up_to_where_its_reader_fails(rt: HostRuntime) -> Result<(),
     let text = b"profile,1,,\nlamp,feed,green,\n".as_slice();
     let reader = FailingReader::new(text, text.len());
     let Reading { book, answer } = read_journal(rt.alloc(), reader)?;
-    assert_eq!(rt; answer, Err(AuditError::ReadFault));
-    assert_eq!(rt; book.journal().len(), 1);
+    check_same(&rt, &"the answer", &answer, &Err(AuditError::ReadFault));
+    check_same(&rt, &"entries", &book.journal().len(), &1);
     Ok(())
 }

@@ -1,40 +1,6 @@
 //! What is said of scripts of faults and of the operator.
-use cell_explain::{explain_faults, explain_operator};
-use std::alloc::Global;
-use std::process::Abort;
+use crate::said::{Kind, check_said};
 use std::test::Fail;
-
-// This is said of a script of faults, with this status.
-fn faults_are(
-    rt: &impl Abort,
-    alloc: Global,
-    text: &str,
-    status: u8,
-    wanted: &str,
-) -> Result<(), Fail> {
-    let mut written = Vec::new(alloc);
-    let answer = explain_faults(alloc, text.as_bytes(), &mut written);
-    let said = String::from_utf8_lossy(alloc, written.as_slice())?;
-    assert_eq!(rt; said.as_str(), wanted);
-    assert_eq!(rt; answer, Ok(status), "{wanted}");
-    Ok(())
-}
-
-// This is said of the operator's script, with this status.
-fn lines_are(
-    rt: &impl Abort,
-    alloc: Global,
-    text: &str,
-    status: u8,
-    wanted: &str,
-) -> Result<(), Fail> {
-    let mut written = Vec::new(alloc);
-    let answer = explain_operator(alloc, text.as_bytes(), &mut written);
-    let said = String::from_utf8_lossy(alloc, written.as_slice())?;
-    assert_eq!(rt; said.as_str(), wanted);
-    assert_eq!(rt; answer, Ok(status), "{wanted}");
-    Ok(())
-}
 
 #[test]
 fn a_script_of_faults_is_explained(rt: HostRuntime) -> Result<(), Fail> {
@@ -62,7 +28,7 @@ fn a_script_of_faults_is_explained(rt: HostRuntime) -> Result<(), Fail> {
             "line 2, record 2: press_two,1,slow,3: this motion has a fault already\n",
         ),
     ] {
-        faults_are(&rt, rt.alloc(), text, status, wanted)?;
+        check_said(&rt, rt.alloc(), Kind::Faults, text, status, wanted)?;
     }
     Ok(())
 }
@@ -96,7 +62,7 @@ fn a_script_of_the_operator_is_explained(rt: HostRuntime) -> Result<(), Fail> {
             "line 1, record 1: always,,clear,robot: field 4: one of feed_in, feed_end, table, arm1, arm2, press1, press2, dep_in, dep_end\n",
         ),
     ] {
-        lines_are(&rt, rt.alloc(), text, status, wanted)?;
+        check_said(&rt, rt.alloc(), Kind::Operator, text, status, wanted)?;
     }
     Ok(())
 }
@@ -107,11 +73,6 @@ fn a_long_script_is_told_by_its_first_line_too_many(rt: HostRuntime) -> Result<(
     for _ in 0..1001 {
         text.push_str("\nalways,,stop,feed\n")?;
     }
-    lines_are(
-        &rt,
-        rt.alloc(),
-        text.as_str(),
-        1,
-        "line 2002: more than 1000 lines\n",
-    )
+    let wanted = "line 2002: more than 1000 lines\n";
+    check_said(&rt, rt.alloc(), Kind::Operator, text.as_str(), 1, wanted)
 }

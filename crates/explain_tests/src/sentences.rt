@@ -1,17 +1,26 @@
 //! A sentence of each kind of entry and of each refusal, and the names of poses.
+use crate::same::check_same;
+use cell_samples::entry_of;
 use cell_sentences::{EntrySentence, RefusalSentence, pose_name};
-use cell_types::{Axis, Belt, Entry, Machine, Pose, Station, Zone, read_fields};
+use cell_types::{Axis, Belt, Machine, Pose, Station, Zone};
 use plate_book::Refusal;
+use std::alloc::Global;
+use std::process::Abort;
 use std::test::Fail;
 
-// The entry of a record, whose fields are parted by commas.
-fn entry_of(record: &str) -> Option<Entry> {
-    let mut fields = record.split(',');
-    let kind = fields.next().unwrap_or("").as_bytes();
-    let first = fields.next().unwrap_or("").as_bytes();
-    let second = fields.next().unwrap_or("").as_bytes();
-    let third = fields.next().unwrap_or("").as_bytes();
-    read_fields(&[kind, first, second, third])
+// The entry of a record is said so.
+fn check_entry(rt: &impl Abort, alloc: Global, record: &str, wanted: &str) -> Result<(), Fail> {
+    let entry = entry_of(record).ok_or("no entry")?;
+    let said = format!(in alloc; "{}", EntrySentence(entry))?;
+    check_same(rt, &record, &said.as_str(), &wanted);
+    Ok(())
+}
+
+// A refusal is said so.
+fn check_refusal(rt: &impl Abort, alloc: Global, why: Refusal, wanted: &str) -> Result<(), Fail> {
+    let said = format!(in alloc; "{}", RefusalSentence(why))?;
+    check_same(rt, &why, &said.as_str(), &wanted);
+    Ok(())
 }
 
 #[test]
@@ -54,9 +63,7 @@ fn an_entry_is_a_sentence_with_its_actor_first(rt: HostRuntime) -> Result<(), Fa
         ("expected,1,,", "operator: plate 1 is expected back"),
         ("reinstated,1,,", "feed belt: plate 1 is laid back"),
     ] {
-        let entry = entry_of(record).ok_or("no entry")?;
-        let said = format!(in rt.alloc(); "{}", EntrySentence(entry))?;
-        assert_eq!(rt; said.as_str(), wanted);
+        check_entry(&rt, rt.alloc(), record, wanted)?;
     }
     Ok(())
 }
@@ -127,14 +134,14 @@ fn a_refusal_is_a_sentence_of_what_is_so(rt: HostRuntime) -> Result<(), Fail> {
         ),
         (Refusal::OutOfMemory, "memory was refused"),
     ] {
-        let said = format!(in rt.alloc(); "{}", RefusalSentence(why))?;
-        assert_eq!(rt; said.as_str(), wanted);
+        check_refusal(&rt, rt.alloc(), why, wanted)?;
     }
     Ok(())
 }
 
 #[test]
 fn a_pose_has_a_name(rt: HostRuntime) {
-    assert_eq!(rt; pose_name(Pose::P1Load), "at press 1 to load it");
-    assert_eq!(rt; pose_name(Pose::Middle), "middle");
+    let load = "at press 1 to load it";
+    check_same(&rt, &Pose::P1Load, &pose_name(Pose::P1Load), &load);
+    check_same(&rt, &Pose::Middle, &pose_name(Pose::Middle), &"middle");
 }

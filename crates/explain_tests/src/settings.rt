@@ -1,24 +1,10 @@
 //! What is said of settings.
+use crate::said::{Kind, check_said};
+use crate::same::check_same;
 use cell_explain::explain_settings;
 use std::alloc::Global;
 use std::process::Abort;
 use std::test::Fail;
-
-// This is said of settings, with this status.
-fn settings_are(
-    rt: &impl Abort,
-    alloc: Global,
-    text: &str,
-    status: u8,
-    wanted: &str,
-) -> Result<(), Fail> {
-    let mut written = Vec::new(alloc);
-    let answer = explain_settings(alloc, text.as_bytes(), &mut written);
-    let said = String::from_utf8_lossy(alloc, written.as_slice())?;
-    assert_eq!(rt; said.as_str(), wanted);
-    assert_eq!(rt; answer, Ok(status), "{wanted}");
-    Ok(())
-}
 
 #[test]
 fn settings_are_explained(rt: HostRuntime) -> Result<(), Fail> {
@@ -50,9 +36,18 @@ fn settings_are_explained(rt: HostRuntime) -> Result<(), Fail> {
             "settings NotNumber plates\nline 1: plates: a whole number from 1 to 100000\n",
         ),
     ] {
-        settings_are(&rt, rt.alloc(), text, status, wanted)?;
+        check_said(&rt, rt.alloc(), Kind::Settings, text, status, wanted)?;
     }
     Ok(())
+}
+
+// A key that isn't known is shown so.
+fn check_shown(rt: &impl Abort, alloc: Global, key: &str, shown: &str) -> Result<(), Fail> {
+    let text = format!(in alloc; "plates = 5\n{key} = 1\n")?;
+    let wanted = format!(in alloc;
+        "settings UnknownKey {shown}\n{shown}: no such key, but plates, journal_limit, turns and watch\n"
+    )?;
+    check_said(rt, alloc, Kind::Settings, text.as_str(), 1, wanted.as_str())
 }
 
 #[test]
@@ -63,12 +58,7 @@ fn a_path_is_printed_in_one_line(rt: HostRuntime) -> Result<(), Fail> {
         ("\"caf\u{e9}\"", "caf\u{e9}"),
         ("'a\\nb'", "a\\nb"),
     ] {
-        let alloc = rt.alloc();
-        let text = format!(in alloc; "plates = 5\n{key} = 1\n")?;
-        let wanted = format!(in alloc;
-            "settings UnknownKey {shown}\n{shown}: no such key, but plates, journal_limit, turns and watch\n"
-        )?;
-        settings_are(&rt, alloc, text.as_str(), 1, wanted.as_str())?;
+        check_shown(&rt, rt.alloc(), key, shown)?;
     }
     Ok(())
 }
@@ -83,6 +73,6 @@ fn a_text_that_is_no_toml_is_told_by_its_place(rt: HostRuntime) -> Result<(), Fa
             .starts_with("settings NotToml\nline 2, column 9: "),
         "{said}"
     );
-    assert_eq!(rt; answer, Ok(1));
+    check_same(&rt, &"the answer", &answer, &Ok(1));
     Ok(())
 }

@@ -4,7 +4,7 @@ ghost use Rattle.cell_ledger.specs.New.{AreBlank};
 
 use cell_ledger::{Blanks, Kept, Run, Shares};
 use cell_samples::{ONE_PLATE, begun, entry_of};
-use cell_types::Totals;
+use cell_types::{Belt, Totals};
 use plate_book::{Book, Refusal};
 use std::marker::Brand;
 use std::process::Abort;
@@ -43,6 +43,18 @@ fn keep_all<R: Run>(rt: &impl Abort, kept: &mut Kept<R>, shares: &mut Shares<R>,
     }
 }
 
+// Three entries with the second share, and one that is refused.
+fn count_second<R: Run>(rt: &impl Abort, kept: &mut Kept<R>, second: &mut Shares<R>)
+    ensures { second.new.parts ≡ second.old.parts }
+{
+    counts_are(rt, second.counts(), 0, 0);
+    keep_all(rt, kept, second, &ONE_PLATE[4..7]);
+    counts_are(rt, second.counts(), 3, 0);
+    let refused = kept.apply(second, entry_of("admitted,2,,").expect(rt, "a record"));
+    assert!(rt; refused == Err(Refusal::LampRed(Belt::Feed)));
+    counts_are(rt, second.counts(), 3, 0);
+}
+
 // Four entries before the run, three with the second share, and one with the joined ones.
 fn two_shares<R: Run>(rt: &impl Abort, book: Book, blanks: Blanks)
     requires parts { R.parts ≡ 2 }
@@ -53,12 +65,7 @@ fn two_shares<R: Run>(rt: &impl Abort, book: Book, blanks: Blanks)
     counts_are(rt, shares.counts(), 4, 1);
     let (first, mut second) = shares.split();
     counts_are(rt, first.counts(), 4, 1);
-    counts_are(rt, second.counts(), 0, 0);
-    keep_all(rt, &mut kept, &mut second, &ONE_PLATE[4..7]);
-    counts_are(rt, second.counts(), 3, 0);
-    let refused = kept.apply(&mut second, entry_of("admitted,2,,").expect(rt, "a record"));
-    assert!(rt; refused == Err(Refusal::LampRed(cell_types::Belt::Feed)));
-    counts_are(rt, second.counts(), 3, 0);
+    count_second(rt, &mut kept, &mut second);
     if !is_small(first.counts()) || !is_small(second.counts()) {
         panic!(rt; "few entries were booked");
     }

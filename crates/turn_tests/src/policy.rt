@@ -1,8 +1,39 @@
 //! Worked examples: which press is chosen along the journal of one plate, and which lights are wanted.
 use cell_policy::{choose_press, deposit_light_wanted, feed_light_wanted};
-use cell_samples::{LAID_BACK, begun, book_all};
+use cell_samples::{LAID_BACK, ONE_PLATE, book_all};
 use cell_types::{Colour, Machine};
 use plate_book::Book;
+use std::alloc::Global;
+use std::process::Abort;
+
+// What is chosen or wanted by a book: a press; both lights, for so many plates; and the feed light alone.
+#[derive(Clone, Copy, Debug)]
+enum Wanted {
+    Press(Option<Machine>),
+    Lights(u32, Colour, Colour),
+    FeedLight(u32, Colour),
+}
+
+fn is_met(book: &Book, wanted: Wanted) -> bool {
+    match wanted {
+        Wanted::Press(press) => choose_press(book) == press,
+        Wanted::Lights(plan, feed, deposit) => {
+            feed_light_wanted(book, plan) == feed && deposit_light_wanted(book) == deposit
+        }
+        Wanted::FeedLight(plan, feed) => feed_light_wanted(book, plan) == feed,
+    }
+}
+
+// Checks what is wanted by a book of these records, and then of those.
+fn check_after(rt: &impl Abort, alloc: Global, first: &[&str], then: &[&str], wanted: Wanted) {
+    let Ok(mut book) = Book::new(alloc, 100, 10) else {
+        panic!(rt; "the limits are in range, and there is memory");
+    };
+    let booked = book_all(&mut book, first).is_ok() && book_all(&mut book, then).is_ok();
+    assert!(rt; booked, "all are allowed");
+    let count = first.len();
+    assert!(rt; is_met(&book, wanted), "after {count}: {wanted:?}");
+}
 
 #[test]
 fn a_press_is_chosen(rt: HostRuntime) {
@@ -27,9 +58,8 @@ fn a_press_is_chosen(rt: HostRuntime) {
         (38, emptied, Some(Machine::Press2)),
         (32, none, Some(Machine::Press2)),
     ] {
-        let mut book = begun(rt.alloc(), 100, 10, count).expect(&rt, "a book");
-        assert_eq!(rt; book_all(&mut book, records), Ok(()));
-        assert!(rt; choose_press(&book) == chosen, "after {count}");
+        let first = &ONE_PLATE[..count.min(62)];
+        check_after(&rt, rt.alloc(), first, records, Wanted::Press(chosen));
     }
 }
 
@@ -48,15 +78,9 @@ fn lights_are_wanted(rt: HostRuntime) {
         (59, 1, Colour::Red, Colour::Green),
         (61, 2, Colour::Green, Colour::Green),
     ] {
-        let book = begun(rt.alloc(), 100, 10, count).expect(&rt, "a book");
-        assert!(rt;
-            feed_light_wanted(&book, plan) == feed,
-            "feed after {count}"
-        );
-        assert!(rt;
-            deposit_light_wanted(&book) == deposit,
-            "deposit after {count}"
-        );
+        let wanted = Wanted::Lights(plan, feed, deposit);
+        let first = &ONE_PLATE[..count.min(62)];
+        check_after(&rt, rt.alloc(), first, &[], wanted);
     }
 }
 
@@ -75,12 +99,13 @@ fn a_light_is_wanted_for_a_plate_that_is_expected(rt: HostRuntime) {
         (13, none, 1, Colour::Red),
         (13, none, 2, Colour::Red),
     ] {
-        let Ok(mut book) = Book::new(rt.alloc(), 100, 10) else {
-            panic!(rt; "the limits are in range, and there is memory");
-        };
-        assert_eq!(rt; book_all(&mut book, &LAID_BACK[..count]), Ok(()));
-        assert_eq!(rt; book_all(&mut book, records), Ok(()));
-        let given = feed_light_wanted(&book, plan);
-        assert!(rt; given == wanted, "after {count} with {plan}");
+        let first = &LAID_BACK[..count.min(13)];
+        check_after(
+            &rt,
+            rt.alloc(),
+            first,
+            records,
+            Wanted::FeedLight(plan, wanted),
+        );
     }
 }

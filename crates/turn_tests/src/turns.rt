@@ -48,9 +48,36 @@ pub(crate) fn told_by(rt: &impl Abort, alloc: Global, book: &Book) -> Told {
     told
 }
 
+// A turn answers what is wanted. One that is refused leaves the book, the shares, the watch and the list as they were.
+fn check_turn<R: Run>(
+    rt: &impl Abort,
+    alloc: Global,
+    machine: Machine,
+    kept: &mut Kept<R>,
+    shares: &mut Shares<R>,
+    watch: &mut Watch,
+    entries: &mut Vec<Entry>,
+    plan: &Plan,
+    place: usize,
+    wanted: &(Option<Reading>, Result<Option<Command>, TurnError>),
+)
+    requires { machine_of_watch watch.old ≡ machine }
+    ensures { machine_of_watch watch.new ≡ machine }
+{
+    let told = told_by(rt, alloc, kept.book());
+    let (was, listed) = (*watch, entries.len());
+    let answer = turn(machine, kept, shares, watch, wanted.0, entries, plan);
+    assert!(rt; answer == wanted.1, "turn {place}");
+    assert!(rt; shares.counts() == kept.book().totals(), "turn {place}");
+    if answer.is_err() {
+        let is_same = told_by(rt, alloc, kept.book()).is_same(&told);
+        let is_left = is_same && *watch == was && entries.len() == listed;
+        assert!(rt; is_left, "turn {place}");
+    }
+}
+
 // The length of the journal after turns of one machine at these readings, each of which answers what is wanted. Before turn
-// number `fault` (counted from 0) the port's failure is told. A turn that is refused leaves the book, the shares, the watch and
-// the list as they were.
+// number `fault` (counted from 0) the port's failure is told.
 fn take_turns<R: Run>(
     rt: &impl Abort,
     alloc: Global,
@@ -74,23 +101,18 @@ fn take_turns<R: Run>(
         if i == fault {
             watch.command_failed();
         }
-        let told = told_by(rt, alloc, kept.book());
-        let (was, listed) = (watch, entries.len());
-        let answer = turn(
+        check_turn(
+            rt,
+            alloc,
             machine,
             &mut kept,
             &mut shares,
             &mut watch,
-            turns[i].0,
             &mut entries,
             plan,
+            i,
+            &turns[i],
         );
-        assert!(rt; answer == turns[i].1, "turn {i}");
-        assert!(rt; shares.counts() == kept.book().totals(), "turn {i}");
-        if answer.is_err() {
-            assert!(rt; told_by(rt, alloc, kept.book()).is_same(&told), "turn {i}");
-            assert!(rt; watch == was && entries.len() == listed, "turn {i}");
-        }
     }
     let length = kept.book().journal().len() as usize;
     assert!(rt; before <= length && length - before == entries.len());

@@ -107,17 +107,22 @@ fn walked(rt: &impl Abort, alloc: Global, plan: u32, records: &[&str]) -> Book {
     panic!(rt; "something always happens");
 }
 
+// From the opening and these entries five plates are carried through the cell, of which each press forges so many.
+fn check_walk(rt: &impl Abort, alloc: Global, records: &[&str], first: u32, second: u32) {
+    let book = walked(rt, alloc, 5, records);
+    let totals = book.totals();
+    assert!(rt; totals.admitted == 5 && totals.forged == 5 && totals.delivered == 5);
+    assert!(rt;
+        book.forged_by(Machine::Press1) == first && book.forged_by(Machine::Press2) == second
+    );
+    assert!(rt; book.on_stations().is_empty());
+}
+
 #[test]
 fn proposals_carry_plates_through_the_cell(rt: HostRuntime) {
-    let none: &[&str] = &[];
-    let first_failed: &[&str] = &["declared,press1,operator_stop,"];
-    let second_failed: &[&str] = &["declared,press2,operator_stop,"];
-    for (records, first, second) in [(none, 3, 2), (first_failed, 0, 5), (second_failed, 5, 0)] {
-        let book = walked(&rt, rt.alloc(), 5, records);
-        let totals = book.totals();
-        assert!(rt; totals.admitted == 5 && totals.forged == 5 && totals.delivered == 5);
-        assert!(rt; book.forged_by(Machine::Press1) == first);
-        assert!(rt; book.forged_by(Machine::Press2) == second);
-        assert!(rt; book.on_stations().is_empty());
-    }
+    let (alloc, first_failed) = (rt.alloc(), ["declared,press1,operator_stop,"]);
+    let second_failed = ["declared,press2,operator_stop,"];
+    check_walk(&rt, alloc, &[], 3, 2);
+    check_walk(&rt, alloc, &first_failed, 0, 5);
+    check_walk(&rt, alloc, &second_failed, 5, 0);
 }

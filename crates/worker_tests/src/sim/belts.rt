@@ -1,12 +1,10 @@
 //! Belts, and the plates that are laid on them, carried, taken out by hand and delivered.
 use crate::sim::steps::Step::{Home, Read, Remove, Send, Shows};
-use crate::sim::steps::{Step, follow, run, script};
-use cell_sim::World;
+use crate::sim::steps::{Step, run, run_parts};
 use cell_types::Axis::FeedBelt;
 use cell_types::Command::{AllOff, Lamp, Off, On};
 use cell_types::Machine::{Deposit, Feed, Table};
 use cell_types::{Belt, Colour, Pose, Station};
-use std::sync::Mutex;
 
 const NONE: [u8; 3] = [0, 0, 0];
 
@@ -79,14 +77,9 @@ const ENDS: [Step; 13] = [
 
 #[test]
 fn a_belt_shows_the_plate_that_it_carries(rt: HostRuntime) {
-    let faults = script(&rt, rt.alloc(), "");
-    let world = Mutex::new(World::new(2));
-    follow(&rt, &world, &faults, &LAID);
-    follow(&rt, &world, &faults, &CARRIED);
+    run_parts(&rt, rt.alloc(), 2, "", &[&LAID, &CARRIED]);
     run(&rt, rt.alloc(), 2, "", &LAYING);
-    let other = Mutex::new(World::new(1));
-    follow(&rt, &other, &faults, &LAID);
-    follow(&rt, &other, &faults, &ENDS);
+    run_parts(&rt, rt.alloc(), 1, "", &[&LAID, &ENDS]);
 }
 
 // The plate is taken on its way, stopped or not, also where it has arrived.
@@ -148,7 +141,6 @@ const NO_MORE: [Step; 2] = [Shows(Feed, NONE, 0), Shows(Deposit, NONE, 0)];
 
 #[test]
 fn the_operator_takes_out_what_a_belt_carried(rt: HostRuntime) {
-    let faults = script(&rt, rt.alloc(), "");
     for steps in [
         ON_THE_WAY.as_slice(),
         &STOPPED,
@@ -156,9 +148,6 @@ fn the_operator_takes_out_what_a_belt_carried(rt: HostRuntime) {
         &ENDED,
         &AT_HOME,
     ] {
-        let world = Mutex::new(World::new(2));
-        follow(&rt, &world, &faults, &LAID);
-        follow(&rt, &world, &faults, steps);
-        follow(&rt, &world, &faults, &NO_MORE);
+        run_parts(&rt, rt.alloc(), 2, "", &[&LAID, steps, &NO_MORE]);
     }
 }

@@ -1,12 +1,10 @@
 //! The faults of motions, each on an axis with switches and on a belt.
 use crate::sim::steps::Step::{Home, Missing, Read, Refused, Send, Shows};
-use crate::sim::steps::{Step, follow, run, script};
-use cell_sim::World;
+use crate::sim::steps::{Step, run, run_parts};
 use cell_types::Axis::{FeedBelt, PressOne, TableLift, TableTurn};
 use cell_types::Command::{AllOff, Lamp, Off, On};
 use cell_types::Machine::{Feed, Press1, Table};
 use cell_types::{Belt, Colour, Pose};
-use std::sync::Mutex;
 
 const NONE: [u8; 3] = [0, 0, 0];
 
@@ -244,10 +242,7 @@ fn a_fault_shows_at_sensors(rt: HostRuntime) {
         ("feed_belt,1,lose_plate,\n", &BELT_LOSES),
         ("feed_belt,2,both,\n", &BELT_TO_TABLE),
     ] {
-        let faults = script(&rt, rt.alloc(), text);
-        let world = Mutex::new(World::new(1));
-        follow(&rt, &world, &faults, &STARTED);
-        follow(&rt, &world, &faults, steps);
+        run_parts(&rt, rt.alloc(), 1, text, &[&STARTED, steps]);
     }
     for (text, steps) in [
         ("feed_belt,1,keeps_old,\n", BARE_KEEPS_OLD.as_slice()),

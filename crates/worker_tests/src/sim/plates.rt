@@ -1,14 +1,12 @@
 //! A plate's way through the cell: magnets, the presses, the deposit belt, and where machines meet.
 use crate::sim::steps::Step::{Collisions, Home, Read, Remove, Send, Shows};
-use crate::sim::steps::{Step, follow, run, script};
-use cell_sim::World;
+use crate::sim::steps::{Step, run, run_parts};
 use cell_types::Axis::{
     ArmOne, ArmTwo, DepositBelt, FeedBelt, PressOne, PressTwo, RobotTurn, TableLift, TableTurn,
 };
 use cell_types::Command::{AllOff, Lamp, MagnetOff, MagnetOn, Off, On};
 use cell_types::Machine::{Deposit, Feed, Press1, Robot, Table};
 use cell_types::{Arm, Belt, Colour, Pose, Station};
-use std::sync::Mutex;
 
 const NONE: [u8; 3] = [0, 0, 0];
 
@@ -96,17 +94,8 @@ const DELIVERED: [Step; 17] = [
 
 #[test]
 fn a_plate_goes_through_the_cell(rt: HostRuntime) {
-    let faults = script(&rt, rt.alloc(), "");
-    let world = Mutex::new(World::new(1));
-    for steps in [
-        AT_TABLE.as_slice(),
-        &ON_ARM_ONE,
-        &IN_PRESS,
-        &ON_DEPOSIT,
-        &DELIVERED,
-    ] {
-        follow(&rt, &world, &faults, steps);
-    }
+    let way: [&[Step]; 5] = [&AT_TABLE, &ON_ARM_ONE, &IN_PRESS, &ON_DEPOSIT, &DELIVERED];
+    run_parts(&rt, rt.alloc(), 1, "", &way);
 }
 
 // The feed belt's motion goes on: its plate is found on the arm. A stop keeps the magnet, and so does a home.
@@ -158,11 +147,7 @@ fn magnets_hold_plates(rt: HostRuntime) {
         ("arm_two,1,lose_plate,\narm_one,2,lose_plate,\n", &ARM_LOSES),
         ("robot_turn,1,lose_plate,\n", &TURN_LOSES),
     ] {
-        let faults = script(&rt, rt.alloc(), text);
-        let world = Mutex::new(World::new(1));
-        follow(&rt, &world, &faults, &AT_TABLE);
-        follow(&rt, &world, &faults, &ON_ARM_ONE);
-        follow(&rt, &world, &faults, steps);
+        run_parts(&rt, rt.alloc(), 1, text, &[&AT_TABLE, &ON_ARM_ONE, steps]);
     }
 }
 
@@ -254,14 +239,11 @@ const OVER_A_FULL_STATION: [Step; 8] = [
 
 #[test]
 fn a_plate_that_is_laid_down_wrongly_counts(rt: HostRuntime) {
-    let faults = script(&rt, rt.alloc(), "");
-    let world = Mutex::new(World::new(2));
-    for steps in [
-        AT_TABLE.as_slice(),
+    let way: [&[Step]; 4] = [
+        &AT_TABLE,
         &ON_ARM_ONE,
         &LAID_DOWN_WRONGLY,
         &OVER_A_FULL_STATION,
-    ] {
-        follow(&rt, &world, &faults, steps);
-    }
+    ];
+    run_parts(&rt, rt.alloc(), 2, "", &way);
 }

@@ -1,15 +1,14 @@
 //! Plates that are laid back: as many as the operator took out from before a press.
 use crate::sim::plates::{AT_TABLE, IN_PRESS, ON_ARM_ONE, ON_DEPOSIT};
 use crate::sim::steps::Step::{Read, Remove, Send, Shows};
-use crate::sim::steps::{Step, follow, script};
-use cell_sim::World;
+use crate::sim::steps::{Step, run_parts};
 use cell_types::Axis::{ArmTwo, DepositBelt, FeedBelt};
 use cell_types::Command::{Lamp, MagnetOff, Off, On};
 use cell_types::Machine::{Deposit, Feed, Robot};
 use cell_types::{Arm, Belt, Colour, Pose, Station};
 use std::alloc::Global;
 use std::process::Abort;
-use std::sync::{Mutex, Wait};
+use std::sync::Wait;
 
 const NONE: [u8; 3] = [0, 0, 0];
 
@@ -58,32 +57,25 @@ const AT_DEPOSIT_END: [Step; 5] = [
     Read(Deposit, 3),
 ];
 
-// Follows the parts of the way of the one plate of a world.
-fn all_are_followed<R: Abort + Wait>(rt: &R, alloc: Global, text: &str, parts: &[&[Step]]) {
-    let faults = script(rt, alloc, text);
-    let world = Mutex::new(World::new(1));
-    for steps in parts {
-        follow(rt, &world, &faults, steps);
-    }
-}
-
 #[test]
 fn a_plate_from_before_a_press_is_laid_back(rt: HostRuntime) {
     let feed_in = [Remove(Station::FeedIn)];
     let feed_end = [Remove(Station::FeedEnd)];
     let table = [Send(Off(FeedBelt)), Remove(Station::Table)];
     let arm = [Send(Off(FeedBelt)), Remove(Station::Arm1)];
-    all_are_followed(&rt, rt.alloc(), "", &[&LAID, &feed_in, &LAID_BACK]);
-    all_are_followed(
+    run_parts(&rt, rt.alloc(), 1, "", &[&LAID, &feed_in, &LAID_BACK]);
+    run_parts(
         &rt,
         rt.alloc(),
+        1,
         "",
         &[&LAID, &AT_END, &feed_end, &LAID_BACK],
     );
-    all_are_followed(&rt, rt.alloc(), "", &[&AT_TABLE, &table, &LAID_BACK]);
-    all_are_followed(
+    run_parts(&rt, rt.alloc(), 1, "", &[&AT_TABLE, &table, &LAID_BACK]);
+    run_parts(
         &rt,
         rt.alloc(),
+        1,
         "",
         &[&AT_TABLE, &ON_ARM_ONE, &arm, &LAID_BACK],
     );
@@ -92,27 +84,29 @@ fn a_plate_from_before_a_press_is_laid_back(rt: HostRuntime) {
 #[test]
 fn a_plate_that_a_belt_carried_is_from_where_it_was_carried(rt: HostRuntime) {
     let carried = [Remove(Station::FeedEnd), Remove(Station::FeedEnd)];
-    all_are_followed(&rt, rt.alloc(), "", &[&AT_TABLE, &carried, &LAID_BACK]);
-    all_are_followed(
+    run_parts(&rt, rt.alloc(), 1, "", &[&AT_TABLE, &carried, &LAID_BACK]);
+    run_parts(
         &rt,
         rt.alloc(),
+        1,
         "",
         &[&AT_TABLE, &ON_ARM_ONE, &carried, &LAID_BACK],
     );
     let pressed: [&[Step]; 5] = [&AT_TABLE, &ON_ARM_ONE, &IN_PRESS, &carried, &LAID_BACK];
-    all_are_followed(&rt, rt.alloc(), "", &pressed);
+    run_parts(&rt, rt.alloc(), 1, "", &pressed);
 }
 
 // Follows the way of a plate into a press, one more part, and then that none is laid back.
 fn is_not_laid_back<R: Abort + Wait>(rt: &R, alloc: Global, before: &[Step], removed: &[Step]) {
-    let faults = script(rt, alloc, "");
-    let world = Mutex::new(World::new(1));
-    follow(rt, &world, &faults, &AT_TABLE);
-    follow(rt, &world, &faults, &ON_ARM_ONE);
-    follow(rt, &world, &faults, &IN_PRESS);
-    follow(rt, &world, &faults, before);
-    follow(rt, &world, &faults, removed);
-    follow(rt, &world, &faults, &NOT_LAID_BACK);
+    let way: [&[Step]; 6] = [
+        &AT_TABLE,
+        &ON_ARM_ONE,
+        &IN_PRESS,
+        before,
+        removed,
+        &NOT_LAID_BACK,
+    ];
+    run_parts(rt, alloc, 1, "", &way);
 }
 
 #[test]
@@ -125,15 +119,17 @@ fn a_plate_from_a_press_is_not_laid_back(rt: HostRuntime) {
 #[test]
 fn a_plate_from_the_deposit_belt_is_not_laid_back(rt: HostRuntime) {
     for station in [Station::DepIn, Station::DepEnd] {
-        let faults = script(&rt, rt.alloc(), "");
-        let world = Mutex::new(World::new(1));
-        follow(&rt, &world, &faults, &AT_TABLE);
-        follow(&rt, &world, &faults, &ON_ARM_ONE);
-        follow(&rt, &world, &faults, &IN_PRESS);
-        follow(&rt, &world, &faults, &ON_DEPOSIT);
-        follow(&rt, &world, &faults, &AT_DEPOSIT_END);
-        follow(&rt, &world, &faults, &[Remove(station)]);
-        follow(&rt, &world, &faults, &NOT_LAID_BACK);
+        let removed = [Remove(station)];
+        let way: [&[Step]; 7] = [
+            &AT_TABLE,
+            &ON_ARM_ONE,
+            &IN_PRESS,
+            &ON_DEPOSIT,
+            &AT_DEPOSIT_END,
+            &removed,
+            &NOT_LAID_BACK,
+        ];
+        run_parts(&rt, rt.alloc(), 1, "", &way);
     }
 }
 
@@ -146,7 +142,7 @@ fn where_there_is_no_plate_none_is_laid_back(rt: HostRuntime) {
         Remove(Station::Arm1),
     ];
     let lost = "feed_belt,1,lose_plate,\n";
-    all_are_followed(&rt, rt.alloc(), "", &[&removed, &LAID_BACK]);
+    run_parts(&rt, rt.alloc(), 1, "", &[&removed, &LAID_BACK]);
     let parts: [&[Step]; 4] = [&LAID, &AT_END, &removed, &NOT_LAID_BACK];
-    all_are_followed(&rt, rt.alloc(), lost, &parts);
+    run_parts(&rt, rt.alloc(), 1, lost, &parts);
 }

@@ -1,5 +1,7 @@
+use crate::same::check_same;
 use cell_sim::{FaultError, FaultScript};
 use std::alloc::Global;
+use std::process::Abort;
 use std::test::Fail;
 
 // How a text is refused.
@@ -22,6 +24,31 @@ fn plans(alloc: Global, count: usize, last: &[u8]) -> Result<Vec<u8>, Fail> {
     Ok(text)
 }
 
+// A text is refused so, or read.
+fn check_refusal(
+    rt: &impl Abort,
+    alloc: Global,
+    text: &[u8],
+    wanted: Option<FaultError>,
+) -> Result<(), Fail> {
+    let shown = String::from_utf8_lossy(alloc, text)?;
+    check_same(rt, &shown.as_str(), &refusal(alloc, text), &wanted);
+    Ok(())
+}
+
+// A number of records, and then a text, are refused so, or read.
+fn check_plans(
+    rt: &impl Abort,
+    alloc: Global,
+    count: usize,
+    last: &[u8],
+    wanted: Option<FaultError>,
+) -> Result<(), Fail> {
+    let text = plans(alloc, count, last)?;
+    check_same(rt, &count, &refusal(alloc, text.as_slice()), &wanted);
+    Ok(())
+}
+
 #[test]
 fn reads_the_words_of_faults(rt: HostRuntime) -> Result<(), Fail> {
     let alloc = rt.alloc();
@@ -33,8 +60,7 @@ fn reads_the_words_of_faults(rt: HostRuntime) -> Result<(), Fail> {
         b"arm_one,10,slow,1\narm_two,10,slow,1000\n",
         b"robot_turn,1,silent,3\npress_one,1,lose_plate,\ndeposit_belt,1,refuse_command,\n",
     ] {
-        let shown = String::from_utf8_lossy(alloc, text)?;
-        assert_eq!(rt; refusal(alloc, text), None, "{shown}");
+        check_refusal(&rt, alloc, text, None)?;
     }
     for text in [
         b"press_two,0,no_motion,\n".as_slice(),
@@ -53,48 +79,32 @@ fn reads_the_words_of_faults(rt: HostRuntime) -> Result<(), Fail> {
         b"press_two,1,both,,\n",
         b"\xff",
     ] {
-        let shown = String::from_utf8_lossy(alloc, text)?;
-        assert_eq!(rt;
-            refusal(alloc, text),
-            Some(FaultError::Unreadable(1)),
-            "{shown}"
-        );
+        check_refusal(&rt, alloc, text, Some(FaultError::Unreadable(1)))?;
     }
     Ok(())
 }
 
 #[test]
-fn takes_one_fault_for_a_motion(rt: HostRuntime) {
+fn takes_one_fault_for_a_motion(rt: HostRuntime) -> Result<(), Fail> {
+    let alloc = rt.alloc();
     for text in [
         b"press_two,1,both,\npress_two,1,both,\n".as_slice(),
         b"press_two,1,both,\npress_two,1,slow,3\n",
         b"press_two,1,both,\nbrew,1,both,\n",
     ] {
-        assert_eq!(rt; refusal(rt.alloc(), text), Some(FaultError::Unreadable(2)));
+        check_refusal(&rt, alloc, text, Some(FaultError::Unreadable(2)))?;
     }
     let last = b"press_two,1,both,\npress_two,2,both,\npress_one,1,both,\npress_two,2,both,\n";
-    assert_eq!(rt; refusal(rt.alloc(), last), Some(FaultError::Unreadable(4)));
+    check_refusal(&rt, alloc, last, Some(FaultError::Unreadable(4)))
 }
 
 #[test]
 fn takes_a_thousand_records(rt: HostRuntime) -> Result<(), Fail> {
     let alloc = rt.alloc();
-    let most = plans(alloc, 1000, b"")?;
-    assert_eq!(rt; refusal(alloc, most.as_slice()), None);
-    let more = plans(alloc, 1001, b"")?;
-    assert_eq!(rt;
-        refusal(alloc, more.as_slice()),
-        Some(FaultError::TooManyLines)
-    );
-    let other = plans(alloc, 1000, b"brew,,,\n")?;
-    assert_eq!(rt;
-        refusal(alloc, other.as_slice()),
-        Some(FaultError::TooManyLines)
-    );
-    let twice = plans(alloc, 999, b"press_two,1,both,\n")?;
-    assert_eq!(rt;
-        refusal(alloc, twice.as_slice()),
-        Some(FaultError::Unreadable(1000))
-    );
-    Ok(())
+    let too_many = Some(FaultError::TooManyLines);
+    check_plans(&rt, alloc, 1000, b"", None)?;
+    check_plans(&rt, alloc, 1001, b"", too_many)?;
+    check_plans(&rt, alloc, 1000, b"brew,,,\n", too_many)?;
+    let twice = Some(FaultError::Unreadable(1000));
+    check_plans(&rt, alloc, 999, b"press_two,1,both,\n", twice)
 }

@@ -85,22 +85,30 @@ fn is_met<R: Wait>(rt: &R, world: &Mutex<World>, faults: &FaultScript, step: Ste
     }
 }
 
-/// Takes steps, each of which has to be met.
-pub(crate) fn follow<R: Abort + Wait>(
-    rt: &R,
-    world: &Mutex<World>,
-    faults: &FaultScript,
-    steps: &[Step],
-) {
+// Takes steps, each of which has to be met.
+fn follow<R: Abort + Wait>(rt: &R, world: &Mutex<World>, faults: &FaultScript, steps: &[Step]) {
     for place in 0..steps.len() {
         let step = steps[place];
         assert!(rt; is_met(rt, world, faults, step), "step {place}: {step:?}");
     }
 }
 
-/// Takes steps in a new world, in which up to `plates` plates are laid, under a script of faults.
-pub(crate) fn run<R: Abort + Wait>(rt: &R, alloc: Global, plates: u32, text: &str, steps: &[Step]) {
+/// Takes the parts of a way in a new world, in which up to `plates` plates are laid, under a script of faults.
+pub(crate) fn run_parts<R: Abort + Wait>(
+    rt: &R,
+    alloc: Global,
+    plates: u32,
+    text: &str,
+    parts: &[&[Step]],
+) {
     let faults = script(rt, alloc, text);
     let world = Mutex::new(World::new(plates));
-    follow(rt, &world, &faults, steps);
+    for steps in parts {
+        follow(rt, &world, &faults, steps);
+    }
+}
+
+/// The same where the way is one part.
+pub(crate) fn run<R: Abort + Wait>(rt: &R, alloc: Global, plates: u32, text: &str, steps: &[Step]) {
+    run_parts(rt, alloc, plates, text, &[steps]);
 }

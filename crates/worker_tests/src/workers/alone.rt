@@ -1,23 +1,29 @@
 //! A machine's worker, alone on the thread of its test.
+use crate::same::check_same;
 use crate::workers::cell::{ample_plan, faults_of, plan_of};
 use crate::workers::rooms::{
-    ALL, NONE, Play, all_but, check_hall, check_length, check_worked, play_in_room, set_end,
-    set_hall,
+    ALL, NONE, Play, begin_hall, check_hall, check_length, check_worked, play_in_room, set_end,
 };
 use crate::workers::telling::check_sent;
 use cell_diagnosis::Reading;
 use cell_ledger::{Run, Shares};
 use cell_samples::ONE_PLATE;
 use cell_sim::{FaultScript, SimPort, World};
-use cell_types::{Belt, Colour, Command, Machine};
+use cell_types::{Belt, Colour, Command, Entry, Machine};
 use cell_workers::{End, Ended, Plan, Port, PortFault, Room, run_worker};
 use port_samples::{Failing, TellingPort};
 use std::process::Abort;
 use std::sync::{Mutex, Wait};
 
-const FEED: usize = 0;
+const ALL_BUT_FEED: [bool; 7] = [false, true, true, true, true, true, true];
 
-const TABLE: usize = 1;
+const ALL_BUT_TABLE: [bool; 7] = [true, false, true, true, true, true, true];
+
+const FEED_ALONE: [bool; 7] = [true, false, false, false, false, false, false];
+
+const TABLE_ALONE: [bool; 7] = [false, true, false, false, false, false, false];
+
+const FEED_OFF: Command = Command::AllOff(Machine::Feed);
 
 // A port of a simulated machine that tells what it was asked.
 fn telling_port<'a, W: AllocGlobal + Abort + Wait>(
@@ -34,11 +40,62 @@ fn telling_port<'a, W: AllocGlobal + Abort + Wait>(
     port
 }
 
-// All others are lost, so the feed belt's worker works until it has nothing to do, and sets the end then. What it books is what
-// comes first in the journal of one plate.
-struct FeedsOnePlate;
+// What a worker begins with, alone in a room, and what has to come of it.
+#[derive(Clone, Copy)]
+struct Alone<'a> {
+    machine: Machine,
+    failing: Failing,
+    // Who is idle and who is lost before it works, and the end that is set then.
+    idle: [bool; 7],
+    lost: [bool; 7],
+    end: Option<End>,
+    // Why it ends, and the records of what it books.
+    ended: Ended,
+    booked: &'a [&'a str],
+    // All that its port was sent, and how many answers that gave, where they are looked at.
+    sent: Option<&'a [Command]>,
+    answers: Option<usize>,
+    // How the run ends, who is idle and who is lost then, and how many entries the journal has.
+    end_after: Option<End>,
+    idle_after: [bool; 7],
+    lost_after: [bool; 7],
+    length: u32,
+}
 
-impl Play for FeedsOnePlate {
+// A feed belt's worker whose port takes each command, in a room as it is made, which books nothing.
+const FEEDING: Alone<'static> = Alone {
+    machine: Machine::Feed,
+    failing: Failing::Never,
+    idle: NONE,
+    lost: NONE,
+    end: None,
+    ended: Ended::Told,
+    booked: &[],
+    sent: None,
+    answers: None,
+    end_after: None,
+    idle_after: NONE,
+    lost_after: NONE,
+    length: 0,
+};
+
+// Checks that a port was asked what the worker's list says, and was sent and gave what is wanted.
+fn check_port<P>(rt: &impl Abort, wanted: &Alone, list: &[Entry], port: &TellingPort<P>) {
+    check_sent(rt, wanted.machine, list, port);
+    if wanted.sent.is_some() {
+        check_same(rt, &"what was sent", &port.sent(), &wanted.sent);
+    }
+    if wanted.answers.is_some() {
+        check_same(
+            rt,
+            &"how many answers",
+            &port.answer_count(),
+            &wanted.answers,
+        );
+    }
+}
+
+impl Play for Alone<'_> {
     fn play<R: Run, W: AllocGlobal + Abort + Wait>(
         &self,
         rt: &W,
@@ -47,188 +104,117 @@ impl Play for FeedsOnePlate {
         _second: Shares<R>,
         plan: &Plan,
     ) {
+        let machine = self.machine;
         let world = Mutex::new(World::new(1));
         let faults = faults_of(rt, "");
-        let mut port = telling_port(rt, &world, Machine::Feed, &faults, Failing::Never);
-        set_hall(rt, room, NONE, all_but(FEED));
-        let worked = run_worker(rt, rt.alloc(), Machine::Feed, &mut port, room, first, plan);
-        check_worked(rt, &worked, Ended::Told, &ONE_PLATE[..8]);
-        check_sent(rt, Machine::Feed, worked.entries.as_slice(), &port);
-        check_hall(rt, room, Some(End::Stalled), ALL, all_but(FEED));
-        check_length(rt, room, 8);
+        let mut port = telling_port(rt, &world, machine, &faults, self.failing);
+        begin_hall(rt, room, self.idle, self.lost, self.end);
+        let worked = run_worker(rt, rt.alloc(), machine, &mut port, room, first, plan);
+        check_worked(rt, &worked, self.ended, self.booked);
+        check_port(rt, self, worked.entries.as_slice(), &port);
+        check_hall(rt, room, self.end_after, self.idle_after, self.lost_after);
+        check_length(rt, room, self.length);
     }
 }
 
+// All others are lost, so the feed belt's worker works until it has nothing to do, and sets the end then. What it books is what
+// comes first in the journal of one plate.
 #[test]
 fn a_worker_works_until_all_are_idle(rt: HostRuntime) {
-    play_in_room(&rt, &FeedsOnePlate, &ample_plan(&rt, 1));
+    let feeds_one_plate = Alone {
+        lost: ALL_BUT_FEED,
+        booked: &ONE_PLATE[..8],
+        end_after: Some(End::Stalled),
+        idle_after: ALL,
+        lost_after: ALL_BUT_FEED,
+        length: 8,
+        ..FEEDING
+    };
+    play_in_room(&rt, &feeds_one_plate, &ample_plan(&rt, 1));
 }
 
 // The end is set before the worker begins: it books nothing, and switches its machine off.
-struct IsTold;
-
-impl Play for IsTold {
-    fn play<R: Run, W: AllocGlobal + Abort + Wait>(
-        &self,
-        rt: &W,
-        room: &Room<R>,
-        first: Shares<R>,
-        _second: Shares<R>,
-        plan: &Plan,
-    ) {
-        let world = Mutex::new(World::new(1));
-        let faults = faults_of(rt, "");
-        let mut port = telling_port(rt, &world, Machine::Feed, &faults, Failing::Never);
-        set_end(rt, room, End::Memory);
-        let worked = run_worker(rt, rt.alloc(), Machine::Feed, &mut port, room, first, plan);
-        check_worked(rt, &worked, Ended::Told, &[]);
-        let wanted = [Command::AllOff(Machine::Feed)];
-        assert!(rt; port.sent() == Some(wanted.as_slice()));
-        check_hall(rt, room, Some(End::Memory), NONE, NONE);
-        check_length(rt, room, 0);
-    }
-}
-
 #[test]
 fn a_worker_ends_where_an_end_is_set(rt: HostRuntime) {
-    play_in_room(&rt, &IsTold, &ample_plan(&rt, 1));
+    let is_told = Alone {
+        end: Some(End::Memory),
+        sent: Some(&[FEED_OFF]),
+        end_after: Some(End::Memory),
+        ..FEEDING
+    };
+    play_in_room(&rt, &is_told, &ample_plan(&rt, 1));
 }
 
 // A worker whose port fails at every command is lost. It ends the run only where all others are idle.
-struct IsLost {
-    others_idle: bool,
-}
-
-impl Play for IsLost {
-    fn play<R: Run, W: AllocGlobal + Abort + Wait>(
-        &self,
-        rt: &W,
-        room: &Room<R>,
-        first: Shares<R>,
-        _second: Shares<R>,
-        plan: &Plan,
-    ) {
-        let world = Mutex::new(World::new(1));
-        let faults = faults_of(rt, "");
-        let mut port = telling_port(rt, &world, Machine::Feed, &faults, Failing::Always);
-        let others = if self.others_idle {
-            all_but(FEED)
-        } else {
-            NONE
-        };
-        set_hall(rt, room, others, others);
-        let worked = run_worker(rt, rt.alloc(), Machine::Feed, &mut port, room, first, plan);
-        let booked = ["lamp,feed,green,", "declared,feed,command_fault,"];
-        check_worked(rt, &worked, Ended::PortLost, &booked);
-        check_sent(rt, Machine::Feed, worked.entries.as_slice(), &port);
-        assert!(rt; port.sent() == Some([].as_slice()));
-        let mut lost = others;
-        lost[FEED] = true;
-        let end = if self.others_idle {
-            Some(End::Stalled)
-        } else {
-            None
-        };
-        check_hall(rt, room, end, lost, lost);
-    }
-}
-
 #[test]
 fn a_worker_with_a_lost_port_counts_as_idle(rt: HostRuntime) {
+    let is_lost = Alone {
+        failing: Failing::Always,
+        ended: Ended::PortLost,
+        booked: &["lamp,feed,green,", "declared,feed,command_fault,"],
+        sent: Some(&[]),
+        idle_after: FEED_ALONE,
+        lost_after: FEED_ALONE,
+        length: 2,
+        ..FEEDING
+    };
+    let is_last = Alone {
+        idle: ALL_BUT_FEED,
+        lost: ALL_BUT_FEED,
+        end_after: Some(End::Stalled),
+        idle_after: ALL,
+        lost_after: ALL,
+        ..is_lost
+    };
     let plan = ample_plan(&rt, 1);
-    play_in_room(&rt, &IsLost { others_idle: true }, &plan);
-    play_in_room(&rt, &IsLost { others_idle: false }, &plan);
+    play_in_room(&rt, &is_last, &plan);
+    play_in_room(&rt, &is_lost, &plan);
 }
 
 // The table has nothing to do on an empty book, and its worker is the last that isn't idle.
-struct IsLastIdle;
-
-impl Play for IsLastIdle {
-    fn play<R: Run, W: AllocGlobal + Abort + Wait>(
-        &self,
-        rt: &W,
-        room: &Room<R>,
-        first: Shares<R>,
-        _second: Shares<R>,
-        plan: &Plan,
-    ) {
-        let world = Mutex::new(World::new(1));
-        let faults = faults_of(rt, "");
-        let mut port = telling_port(rt, &world, Machine::Table, &faults, Failing::Never);
-        set_hall(rt, room, all_but(TABLE), NONE);
-        let worked = run_worker(rt, rt.alloc(), Machine::Table, &mut port, room, first, plan);
-        check_worked(rt, &worked, Ended::Told, &[]);
-        let wanted = [Command::AllOff(Machine::Table)];
-        assert!(rt; port.sent() == Some(wanted.as_slice()));
-        check_hall(rt, room, Some(End::Stalled), ALL, NONE);
-        check_length(rt, room, 0);
-    }
-}
-
 #[test]
 fn the_last_idle_worker_ends_the_run(rt: HostRuntime) {
-    play_in_room(&rt, &IsLastIdle, &ample_plan(&rt, 1));
+    let is_last_idle = Alone {
+        machine: Machine::Table,
+        idle: ALL_BUT_TABLE,
+        sent: Some(&[Command::AllOff(Machine::Table)]),
+        end_after: Some(End::Stalled),
+        idle_after: ALL,
+        ..FEEDING
+    };
+    play_in_room(&rt, &is_last_idle, &ample_plan(&rt, 1));
 }
 
 // A booking leaves those idle alone whose ports are lost. The worker's only turn is over then.
-struct WakesTheIdle;
-
-impl Play for WakesTheIdle {
-    fn play<R: Run, W: AllocGlobal + Abort + Wait>(
-        &self,
-        rt: &W,
-        room: &Room<R>,
-        first: Shares<R>,
-        _second: Shares<R>,
-        plan: &Plan,
-    ) {
-        let world = Mutex::new(World::new(1));
-        let faults = faults_of(rt, "");
-        let mut port = telling_port(rt, &world, Machine::Feed, &faults, Failing::Never);
-        let mut lost = NONE;
-        lost[TABLE] = true;
-        set_hall(rt, room, ALL, lost);
-        let worked = run_worker(rt, rt.alloc(), Machine::Feed, &mut port, room, first, plan);
-        check_worked(rt, &worked, Ended::Turns, &["lamp,feed,green,"]);
-        assert_eq!(rt; port.answer_count(), Some(1));
-        let green = Command::Lamp(Belt::Feed, Colour::Green);
-        let wanted = [green, Command::AllOff(Machine::Feed)];
-        assert!(rt; port.sent() == Some(wanted.as_slice()));
-        check_hall(rt, room, Some(End::TurnLimit), lost, lost);
-    }
-}
-
 #[test]
 fn a_booking_leaves_the_lost_alone_idle(rt: HostRuntime) {
-    play_in_room(&rt, &WakesTheIdle, &plan_of(&rt, 1, 100, 1));
+    let wakes_the_idle = Alone {
+        idle: ALL,
+        lost: TABLE_ALONE,
+        ended: Ended::Turns,
+        booked: &["lamp,feed,green,"],
+        sent: Some(&[Command::Lamp(Belt::Feed, Colour::Green), FEED_OFF]),
+        answers: Some(1),
+        end_after: Some(End::TurnLimit),
+        idle_after: TABLE_ALONE,
+        lost_after: TABLE_ALONE,
+        length: 1,
+        ..FEEDING
+    };
+    play_in_room(&rt, &wakes_the_idle, &plan_of(&rt, 1, 100, 1));
 }
 
 // The journal has room for one entry: the plate that the green light asked for can't be booked.
-struct FillsTheJournal;
-
-impl Play for FillsTheJournal {
-    fn play<R: Run, W: AllocGlobal + Abort + Wait>(
-        &self,
-        rt: &W,
-        room: &Room<R>,
-        first: Shares<R>,
-        _second: Shares<R>,
-        plan: &Plan,
-    ) {
-        let world = Mutex::new(World::new(1));
-        let faults = faults_of(rt, "");
-        let mut port = telling_port(rt, &world, Machine::Feed, &faults, Failing::Never);
-        let worked = run_worker(rt, rt.alloc(), Machine::Feed, &mut port, room, first, plan);
-        check_worked(rt, &worked, Ended::Full, &["lamp,feed,green,"]);
-        check_sent(rt, Machine::Feed, worked.entries.as_slice(), &port);
-        check_hall(rt, room, Some(End::Full), NONE, NONE);
-        check_length(rt, room, 1);
-    }
-}
-
 #[test]
 fn a_worker_ends_where_the_journal_is_full(rt: HostRuntime) {
-    play_in_room(&rt, &FillsTheJournal, &plan_of(&rt, 1, 1, 100));
+    let fills_the_journal = Alone {
+        ended: Ended::Full,
+        booked: &["lamp,feed,green,"],
+        end_after: Some(End::Full),
+        length: 1,
+        ..FEEDING
+    };
+    play_in_room(&rt, &fills_the_journal, &plan_of(&rt, 1, 1, 100));
 }
 
 /// When a port sets an end of its own.
@@ -282,10 +268,11 @@ impl Play for EndsBefore {
             moment: *moment,
         };
         let worked = run_worker(rt, rt.alloc(), Machine::Feed, &mut port, room, first, plan);
-        match moment {
-            Moment::Read => check_worked(rt, &worked, Ended::Told, &[]),
-            Moment::Command => check_worked(rt, &worked, Ended::Turns, &["lamp,feed,green,"]),
-        }
+        let (ended, booked): (Ended, &[&str]) = match moment {
+            Moment::Read => (Ended::Told, &[]),
+            Moment::Command => (Ended::Turns, &["lamp,feed,green,"]),
+        };
+        check_worked(rt, &worked, ended, booked);
         check_hall(rt, room, Some(End::Full), NONE, NONE);
     }
 }

@@ -1,10 +1,11 @@
 //! Ports and hands that fail under workers on threads.
+use crate::same::check_same;
 use crate::workers::cell::{ample_plan, faults_of, run_over, script_of};
 use crate::workers::reports::check_end;
 use crate::workers::telling::check_sent;
-use cell_samples::{CLEARED_PRESS, STUCK_PRESS, entries_of};
+use cell_samples::{CLEARED_PRESS, STUCK_PRESS, entry_of};
 use cell_sim::{SimOperator, World};
-use cell_types::{Belt, Cause, Colour, Entry, MACHINES, Machine, Station};
+use cell_types::{MACHINES, Machine, Station};
 use cell_workers::{Act, End, Report, Six};
 use port_samples::{Failing, TellingHands, TellingPort, did, sim_ports, telling_ports};
 use std::process::Abort;
@@ -25,12 +26,55 @@ fn check_ports<P>(rt: &impl Abort, ports: &Six<TellingPort<P>>, report: &Report)
     check_sent(rt, Machine::Deposit, deposit.0.as_slice(), &ports.deposit);
 }
 
+// What has to come of a run: how it ends, what it counts, and the records of its journal, where they are looked at.
+#[derive(Clone, Copy)]
+struct Wanted<'a> {
+    end: End,
+    totals: [u32; 4],
+    records: Option<&'a [&'a str]>,
+}
+
+// The journal's entries are those of these records.
+fn check_records(rt: &impl Abort, report: &Report, records: &[&str]) {
+    let journal = &report.journal;
+    check_same(
+        rt,
+        &"how many entries",
+        &(journal.len() as usize),
+        &records.len(),
+    );
+    for (place, record) in (0..100u32).zip(records.iter()) {
+        check_same(rt, record, &journal.get(place), &entry_of(record));
+    }
+}
+
+fn check_wanted(rt: &impl Abort, report: &Report, wanted: &Wanted) {
+    check_end(rt, report, wanted.end, wanted.totals);
+    if let Some(records) = wanted.records {
+        check_records(rt, report, records);
+    }
+}
+
+// Checks what came of a run with telling ports.
+fn check_run<P>(
+    rt: &impl Abort,
+    ports: &Six<TellingPort<P>>,
+    report: &Report,
+    wanted: Option<Wanted>,
+) {
+    check_ports(rt, ports, report);
+    if let Some(wanted) = wanted {
+        check_wanted(rt, report, &wanted);
+    }
+}
+
 // A run of five plates in which a machine's port fails so.
 fn run_failing<R: AllocGlobal + Abort + Threads + Wait + Sync>(
     rt: &R,
     which: Machine,
     failing: Failing,
-) -> Report {
+    wanted: Option<Wanted>,
+) {
     let faults = faults_of(rt, "");
     let world = Mutex::new(World::new(5));
     let mut all = [Failing::Never; 6];
@@ -41,49 +85,54 @@ fn run_failing<R: AllocGlobal + Abort + Threads + Wait + Sync>(
     let mut hands = SimOperator::new(rt, &world);
     let plan = ample_plan(rt, 5);
     let report = run_over(rt, &mut ports, &mut hands, script_of(rt, ""), &plan);
-    check_ports(rt, &ports, &report);
-    report
+    check_run(rt, &ports, &report, wanted);
 }
 
 #[test]
 fn ports_are_sent_the_commands_of_what_is_booked(rt: HostRuntime) {
-    let report = run_failing(&rt, Machine::Feed, Failing::Never);
-    check_end(&rt, &report, End::Finished, [5, 5, 0, 5]);
+    let wanted = Wanted {
+        end: End::Finished,
+        totals: [5, 5, 0, 5],
+        records: None,
+    };
+    run_failing(&rt, Machine::Feed, Failing::Never, Some(wanted));
 }
 
 #[test]
 fn a_feed_belt_that_takes_no_command_stops_the_cell(rt: HostRuntime) {
-    let report = run_failing(&rt, Machine::Feed, Failing::Always);
-    check_end(&rt, &report, End::Stalled, [0, 0, 0, 0]);
-    let wanted = [
-        Entry::Lamp {
-            belt: Belt::Feed,
-            colour: Colour::Green,
-        },
-        Entry::Declared {
-            machine: Machine::Feed,
-            cause: Cause::CommandFault,
-        },
-    ];
-    let Ok(entries) = entries_of(rt.alloc(), &report.journal) else {
-        panic!(rt; "there is memory");
+    let wanted = Wanted {
+        end: End::Stalled,
+        totals: [0, 0, 0, 0],
+        records: Some(&["lamp,feed,green,", "declared,feed,command_fault,"]),
     };
-    assert!(rt; entries.as_slice() == wanted.as_slice());
+    run_failing(&rt, Machine::Feed, Failing::Always, Some(wanted));
 }
 
 #[test]
 fn a_press_that_takes_no_command_keeps_its_plate(rt: HostRuntime) {
-    let report = run_failing(&rt, Machine::Press1, Failing::Always);
-    check_end(&rt, &report, End::Stalled, [5, 4, 0, 4]);
+    let wanted = Wanted {
+        end: End::Stalled,
+        totals: [5, 4, 0, 4],
+        records: None,
+    };
+    run_failing(&rt, Machine::Press1, Failing::Always, Some(wanted));
 }
 
 #[test]
 fn one_failed_command_is_declared(rt: HostRuntime) {
     for machine in MACHINES {
         for number in 1..21u32 {
-            run_failing(&rt, machine, Failing::At(number));
+            run_failing(&rt, machine, Failing::At(number), None);
         }
     }
+}
+
+// The hands did the acts of what the operator's worker booked, which are these, and failed once.
+fn check_acts<O>(rt: &impl Abort, report: &Report, hands: &TellingHands<O>, acts: &[Act]) {
+    let (list, _) = &report.workers[6];
+    check_same(rt, &"the hands", &did(list.as_slice(), hands), &Ok(()));
+    check_same(rt, &"the acts", &hands.acts(), &Some(acts));
+    check_same(rt, &"the failures", &hands.failures(), &1);
 }
 
 // A run of six plates in which the second press fails, and is to be cleared and repaired by hands that fail at each act of one
@@ -107,10 +156,7 @@ fn check_hands<R: AllocGlobal + Abort + Threads + Wait + Sync>(
     let script = script_of(rt, CLEARED_PRESS);
     let report = run_over(rt, &mut ports, &mut hands, script, &plan);
     check_end(rt, &report, end, totals);
-    let (list, _) = &report.workers[6];
-    assert_eq!(rt; did(list.as_slice(), &hands), Ok(()));
-    assert!(rt; hands.acts() == Some(acts));
-    assert_eq!(rt; hands.failures(), 1);
+    check_acts(rt, &report, &hands, acts);
     assert_eq!(rt; world.lock(rt).collisions(), 0);
 }
 

@@ -6,9 +6,11 @@ use cell_sim::{SimOperator, SimPort, World};
 use cell_types::{Command, Machine};
 use cell_workers::{End, Port, PortFault, Six};
 use port_samples::sim_ports;
+use std::process::Abort;
 use std::sync::atomic::{AtomicBool, Ordering};
 use std::sync::{Mutex, Wait};
 use std::thread;
+use std::thread::Threads;
 use std::time::{Clock, Duration};
 
 /// How often a port looks whether the other was asked.
@@ -103,24 +105,28 @@ fn meeting_ports<'a, R: Wait + Clock>(
     }
 }
 
+// Five plates, with ports that meet: they finish, and no machines collide.
+fn run_meeting<R: AllocGlobal + Abort + Threads + Wait + Clock + Sync>(rt: &R, meeting: &Meeting) {
+    let faults = faults_of(rt, "");
+    let plan = ample_plan(rt, 5);
+    let world = Mutex::new(World::new(plan.plates));
+    let mut ports = meeting_ports(rt, sim_ports(rt, &world, &faults), meeting);
+    let mut hands = SimOperator::new(rt, &world);
+    let report = run_over(rt, &mut ports, &mut hands, script_of(rt, ""), &plan);
+    check_end(rt, &report, End::Finished, [5, 5, 0, 5]);
+    assert_eq!(rt; world.lock(rt).collisions(), 0);
+}
+
 // The workers of the two presses are both inside a read of their ports at one time: neither waits for the other's turn, and
 // the lock is free while they read.
 #[test]
 fn two_presses_meet(rt: HostRuntime) {
-    let faults = faults_of(&rt, "");
-    let script = script_of(&rt, "");
-    let plan = ample_plan(&rt, 5);
-    let world = Mutex::new(World::new(plan.plates));
     let meeting = Meeting {
         press1: AtomicBool::new(false),
         press2: AtomicBool::new(false),
         gave_up: AtomicBool::new(false),
     };
-    let mut ports = meeting_ports(&rt, sim_ports(&rt, &world, &faults), &meeting);
-    let mut hands = SimOperator::new(&rt, &world);
-    let report = run_over(&rt, &mut ports, &mut hands, script, &plan);
+    run_meeting(&rt, &meeting);
     assert!(rt; !meeting.gave_up.load(Ordering::SeqCst));
     assert!(rt; meeting.press1.load(Ordering::SeqCst) && meeting.press2.load(Ordering::SeqCst));
-    check_end(&rt, &report, End::Finished, [5, 5, 0, 5]);
-    assert_eq!(rt; world.lock(&rt).collisions(), 0);
 }

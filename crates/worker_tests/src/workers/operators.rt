@@ -1,8 +1,9 @@
 //! The operator's worker, alone on the thread of its test.
+use crate::same::check_same;
 use crate::workers::cell::{ample_plan, faults_of, plan_of, script_of};
 use crate::workers::rooms::{
-    ALL, NONE, OPERATOR, Play, all_but, check_hall, check_length, check_list, check_worked,
-    play_in_room, set_end, set_hall,
+    ALL, NONE, OPERATOR, Play, all_but, begin_hall, check_hall, check_length, check_list,
+    check_worked, play_in_room, set_hall,
 };
 use cell_ledger::{Run, Shares};
 use cell_sim::{SimPort, World};
@@ -49,10 +50,22 @@ impl OperatorPort for CountingHands {
     }
 }
 
-// A stop wants no act by hand. The operator is the last that isn't idle once it is booked.
-struct Stops;
+// What the operator's worker begins with, alone in a room, and what has to come of it without any act by hand.
+#[derive(Clone, Copy)]
+struct Alone<'a> {
+    fails: bool,
+    script: &'a str,
+    // Who is lost before it works, and the end that is set then.
+    lost: [bool; 7],
+    end: Option<End>,
+    // The records of what it books, how the run ends, who is idle then, and how many entries the journal has.
+    booked: &'a [&'a str],
+    end_after: End,
+    idle_after: [bool; 7],
+    length: u32,
+}
 
-impl Play for Stops {
+impl Play for Alone<'_> {
     fn play<R: Run, W: AllocGlobal + Abort + Wait>(
         &self,
         rt: &W,
@@ -61,52 +74,85 @@ impl Play for Stops {
         _second: Shares<R>,
         plan: &Plan,
     ) {
-        let mut hands = hands(true);
-        let script = script_of(rt, "always,,stop,press1\nalways,,stop,robot\n");
-        set_hall(rt, room, NONE, all_but(OPERATOR));
+        let mut hands = hands(self.fails);
+        let script = script_of(rt, self.script);
+        begin_hall(rt, room, NONE, self.lost, self.end);
         let worked = run_operator(rt, rt.alloc(), &mut hands, script, room, first, plan);
-        let booked = ["stop_asked,press1,,", "stop_asked,robot,,"];
-        check_worked(rt, &worked, Ended::Told, &booked);
+        check_worked(rt, &worked, Ended::Told, self.booked);
         assert!(rt; hands.acts == 0 && hands.last.is_none());
-        check_hall(rt, room, Some(End::Stalled), ALL, all_but(OPERATOR));
-        check_length(rt, room, 2);
+        check_hall(rt, room, Some(self.end_after), self.idle_after, self.lost);
+        check_length(rt, room, self.length);
     }
 }
 
+// A stop wants no act by hand. The operator is the last that isn't idle once it is booked.
 #[test]
 fn a_stop_wants_no_act(rt: HostRuntime) {
-    play_in_room(&rt, &Stops, &ample_plan(&rt, 1));
+    let stops = Alone {
+        fails: true,
+        script: "always,,stop,press1\nalways,,stop,robot\n",
+        lost: all_but(OPERATOR),
+        end: None,
+        booked: &["stop_asked,press1,,", "stop_asked,robot,,"],
+        end_after: End::Stalled,
+        idle_after: ALL,
+        length: 2,
+    };
+    play_in_room(&rt, &stops, &ample_plan(&rt, 1));
 }
 
 // The end is set before the operator begins.
-struct IsTold;
-
-impl Play for IsTold {
-    fn play<R: Run, W: AllocGlobal + Abort + Wait>(
-        &self,
-        rt: &W,
-        room: &Room<R>,
-        first: Shares<R>,
-        _second: Shares<R>,
-        plan: &Plan,
-    ) {
-        let mut hands = hands(false);
-        set_end(rt, room, End::TurnLimit);
-        let script = script_of(rt, "always,,stop,press1\n");
-        let worked = run_operator(rt, rt.alloc(), &mut hands, script, room, first, plan);
-        check_worked(rt, &worked, Ended::Told, &[]);
-        check_hall(rt, room, Some(End::TurnLimit), NONE, NONE);
-        check_length(rt, room, 0);
-    }
-}
-
 #[test]
 fn the_operator_ends_where_an_end_is_set(rt: HostRuntime) {
-    play_in_room(&rt, &IsTold, &ample_plan(&rt, 1));
+    let is_told = Alone {
+        fails: false,
+        script: "always,,stop,press1\n",
+        lost: NONE,
+        end: Some(End::TurnLimit),
+        booked: &[],
+        end_after: End::TurnLimit,
+        idle_after: NONE,
+        length: 0,
+    };
+    play_in_room(&rt, &is_told, &ample_plan(&rt, 1));
 }
 
 /// The operator repairs the second press once it has failed.
 const REPAIR: &str = "failed,press2,repair,press2\n";
+
+// The operator asks the second press to stop.
+fn ask_stop<R: Run, W: AllocGlobal + Abort + Wait>(
+    rt: &W,
+    room: &Room<R>,
+    shares: Shares<R>,
+    plan: &Plan,
+) -> Shares<R> {
+    let mut hands = hands(false);
+    let script = script_of(rt, "always,,stop,press2\n");
+    set_hall(rt, room, NONE, all_but(OPERATOR));
+    let asked = run_operator(rt, rt.alloc(), &mut hands, script, room, shares, plan);
+    check_worked(rt, &asked, Ended::Told, &["stop_asked,press2,,"]);
+    asked.shares
+}
+
+// The second press's worker declares that stop.
+fn declare_stop<R: Run, W: AllocGlobal + Abort + Wait>(
+    rt: &W,
+    room: &Room<R>,
+    shares: Shares<R>,
+    plan: &Plan,
+) -> Shares<R> {
+    let press = Machine::Press2;
+    let world = Mutex::new(World::new(1));
+    let faults = faults_of(rt, "");
+    let mut port = SimPort::new(rt, &world, press, &faults);
+    set_hall(rt, room, NONE, all_but(PRESS2));
+    let failed = run_worker(rt, rt.alloc(), press, &mut port, room, shares, plan);
+    let booked = ["declared,press2,operator_stop,"];
+    check_worked(rt, &failed, Ended::Told, &booked);
+    check_hall(rt, room, Some(End::Stalled), ALL, all_but(PRESS2));
+    failed.shares
+}
 
 // The operator asks the second press to stop, which its worker declares. Their shares come back.
 fn fail_press<R: Run, W: AllocGlobal + Abort + Wait>(
@@ -116,29 +162,10 @@ fn fail_press<R: Run, W: AllocGlobal + Abort + Wait>(
     second: Shares<R>,
     plan: &Plan,
 ) -> (Shares<R>, Shares<R>) {
-    let mut hands = hands(false);
-    let script = script_of(rt, "always,,stop,press2\n");
-    set_hall(rt, room, NONE, all_but(OPERATOR));
-    let asked = run_operator(rt, rt.alloc(), &mut hands, script, room, first, plan);
-    check_worked(rt, &asked, Ended::Told, &["stop_asked,press2,,"]);
-    let world = Mutex::new(World::new(1));
-    let faults = faults_of(rt, "");
-    let mut port = SimPort::new(rt, &world, Machine::Press2, &faults);
-    set_hall(rt, room, NONE, all_but(PRESS2));
-    let failed = run_worker(
-        rt,
-        rt.alloc(),
-        Machine::Press2,
-        &mut port,
-        room,
-        second,
-        plan,
-    );
-    let booked = ["declared,press2,operator_stop,"];
-    check_worked(rt, &failed, Ended::Told, &booked);
-    check_hall(rt, room, Some(End::Stalled), ALL, all_but(PRESS2));
+    let first = ask_stop(rt, room, first, plan);
+    let second = declare_stop(rt, room, second, plan);
     set_hall(rt, room, all_but(OPERATOR), all_but(OPERATOR));
-    (asked.shares, failed.shares)
+    (first, second)
 }
 
 // The press is put at home once it has failed, and is repaired then. Where that fails nothing is booked, and the operator is
@@ -160,17 +187,17 @@ impl Play for Repairs {
         let mut hands = hands(self.fails);
         let script = script_of(rt, REPAIR);
         let worked = run_operator(rt, rt.alloc(), &mut hands, script, room, shares, plan);
-        assert_eq!(rt; hands.last, Some(Act::Home(Machine::Press2)));
-        assert_eq!(rt; hands.acts, 1);
-        if self.fails {
-            check_list(rt, &worked, Ended::PortLost, &[]);
-            check_hall(rt, room, Some(End::Stalled), ALL, ALL);
-            check_length(rt, room, 2);
+        let home = Some(Act::Home(Machine::Press2));
+        check_same(rt, &"the last act", &hands.last, &home);
+        check_same(rt, &"how many acts", &hands.acts, &1);
+        let (ended, booked, lost, length): (Ended, &[&str], [bool; 7], u32) = if self.fails {
+            (Ended::PortLost, &[], ALL, 2)
         } else {
-            check_list(rt, &worked, Ended::Told, &["repaired,press2,,"]);
-            check_hall(rt, room, Some(End::Stalled), ALL, all_but(OPERATOR));
-            check_length(rt, room, 3);
-        }
+            (Ended::Told, &["repaired,press2,,"], all_but(OPERATOR), 3)
+        };
+        check_list(rt, &worked, ended, booked);
+        check_hall(rt, room, Some(End::Stalled), ALL, lost);
+        check_length(rt, room, length);
     }
 }
 
@@ -198,14 +225,14 @@ impl<R: Run, W: Abort + Wait> OperatorPort for MeddlingHands<'_, R, W> {
 
     fn home(&mut self, machine: Machine) -> Result<(), PortFault> {
         self.acts = self.acts.saturating_add(1);
-        let mut hall = self.room.hall.lock(self.rt);
-        let answer = if self.repairs {
-            hall.book(&mut self.shares, Entry::Repaired { machine })
+        let entry = if self.repairs {
+            Entry::Repaired { machine }
         } else {
             let machine = Machine::Feed;
-            hall.book(&mut self.shares, Entry::StopAsked { machine })
+            Entry::StopAsked { machine }
         };
-        assert_eq!(self.rt; answer, Ok(()));
+        let answer = self.room.hall.lock(self.rt).book(&mut self.shares, entry);
+        check_same(self.rt, &entry, &answer, &Ok(()));
         Ok(())
     }
 }
@@ -235,20 +262,14 @@ impl Play for IsRefused {
         };
         let script = script_of(rt, REPAIR);
         let worked = run_operator(rt, rt.alloc(), &mut hands, script, room, first, plan);
-        assert_eq!(rt; hands.acts, 1);
-        if self.repairs {
-            check_list(rt, &worked, Ended::PortLost, &[]);
-            check_hall(rt, room, Some(End::Stalled), ALL, ALL);
+        check_same(rt, &"how many acts", &hands.acts, &1);
+        let (ended, end, idle) = if self.repairs {
+            (Ended::PortLost, End::Stalled, ALL)
         } else {
-            check_list(rt, &worked, Ended::Full, &[]);
-            check_hall(
-                rt,
-                room,
-                Some(End::Full),
-                all_but(OPERATOR),
-                all_but(OPERATOR),
-            );
-        }
+            (Ended::Full, End::Full, all_but(OPERATOR))
+        };
+        check_list(rt, &worked, ended, &[]);
+        check_hall(rt, room, Some(end), idle, idle);
         check_length(rt, room, 3);
     }
 }

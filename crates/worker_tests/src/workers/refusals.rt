@@ -9,7 +9,7 @@ use cell_ledger::{Run, Shares};
 use cell_samples::{CLEARED_PRESS, ONE_PLATE, STUCK_PRESS, call_begins, call_ends};
 use cell_sim::{SimOperator, SimPort, World};
 use cell_types::Machine;
-use cell_workers::{End, Ended, Plan, Room, RunError, Worked};
+use cell_workers::{End, Ended, Plan, Report, Room, RunError, Worked};
 use port_samples::sim_ports;
 use std::process::Abort;
 use std::sync::{Mutex, Wait};
@@ -102,6 +102,19 @@ fn run_operator(rt: HostRuntime) {
     play_in_room(&rt, &Stops, &ample_plan(&rt, 1));
 }
 
+// The run ended for want of memory, or its report is that of a run with ample memory.
+fn check_answer<R: AllocGlobal + Abort>(rt: &R, answer: &Result<Report, RunError>, plan: &Plan) {
+    match answer {
+        Ok(report) => {
+            check_report(rt, report, plan);
+            if report.end != End::Memory {
+                check_end(rt, report, End::Finished, [6, 5, 1, 5]);
+            }
+        }
+        Err(why) => assert!(rt; *why != RunError::JournalDisagrees),
+    }
+}
+
 // Of six plates one stays in the second press, and is cleared.
 #[test]
 fn run_cell(rt: HostRuntime) {
@@ -118,13 +131,5 @@ fn run_cell(rt: HostRuntime) {
         alloc,
         !matches!(&answer, Ok(report) if report.end != End::Memory),
     );
-    match answer {
-        Ok(report) => {
-            check_report(&rt, &report, &plan);
-            if report.end != End::Memory {
-                check_end(&rt, &report, End::Finished, [6, 5, 1, 5]);
-            }
-        }
-        Err(why) => assert!(rt; why != RunError::JournalDisagrees),
-    }
+    check_answer(&rt, &answer, &plan);
 }

@@ -1,7 +1,8 @@
 //! What is to hold of a run's report.
+use crate::same::check_same;
 use cell_audit::{audit, write_journal};
 use cell_samples::is_list_of;
-use cell_types::{Actor, Machine, Totals};
+use cell_types::{Actor, Entry, Machine, Totals};
 use cell_views::count_of;
 use cell_workers::{End, Plan, Report};
 use std::process::Abort;
@@ -29,20 +30,22 @@ fn sum_of(some: Totals, others: Totals) -> Totals {
     }
 }
 
+// Checks that a list is an actor's entries of the journal, and has these counts.
+fn check_list(rt: &impl Abort, report: &Report, actor: Actor, list: &[Entry], counts: Totals) {
+    let is_his = is_list_of(&report.journal, actor, list);
+    check_same(rt, &actor, &is_his, &true);
+    check_same(rt, &actor, &count_of(list), &counts);
+}
+
 /// Checks that each worker's list is its actor's entries of the journal, its counts are those of its list, and the counts of
 /// all add up to the totals.
 pub(crate) fn check_lists(rt: &impl Abort, report: &Report) {
     let mut all = count_of(&[]);
     for ((list, counts), actor) in report.workers.iter().zip(ACTORS.iter()) {
-        let list = list.as_slice();
-        assert!(rt;
-            is_list_of(&report.journal, *actor, list),
-            "the list of {actor:?}"
-        );
-        assert_eq!(rt; count_of(list), *counts, "the list of {actor:?}");
+        check_list(rt, report, *actor, list.as_slice(), *counts);
         all = sum_of(all, *counts);
     }
-    assert_eq!(rt; all, report.totals);
+    check_same(rt, &"the totals", &all, &report.totals);
 }
 
 /// Checks what holds of every report: its lists, and that its journal's text is that of a legal journal with these totals,
@@ -51,14 +54,15 @@ pub(crate) fn check_report<R: AllocGlobal + Abort>(rt: &R, report: &Report, plan
     let alloc = rt.alloc();
     let mut text = Vec::new(alloc);
     assert!(rt; write_journal(alloc, &report.journal, &mut text).is_ok());
-    assert_eq!(rt; audit(alloc, text.as_slice()), Ok((2, report.totals)));
+    let audited = audit(alloc, text.as_slice());
+    check_same(rt, &"the audit", &audited, &Ok((2, report.totals)));
     assert!(rt; report.journal.len() <= plan.journal_limit.saturating_add(6));
     check_lists(rt, report);
 }
 
 /// Checks how a run ended, and what it counted: admitted, forged, quarantined, delivered.
 pub(crate) fn check_end(rt: &impl Abort, report: &Report, end: End, wanted: [u32; 4]) {
-    assert_eq!(rt; report.end, end);
+    check_same(rt, &"the end", &report.end, &end);
     let Totals {
         admitted,
         forged,
@@ -66,5 +70,6 @@ pub(crate) fn check_end(rt: &impl Abort, report: &Report, end: End, wanted: [u32
         delivered,
         ..
     } = report.totals;
-    assert_eq!(rt; [admitted, forged, quarantined, delivered], wanted);
+    let found = [admitted, forged, quarantined, delivered];
+    check_same(rt, &"the totals", &found, &wanted);
 }

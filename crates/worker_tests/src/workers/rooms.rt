@@ -2,8 +2,10 @@
 ghost use Rattle.std.specs.Prelude.{◌≡◌, ◌<◌, []};
 ghost use Rattle.cell_ledger.specs.New.{AreBlank};
 
+use crate::same::check_same;
 use cell_ledger::{Blanks, Kept, Run, Shares};
 use cell_samples::entry_of;
+use cell_types::Entry;
 use cell_views::count_of;
 use cell_workers::{End, Ended, Hall, Plan, Room, Worked};
 use plate_book::Book;
@@ -82,10 +84,21 @@ pub(crate) fn all_but(place: usize) -> [bool; 7] {
 
 /// Sets who is idle and who is lost, and takes back the end.
 pub(crate) fn set_hall<R: Run, W: Wait>(rt: &W, room: &Room<R>, idle: [bool; 7], lost: [bool; 7]) {
+    begin_hall(rt, room, idle, lost, None);
+}
+
+/// Sets who is idle, who is lost and an end.
+pub(crate) fn begin_hall<R: Run, W: Wait>(
+    rt: &W,
+    room: &Room<R>,
+    idle: [bool; 7],
+    lost: [bool; 7],
+    end: Option<End>,
+) {
     let mut hall = room.hall.lock(rt);
     hall.idle = idle;
     hall.lost = lost;
-    hall.end = None;
+    hall.end = end;
 }
 
 /// Sets an end, in place of any that is set.
@@ -102,15 +115,23 @@ pub(crate) fn check_hall<R: Run, W: Abort + Wait>(
     lost: [bool; 7],
 ) {
     let hall = room.hall.lock(rt);
-    assert_eq!(rt; hall.end, end);
-    assert_eq!(rt; hall.idle, idle, "the idle workers");
-    assert_eq!(rt; hall.lost, lost, "the lost workers");
+    check_same(rt, &"the end", &hall.end, &end);
+    check_same(rt, &"the idle workers", &hall.idle, &idle);
+    check_same(rt, &"the lost workers", &hall.lost, &lost);
 }
 
 /// Checks how many entries the room's journal has.
 pub(crate) fn check_length<R: Run, W: Abort + Wait>(rt: &W, room: &Room<R>, length: u32) {
-    let hall = room.hall.lock(rt);
-    assert_eq!(rt; hall.kept.book().journal().len(), length);
+    let found = room.hall.lock(rt).kept.book().journal().len();
+    check_same(rt, &"the journal's length", &found, &length);
+}
+
+// Checks that entries are those of these records.
+fn check_entries(rt: &impl Abort, entries: &[Entry], records: &[&str]) {
+    check_same(rt, &"how many entries", &entries.len(), &records.len());
+    for (entry, record) in entries.iter().zip(records.iter()) {
+        check_same(rt, record, &Some(*entry), &entry_of(record));
+    }
 }
 
 /// Checks why a worker ended, and that it booked the entries of these records.
@@ -120,11 +141,8 @@ pub(crate) fn check_list<R: Run>(
     ended: Ended,
     records: &[&str],
 ) {
-    assert_eq!(rt; worked.ended, ended);
-    assert_eq!(rt; worked.entries.len(), records.len());
-    for (entry, record) in worked.entries.iter().zip(records.iter()) {
-        assert_eq!(rt; *entry, entry_of(record).expect(rt, record));
-    }
+    check_same(rt, &"why the worker ended", &worked.ended, &ended);
+    check_entries(rt, worked.entries.as_slice(), records);
 }
 
 /// Checks the same of a worker whose shares counted nothing before: now they count its list.
@@ -135,5 +153,11 @@ pub(crate) fn check_worked<R: Run>(
     records: &[&str],
 ) {
     check_list(rt, worked, ended, records);
-    assert_eq!(rt; worked.shares.counts(), count_of(worked.entries.as_slice()));
+    let counted = count_of(worked.entries.as_slice());
+    check_same(
+        rt,
+        &"what the shares count",
+        &worked.shares.counts(),
+        &counted,
+    );
 }

@@ -1,4 +1,5 @@
 //! What a machine's port was asked in a whole run.
+use crate::same::check_same;
 use cell_types::{Command, Entry, Machine};
 use port_samples::{TellingPort, was_sent};
 use std::process::Abort;
@@ -13,11 +14,7 @@ pub(crate) fn check_sent<P>(
     port: &TellingPort<P>,
 ) {
     let last = Some(Command::AllOff(machine));
-    assert_eq!(rt;
-        was_sent(list, last, port),
-        Ok(()),
-        "the port of {machine:?}"
-    );
+    check_same(rt, &machine, &was_sent(list, last, port), &Ok(()));
     let answers = port.answer_count().expect(rt, "the port had room for all");
     assert!(rt; list.len() <= answers);
 }
