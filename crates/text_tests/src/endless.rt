@@ -1,5 +1,6 @@
 //! Texts without an end, each of which is judged after a few bytes.
 use cell_audit::{AuditError, audit};
+use std::alloc::Global;
 use std::io;
 use std::io::Read;
 use std::process::Abort;
@@ -23,6 +24,12 @@ impl Read for Endless {
     }
 }
 
+// What begins so and goes on with one byte can't be read from there on.
+fn is_unreadable(rt: &impl Abort, alloc: Global, endless: Endless, place: u32) {
+    let answer = audit(alloc, endless);
+    assert_eq!(rt; answer, Err(AuditError::Unreadable(place)));
+}
+
 #[test]
 fn judges_a_line_without_an_end(rt: HostRuntime) {
     for byte in [b',', b'a', b'0', 0, 0xFF] {
@@ -33,8 +40,7 @@ fn judges_a_line_without_an_end(rt: HostRuntime) {
             (b"profile,2,,\n", 1),
             (b"\n\nprofile,1,,\n\nlamp,feed,green,\n\n", 2),
         ] {
-            let answer = audit(rt.alloc(), Endless { begin, byte });
-            assert_eq!(rt; answer, Err(AuditError::Unreadable(place)));
+            is_unreadable(&rt, rt.alloc(), Endless { begin, byte }, place);
         }
     }
 }

@@ -4,20 +4,48 @@ use cell_samples::{
     FailingReader, FailingWriter, Interrupted, LAID_BACK, Pieces, Unwilling, one_plate_text,
     text_of,
 };
-use std::alloc::{AllocError, Global};
-use std::test::Fail;
+use std::alloc::Global;
+use std::io::{Read, Write};
+use std::process::Abort;
 
 // A journal's text of these records.
-fn journal(alloc: Global, records: &[u8]) -> Result<Vec<u8>, AllocError> {
+fn journal(rt: &impl Abort, alloc: Global, records: &[u8]) -> Vec<u8> {
     let mut text = Vec::new(alloc);
-    text.extend_from_slice(b"profile,1,,\n")?;
-    text.extend_from_slice(records)?;
-    Ok(text)
+    text.extend_from_slice(b"profile,1,,\n")
+        .expect(rt, "memory");
+    text.extend_from_slice(records).expect(rt, "memory");
+    text
+}
+
+// What is printed for a reader's text to a writer has this answer.
+fn answers<R: Read + Drop, W: Write>(
+    rt: &impl Abort,
+    alloc: Global,
+    reader: R,
+    writer: &mut W,
+    wanted: Result<u8, WriteFault>,
+    name: &str,
+) {
+    let answer = audit_lines(alloc, reader, writer);
+    assert_eq!(rt; answer, wanted, "{name}");
+}
+
+// These lines are printed for a text, with this status.
+fn prints(rt: &impl Abort, alloc: Global, name: &str, text: &[u8], status: u8, wanted: &[u8]) {
+    let mut written = Vec::new(alloc);
+    answers(rt, alloc, text, &mut written, Ok(status), name);
+    assert_eq!(rt; written.as_slice(), wanted, "{name}");
+}
+
+// The same for a journal's text of these records.
+fn prints_for_records(rt: &impl Abort, alloc: Global, records: &[u8], status: u8, wanted: &[u8]) {
+    let text = journal(rt, alloc, records);
+    let shown = String::from_utf8_lossy(alloc, records).expect(rt, "memory");
+    prints(rt, alloc, shown.as_str(), text.as_slice(), status, wanted);
 }
 
 #[test]
-fn prints_what_an_audit_finds(rt: HostRuntime) -> Result<(), Fail> {
-    let alloc = rt.alloc();
+fn prints_what_an_audit_finds(rt: HostRuntime) {
     for (records, status, wanted) in [
         (
             b"".as_slice(),
@@ -66,23 +94,28 @@ fn prints_what_an_audit_finds(rt: HostRuntime) -> Result<(), Fail> {
         (b"admitted,01,,\n", 1, b"unreadable 1\n"),
         (b"admitted,100001,,\n", 1, b"unreadable 1\n"),
     ] {
-        let text = journal(alloc, records)?;
-        let mut written = Vec::new(alloc);
-        let answer = audit_lines(alloc, text.as_slice(), &mut written);
-        let shown = String::from_utf8_lossy(alloc, records)?;
-        assert_eq!(rt; answer, Ok(status), "{shown}");
-        assert_eq!(rt; written.as_slice(), wanted, "{shown}");
+        prints_for_records(&rt, rt.alloc(), records, status, wanted);
     }
-    let mut written = Vec::new(alloc);
-    assert_eq!(rt; audit_lines(alloc, b"".as_slice(), &mut written), Ok(1));
-    assert_eq!(rt; written.as_slice(), b"unreadable 0\n".as_slice());
-    Ok(())
+    prints(&rt, rt.alloc(), "no bytes", b"", 1, b"unreadable 0\n");
+}
+
+// A text of a profile with the first records of the journal of a plate that is laid back.
+fn prints_for_laid_back(
+    rt: &impl Abort,
+    alloc: Global,
+    (profile, count): (u8, usize),
+    status: u8,
+    wanted: &[u8],
+) {
+    let records = &LAID_BACK[..count.min(13)];
+    let text = text_of(alloc, profile, records).expect(rt, "memory");
+    let name = format!(in alloc; "{count} entries in profile {profile}").expect(rt, "memory");
+    prints(rt, alloc, name.as_str(), text.as_slice(), status, wanted);
 }
 
 // A text of profile 2 has a sixth line, and is told as one of profile 1 in all else.
 #[test]
-fn prints_a_sixth_line_in_profile_2_alone(rt: HostRuntime) -> Result<(), Fail> {
-    let alloc = rt.alloc();
+fn prints_a_sixth_line_in_profile_2_alone(rt: HostRuntime) {
     for (profile, count, status, wanted) in [
         (
             2,
@@ -111,44 +144,29 @@ fn prints_a_sixth_line_in_profile_2_alone(rt: HostRuntime) -> Result<(), Fail> {
             b"legal 0\nadmitted 0\nforged 0\nquarantined 0\ndelivered 0\nreinstated 0\n",
         ),
     ] {
-        let text = text_of(alloc, profile, &LAID_BACK[..count])?;
-        let mut written = Vec::new(alloc);
-        let answer = audit_lines(alloc, text.as_slice(), &mut written);
-        assert_eq!(rt; answer, Ok(status), "{count} entries in profile {profile}");
-        assert_eq!(rt;
-            written.as_slice(),
-            wanted,
-            "{count} entries in profile {profile}"
-        );
+        prints_for_laid_back(&rt, rt.alloc(), (profile, count), status, wanted);
     }
-    Ok(())
+}
+
+// After the first records of the journal of a plate that is laid back, it can't be expected.
+fn prints_for_expected(rt: &impl Abort, alloc: Global, count: usize, wanted: &[u8]) {
+    let records = &LAID_BACK[..count.min(13)];
+    let mut text = text_of(alloc, 2, records).expect(rt, "memory");
+    text.extend_from_slice(b"expected,1,,\n")
+        .expect(rt, "memory");
+    prints(rt, alloc, "expected", text.as_slice(), 1, wanted);
 }
 
 // The refusals that a plate laid back brings are told by their names.
 #[test]
-fn prints_why_a_plate_is_not_expected(rt: HostRuntime) -> Result<(), Fail> {
-    let alloc = rt.alloc();
-    let mut twice = text_of(alloc, 2, &LAID_BACK[..11])?;
-    twice.extend_from_slice(b"expected,1,,\n")?;
-    let mut green = text_of(alloc, 2, &LAID_BACK[..12])?;
-    green.extend_from_slice(b"expected,1,,\n")?;
-    let mut arrived = text_of(alloc, 2, &[])?;
-    arrived.extend_from_slice(b"expected,1,,\n")?;
-    for (text, wanted) in [
-        (twice.as_slice(), b"refused 12 PlateExpected\n".as_slice()),
-        (green.as_slice(), b"refused 13 LampAlready feed\n"),
-        (arrived.as_slice(), b"refused 1 WrongPlate\n"),
-    ] {
-        let mut written = Vec::new(alloc);
-        assert_eq!(rt; audit_lines(alloc, text, &mut written), Ok(1));
-        assert_eq!(rt; written.as_slice(), wanted);
-    }
-    Ok(())
+fn prints_why_a_plate_is_not_expected(rt: HostRuntime) {
+    prints_for_expected(&rt, rt.alloc(), 11, b"refused 12 PlateExpected\n");
+    prints_for_expected(&rt, rt.alloc(), 12, b"refused 13 LampAlready feed\n");
+    prints_for_expected(&rt, rt.alloc(), 0, b"refused 1 WrongPlate\n");
 }
 
 #[test]
-fn prints_what_an_audit_finds_in_texts_of_other_makers(rt: HostRuntime) -> Result<(), Fail> {
-    let alloc = rt.alloc();
+fn prints_what_an_audit_finds_in_texts_of_other_makers(rt: HostRuntime) {
     let one = b"legal 1\nadmitted 0\nforged 0\nquarantined 0\ndelivered 0\n".as_slice();
     let none = b"legal 0\nadmitted 0\nforged 0\nquarantined 0\ndelivered 0\n".as_slice();
     for (name, text, status, wanted) in [
@@ -232,55 +250,69 @@ fn prints_what_an_audit_finds_in_texts_of_other_makers(rt: HostRuntime) -> Resul
         ),
         ("no profile", b"lamp,feed,green,\n", 1, b"unreadable 0\n"),
     ] {
-        let mut written = Vec::new(alloc);
-        let answer = audit_lines(alloc, text, &mut written);
-        assert_eq!(rt; answer, Ok(status), "{name}");
-        assert_eq!(rt; written.as_slice(), wanted, "{name}");
+        prints(&rt, rt.alloc(), name, text, status, wanted);
     }
-    Ok(())
+}
+
+// These lines are printed for a text byte by byte, and where reads and writes are interrupted.
+fn prints_slowly(rt: &impl Abort, alloc: Global, text: &[u8], status: u8, wanted: &[u8]) {
+    let mut writer = Pieces::new(Vec::new(alloc), 1);
+    let slow = Pieces::new(text, 1);
+    answers(rt, alloc, slow, &mut writer, Ok(status), "byte by byte");
+    assert_eq!(rt; writer.inner().as_slice(), wanted);
+    let mut writer = Interrupted::new(Pieces::new(Vec::new(alloc), 1));
+    let interrupted = Interrupted::new(text);
+    answers(
+        rt,
+        alloc,
+        interrupted,
+        &mut writer,
+        Ok(status),
+        "interrupted",
+    );
+    assert_eq!(rt; writer.inner().inner().as_slice(), wanted);
 }
 
 #[test]
-fn prints_the_same_for_slow_and_interrupted_readers_and_writers(
-    rt: HostRuntime,
-) -> Result<(), Fail> {
+fn prints_the_same_for_slow_and_interrupted_readers_and_writers(rt: HostRuntime) {
     let alloc = rt.alloc();
-    let refused = journal(alloc, b"lamp,feed,green,\nadmitted,2,,\n")?;
-    let cut = journal(alloc, b"lamp,fe")?;
-    let carried = one_plate_text(alloc, 1)?;
-    for (text, status, wanted) in [
-        (
-            carried.as_slice(),
-            0,
-            b"legal 62\nadmitted 1\nforged 1\nquarantined 0\ndelivered 1\n".as_slice(),
-        ),
-        (refused.as_slice(), 1, b"refused 2 WrongPlate\n"),
-        (cut.as_slice(), 1, b"unreadable 1\n"),
-    ] {
-        let mut writer = Pieces::new(Vec::new(alloc), 1);
-        let answer = audit_lines(alloc, Pieces::new(text, 1), &mut writer);
-        assert_eq!(rt; answer, Ok(status));
-        assert_eq!(rt; writer.inner().as_slice(), wanted);
-        let mut writer = Interrupted::new(Pieces::new(Vec::new(alloc), 1));
-        let answer = audit_lines(alloc, Interrupted::new(text), &mut writer);
-        assert_eq!(rt; answer, Ok(status));
-        assert_eq!(rt; writer.inner().inner().as_slice(), wanted);
-    }
-    Ok(())
+    let refused = journal(&rt, alloc, b"lamp,feed,green,\nadmitted,2,,\n");
+    let cut = journal(&rt, alloc, b"lamp,fe");
+    let carried = one_plate_text(alloc, 1).expect(&rt, "memory");
+    let legal = b"legal 62\nadmitted 1\nforged 1\nquarantined 0\ndelivered 1\n";
+    prints_slowly(&rt, alloc, carried.as_slice(), 0, legal);
+    prints_slowly(&rt, alloc, refused.as_slice(), 1, b"refused 2 WrongPlate\n");
+    prints_slowly(&rt, alloc, cut.as_slice(), 1, b"unreadable 1\n");
+}
+
+// Nothing is printed for a text whose reader fails after so many bytes.
+fn prints_nothing(rt: &impl Abort, alloc: Global, text: &[u8], left: usize) {
+    let reader = FailingReader::new(Pieces::new(text, 1), left);
+    let mut written = Vec::new(alloc);
+    let answer = audit_lines(alloc, reader, &mut written);
+    assert_eq!(rt; answer, Ok(3), "after {left} bytes");
+    assert!(rt; written.is_empty(), "after {left} bytes");
 }
 
 #[test]
-fn prints_nothing_where_the_reader_fails(rt: HostRuntime) -> Result<(), Fail> {
-    let alloc = rt.alloc();
-    let carried = one_plate_text(alloc, 1)?;
+fn prints_nothing_where_the_reader_fails(rt: HostRuntime) {
+    let carried = one_plate_text(rt.alloc(), 1).expect(&rt, "memory");
     for left in 0..carried.len() + 1 {
-        let reader = FailingReader::new(Pieces::new(carried.as_slice(), 1), left);
-        let mut written = Vec::new(alloc);
-        let answer = audit_lines(alloc, reader, &mut written);
-        assert_eq!(rt; answer, Ok(3), "after {left} bytes");
-        assert!(rt; written.is_empty(), "after {left} bytes");
+        prints_nothing(&rt, rt.alloc(), carried.as_slice(), left);
     }
-    Ok(())
+}
+
+// A writer that takes so many bytes gives this answer.
+fn writer_of(
+    rt: &impl Abort,
+    alloc: Global,
+    text: &[u8],
+    left: usize,
+    wanted: Result<u8, WriteFault>,
+) {
+    let mut writer = FailingWriter::new(Vec::new(alloc), left);
+    let answer = audit_lines(alloc, text, &mut writer);
+    assert_eq!(rt; answer, wanted, "after {left} bytes");
 }
 
 #[test]
@@ -290,13 +322,17 @@ fn tells_that_the_writer_failed(rt: HostRuntime) {
         (b"profile,2,,\n", 67),
     ] {
         for left in 0..length {
-            let mut writer = FailingWriter::new(Vec::new(rt.alloc()), left);
-            let answer = audit_lines(rt.alloc(), text, &mut writer);
-            assert_eq!(rt; answer, Err(WriteFault), "after {left} bytes");
+            writer_of(&rt, rt.alloc(), text, left, Err(WriteFault));
         }
-        let mut writer = FailingWriter::new(Vec::new(rt.alloc()), length);
-        assert_eq!(rt; audit_lines(rt.alloc(), text, &mut writer), Ok(0));
-        let answer = audit_lines(rt.alloc(), text, &mut Unwilling);
-        assert_eq!(rt; answer, Err(WriteFault), "nothing was taken");
+        writer_of(&rt, rt.alloc(), text, length, Ok(0));
+        let fault = Err(WriteFault);
+        answers(
+            &rt,
+            rt.alloc(),
+            text,
+            &mut Unwilling,
+            fault,
+            "nothing was taken",
+        );
     }
 }

@@ -1,9 +1,9 @@
 //! The records of texts, read at once and byte by byte, and readers that fail.
 use cell_rows::{Four, RowError, RowReader};
 use cell_samples::{FailingReader, Interrupted, Pieces};
-use std::alloc::Global;
+use std::alloc::{AllocError, Global};
 use std::io::Read;
-use std::test::Fail;
+use std::process::Abort;
 
 // A reader of a text that hands out one byte at a time, is interrupted before each, and fails after a number of bytes.
 type Slow = FailingReader<Interrupted<Pieces<&'static [u8]>>>;
@@ -13,7 +13,7 @@ fn slow(text: &'static [u8], fails_at: usize) -> Slow {
 }
 
 // Writes each field of a record with a bar after it, or a question mark where there aren't four.
-fn write_row(list: &mut Vec<u8>, row: Option<Four<'_>>) -> Result<(), Fail> {
+fn write_row(list: &mut Vec<u8>, row: Option<Four<'_>>) -> Result<(), AllocError> {
     match row {
         Some(four) => {
             for field in [four.first, four.second, four.third, four.fourth] {
@@ -27,34 +27,54 @@ fn write_row(list: &mut Vec<u8>, row: Option<Four<'_>>) -> Result<(), Fail> {
     Ok(())
 }
 
+// The word of an error.
+fn word_of(error: RowError) -> &'static [u8] {
+    match error {
+        RowError::ReadFault => b"fault",
+        RowError::OutOfMemory => b"memory",
+        RowError::Unfit => b"unfit",
+    }
+}
+
 // The records of a reader, each with a semicolon after it.
-fn listed<R: Read + Drop>(alloc: Global, reader: R) -> Result<Vec<u8>, Fail> {
+fn listed<R: Read + Drop>(rt: &impl Abort, alloc: Global, reader: R) -> Vec<u8> {
     let mut rows = RowReader::new(alloc, reader);
     let mut list = Vec::new(alloc);
     for _ in 0..100 {
         match rows.advance() {
-            Ok(found) => {
-                if !found {
-                    return Ok(list);
-                }
-            }
+            Ok(true) => write_row(&mut list, rows.four()).expect(rt, "memory"),
+            Ok(false) => return list,
             Err(error) => {
-                list.extend_from_slice(match error {
-                    RowError::ReadFault => b"fault".as_slice(),
-                    RowError::OutOfMemory => b"memory".as_slice(),
-                    RowError::Unfit => b"unfit".as_slice(),
-                })?;
-                return Ok(list);
+                list.extend_from_slice(word_of(error)).expect(rt, "memory");
+                return list;
             }
         }
-        write_row(&mut list, rows.four())?;
     }
-    Ok(list)
+    list
+}
+
+// The records of a reader are these.
+fn lists<R: Read + Drop>(
+    rt: &impl Abort,
+    alloc: Global,
+    reader: R,
+    wanted: &[u8],
+    name: &str,
+    how: &str,
+) {
+    let list = listed(rt, alloc, reader);
+    assert_eq!(rt; list.as_slice(), wanted, "{name}{how}");
+}
+
+// The records of a text are these, at once and byte by byte.
+fn is_listed(rt: &impl Abort, alloc: Global, name: &str, text: &'static [u8], wanted: &[u8]) {
+    lists(rt, alloc, text, wanted, name, "");
+    let bytewise = slow(text, usize::MAX);
+    lists(rt, alloc, bytewise, wanted, name, ", byte by byte");
 }
 
 #[test]
-fn reads_records(rt: HostRuntime) -> Result<(), Fail> {
-    let alloc = rt.alloc();
+fn reads_records(rt: HostRuntime) {
     for (name, text, wanted) in [
         ("no bytes", b"".as_slice(), b"".as_slice()),
         ("blank fields", b",,,\n", b"||||;"),
@@ -106,19 +126,12 @@ fn reads_records(rt: HostRuntime) -> Result<(), Fail> {
             b"a|b|c|d|;e|f|g|h|;i|j|k|l|;",
         ),
     ] {
-        let at_once = listed(alloc, text)?;
-        assert_eq!(rt; at_once.as_slice(), wanted, "{name}");
-        let bytewise = listed(alloc, slow(text, usize::MAX))?;
-        assert_eq!(rt; bytewise.as_slice(), wanted, "{name}, byte by byte");
+        is_listed(&rt, rt.alloc(), name, text, wanted);
     }
-    Ok(())
 }
 
 #[test]
-fn refuses_plain_lines_that_are_no_record_of_four_short_fields(
-    rt: HostRuntime,
-) -> Result<(), Fail> {
-    let alloc = rt.alloc();
+fn refuses_plain_lines_that_are_no_record_of_four_short_fields(rt: HostRuntime) {
     for (name, text, wanted) in [
         (
             "a fifth field",
@@ -171,17 +184,18 @@ fn refuses_plain_lines_that_are_no_record_of_four_short_fields(
             b"a|b\"c|d|e|;?;",
         ),
     ] {
-        let at_once = listed(alloc, text)?;
-        assert_eq!(rt; at_once.as_slice(), wanted, "{name}");
-        let bytewise = listed(alloc, slow(text, usize::MAX))?;
-        assert_eq!(rt; bytewise.as_slice(), wanted, "{name}, byte by byte");
+        is_listed(&rt, rt.alloc(), name, text, wanted);
     }
-    Ok(())
+}
+
+// A reader that fails after so many bytes has these records before.
+fn lists_before(rt: &impl Abort, alloc: Global, fails_at: usize, wanted: &[u8]) {
+    let list = listed(rt, alloc, slow(b"a,b,c,d\ne,f,g,h\n", fails_at));
+    assert_eq!(rt; list.as_slice(), wanted, "after {fails_at} bytes");
 }
 
 #[test]
-fn tells_that_the_reader_failed(rt: HostRuntime) -> Result<(), Fail> {
-    let text = b"a,b,c,d\ne,f,g,h\n".as_slice();
+fn tells_that_the_reader_failed(rt: HostRuntime) {
     for (fails_at, wanted) in [
         (0, b"fault".as_slice()),
         (7, b"fault"),
@@ -189,55 +203,64 @@ fn tells_that_the_reader_failed(rt: HostRuntime) -> Result<(), Fail> {
         (15, b"a|b|c|d|;fault"),
         (16, b"a|b|c|d|;e|f|g|h|;fault"),
     ] {
-        let list = listed(rt.alloc(), slow(text, fails_at))?;
-        assert_eq!(rt; list.as_slice(), wanted, "after {fails_at} bytes");
+        lists_before(&rt, rt.alloc(), fails_at, wanted);
     }
-    Ok(())
 }
 
 // A text of 3,000 lines, of which one has a quoted field and one ends in two bytes.
-fn long_text(alloc: Global) -> Result<Vec<u8>, Fail> {
+fn long_text(rt: &impl Abort, alloc: Global) -> Vec<u8> {
     let mut text = Vec::new(alloc);
     for line in 0..3000 {
-        text.extend_from_slice(match line {
+        let bytes = match line {
             1500 => b"\"a,b\",c,d,e\n".as_slice(),
             2500 => b"f,g,h,i\r\n",
             _ => b"claimed,table,z1,\n",
-        })?;
+        };
+        text.extend_from_slice(bytes).expect(rt, "memory");
     }
-    Ok(text)
+    text
 }
 
 // Whether these are the fields of the line that stands 2,998 times in the text.
-fn is_claim(four: Four<'_>) -> bool {
-    four.first == b"claimed".as_slice()
-        && four.second == b"table".as_slice()
-        && four.third == b"z1".as_slice()
-        && four.fourth.is_empty()
+fn is_claim(row: Option<Four<'_>>) -> bool {
+    match row {
+        Some(four) => {
+            four.first == b"claimed".as_slice()
+                && four.second == b"table".as_slice()
+                && four.third == b"z1".as_slice()
+                && four.fourth.is_empty()
+        }
+        None => false,
+    }
 }
 
 // How many records a reader has, and how many of those are that line.
-fn count_rows<R: Read + Drop>(alloc: Global, reader: R) -> Result<(u32, u32), Fail> {
+fn count_rows<R: Read + Drop>(rt: &impl Abort, alloc: Global, reader: R) -> (u32, u32) {
     let mut rows = RowReader::new(alloc, reader);
     let mut same: u32 = 0;
     for count in 0..4000 {
-        if !rows.advance().or(Err("a record can't be read"))? {
-            return Ok((count, same));
+        match rows.advance() {
+            Ok(true) => {}
+            Ok(false) => return (count, same),
+            Err(_) => panic!(rt; "a record can't be read"),
         }
-        if rows.four().is_some_and(is_claim) {
+        if is_claim(rows.four()) {
             same = same.saturating_add(1);
         }
     }
-    Ok((4000, same))
+    (4000, same)
+}
+
+// The long text has its records in pieces of this size.
+fn has_its_rows(rt: &impl Abort, alloc: Global, text: &[u8], size: usize) {
+    let counts = count_rows(rt, alloc, Pieces::new(text, size));
+    assert_eq!(rt; counts, (3000, 2998), "{size} bytes at a time");
 }
 
 #[test]
-fn pieces_of_any_size_give_the_same_records(rt: HostRuntime) -> Result<(), Fail> {
-    let text = long_text(rt.alloc())?;
-    for size in [1, 2, 17, 18, 1000, 16_383, 16_384, 16_385, 100_000].as_slice() {
-        let pieces = Pieces::new(text.as_slice(), *size);
-        let counts = count_rows(rt.alloc(), pieces)?;
-        assert_eq!(rt; counts, (3000, 2998), "{size} bytes at a time");
+fn pieces_of_any_size_give_the_same_records(rt: HostRuntime) {
+    let text = long_text(&rt, rt.alloc());
+    for size in [1, 2, 17, 18, 1000, 16_383, 16_384, 16_385, 100_000] {
+        has_its_rows(&rt, rt.alloc(), text.as_slice(), size);
     }
-    Ok(())
 }
