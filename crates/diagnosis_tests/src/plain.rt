@@ -48,30 +48,35 @@ fn has_arrived(motion: &PlainMotion, sets: &[Option<u8>]) -> bool {
     }
 }
 
+/// The fault that the last two of so many readings show.
+fn fault_of_two(motion: &PlainMotion, number: usize, before: u8, last: u8) -> Option<Cause> {
+    let way = motion.from | motion.to | motion.passing;
+    let stayed = number == 2 && before & motion.to != 0 && last & motion.to != 0;
+    if stayed || (before == motion.from | motion.to && last == before) {
+        Some(Cause::StuckSwitch)
+    } else if before.count_ones() > 1 && last.count_ones() > 1 {
+        Some(Cause::Contradictory)
+    } else if is_stray(way, before) && is_stray(way, last) {
+        Some(Cause::StrayPosition)
+    } else {
+        None
+    }
+}
+
+/// Whether one switch alone is shown, which isn't on the way.
+fn is_stray(way: u8, set: u8) -> bool {
+    set.count_ones() == 1 && set & way == 0
+}
+
 /// The rules at the last of these readings.
 fn judged(motion: &PlainMotion, sets: &[Option<u8>]) -> Verdict {
     let number = sets.len();
-    let pair = last_two(sets);
-    let way = motion.from | motion.to | motion.passing;
     if has_arrived(motion, sets) {
         return Verdict::Arrived;
     }
-    if let Some((before, last)) = pair {
-        if number == 2 && before & motion.to != 0 && last & motion.to != 0 {
-            return Verdict::Fault(Cause::StuckSwitch);
-        }
-        if before == motion.from | motion.to && last == before {
-            return Verdict::Fault(Cause::StuckSwitch);
-        }
-        if before.count_ones() > 1 && last.count_ones() > 1 {
-            return Verdict::Fault(Cause::Contradictory);
-        }
-        if before.count_ones() == 1
-            && last.count_ones() == 1
-            && before & way == 0
-            && last & way == 0
-        {
-            return Verdict::Fault(Cause::StrayPosition);
+    if let Some((before, last)) = last_two(sets) {
+        if let Some(cause) = fault_of_two(motion, number, before, last) {
+            return Verdict::Fault(cause);
         }
     }
     if matches!(sets, [.., None, None, None]) {

@@ -36,13 +36,41 @@ fn limits(rt: &impl Abort, leave: u16, limit: u16) -> Limits {
     Limits::new(leave, limit).expect(rt, "limits in range")
 }
 
+/// The reading of a place is noted with this verdict.
+fn is_noted(
+    rt: &impl Abort,
+    watch: &mut AxisWatch,
+    reading: Option<Reading>,
+    wanted: Verdict,
+    place: usize,
+) {
+    let verdict = watch.note(reading);
+    assert_eq!(rt; verdict, wanted, "reading {place}");
+}
+
+/// The reading of a place is noted at rest with this verdict.
+fn is_noted_at_rest(
+    rt: &impl Abort,
+    watch: &mut RestWatch,
+    expect: &Expect,
+    reading: Option<Reading>,
+    wanted: Verdict,
+    place: usize,
+) {
+    let verdict = watch.note(expect, reading);
+    assert_eq!(rt; verdict, wanted, "reading {place}");
+}
+
 /// Notes the readings: Pending at each but the last, and this verdict at the last.
 fn decides(rt: &impl Abort, mut watch: AxisWatch, readings: &[Option<Reading>], wanted: Verdict) {
-    let mut left = readings.len();
-    for reading in readings {
-        left = left.saturating_sub(1);
-        let expected = if left == 0 { wanted } else { Verdict::Pending };
-        assert_eq!(rt; watch.note(*reading), expected, "with {left} readings left");
+    let last = readings.len().saturating_sub(1);
+    for (place, reading) in readings.iter().enumerate() {
+        let expected = if place == last {
+            wanted
+        } else {
+            Verdict::Pending
+        };
+        is_noted(rt, &mut watch, *reading, expected, place);
     }
 }
 
@@ -53,15 +81,14 @@ fn decides_at_rest(
     wanted: Verdict,
 ) {
     let mut watch = RestWatch::start(Machine::Press1);
-    let mut left = readings.len();
-    for reading in readings {
-        left = left.saturating_sub(1);
-        let expected = if left == 0 { wanted } else { Verdict::Pending };
-        assert_eq!(rt;
-            watch.note(expect, *reading),
-            expected,
-            "with {left} readings left"
-        );
+    let last = readings.len().saturating_sub(1);
+    for (place, reading) in readings.iter().enumerate() {
+        let expected = if place == last {
+            wanted
+        } else {
+            Verdict::Pending
+        };
+        is_noted_at_rest(rt, &mut watch, expect, *reading, expected, place);
     }
 }
 
@@ -182,11 +209,9 @@ fn a_verdict_stays(rt: HostRuntime) {
     stuck.note(shows(MIDDLE | TOP));
     silent.note(&MIDDLE_EMPTY, None);
     silent.note(&MIDDLE_EMPTY, None);
-    assert_eq!(rt;
-        silent.note(&MIDDLE_EMPTY, None),
-        Verdict::Fault(Cause::Silent)
-    );
-    for reading in [
+    let fault = Verdict::Fault(Cause::Silent);
+    is_noted_at_rest(&rt, &mut silent, &MIDDLE_EMPTY, None, fault, 2);
+    let readings = [
         shows(TOP),
         shows(BOTTOM),
         shows(BOTTOM),
@@ -194,13 +219,12 @@ fn a_verdict_stays(rt: HostRuntime) {
         None,
         None,
         shows(MIDDLE),
-    ] {
-        assert_eq!(rt; arrived.note(reading), Verdict::Arrived);
-        assert_eq!(rt; stuck.note(reading), Verdict::Fault(Cause::StuckSwitch));
-        assert_eq!(rt;
-            silent.note(&MIDDLE_EMPTY, reading),
-            Verdict::Fault(Cause::Silent)
-        );
+    ];
+    for (place, reading) in readings.iter().enumerate() {
+        let stuck_switch = Verdict::Fault(Cause::StuckSwitch);
+        is_noted(&rt, &mut arrived, *reading, Verdict::Arrived, place);
+        is_noted(&rt, &mut stuck, *reading, stuck_switch, place);
+        is_noted_at_rest(&rt, &mut silent, &MIDDLE_EMPTY, *reading, fault, place);
     }
 }
 
@@ -235,7 +259,7 @@ fn a_press_rests_in_the_middle(rt: HostRuntime) {
 fn a_rest_watch_tells_whether_the_last_reading_agreed(rt: HostRuntime) {
     let mut watch = RestWatch::start(Machine::Press2);
     assert!(rt; !watch.agreed());
-    for (reading, verdict, agreed) in [
+    let readings = [
         (shows(MIDDLE), Verdict::Pending, true),
         (None, Verdict::Pending, false),
         (shows(TOP), Verdict::Pending, false),
@@ -243,9 +267,10 @@ fn a_rest_watch_tells_whether_the_last_reading_agreed(rt: HostRuntime) {
         (None, Verdict::Pending, false),
         (None, Verdict::Fault(Cause::Silent), false),
         (shows(MIDDLE), Verdict::Fault(Cause::Silent), true),
-    ] {
-        assert_eq!(rt; watch.note(&MIDDLE_EMPTY, reading), verdict);
-        assert_eq!(rt; watch.agreed(), agreed);
+    ];
+    for (place, (reading, verdict, agreed)) in readings.iter().enumerate() {
+        is_noted_at_rest(&rt, &mut watch, &MIDDLE_EMPTY, *reading, *verdict, place);
+        assert_eq!(rt; watch.agreed(), *agreed, "reading {place}");
     }
 }
 
