@@ -9,6 +9,3 @@ mod words;
 
 pub use error::PageError;
 pub use page::{MAX_PAGE_ENTRIES, write_page};
-
-#[cfg(test)]
-mod tests;

@@ -23,7 +23,7 @@ fn row_after(book: &Book, i: u32) -> Row
 }
 
 // Writes the rows of the states, from the opening on.
-pub(crate) fn write_rows<W: Write>(writer: &mut W, book: &Book) -> Result<(), PageError>
+fn write_rows<W: Write>(writer: &mut W, book: &Book) -> Result<(), PageError>
     ensures { result ≡ Err PageError.TooManyEntries → ⊥ }
 {
     write!(writer, "{}", row_after(book, 0))?;

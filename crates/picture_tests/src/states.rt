@@ -5,6 +5,7 @@ use cell_samples::book_all;
 use cell_types::{AxisState, Cause, Colour, Entry, Machine, PlateId, Pose, Totals};
 use plate_book::{Book, Refusal};
 use std::alloc::Global;
+use std::process::Abort;
 
 /// Plate 1 is forged in the first press, and plate 2 lies on the table.
 pub const TWO_PLATES: [&str; 50] = [
@@ -79,14 +80,10 @@ pub const FAILED_PRESS: [&str; 14] = [
 ];
 
 /// What is drawn after all of these records, and the last of their entries.
-pub fn drawn_after(
-    alloc: Global,
-    records: &[&'static str],
-) -> Result<(Facts, Option<Entry>), &'static str> {
-    let mut book = Book::new(alloc, 100, 100).or(Err("no book has these limits"))?;
-    book_all(&mut book, records)?;
-    let length = book.journal().len();
-    Ok(facts_after(&book, length))
+pub fn drawn_after(rt: &impl Abort, alloc: Global, records: &[&str]) -> (Facts, Option<Entry>) {
+    let mut book = Book::new(alloc, 100, 100).ok().expect(rt, "a book");
+    book_all(&mut book, records).expect(rt, "a record that is allowed");
+    facts_after(&book, book.journal().len())
 }
 
 /// What is drawn with the longest words and the largest numbers.

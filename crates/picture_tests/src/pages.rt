@@ -1,0 +1,110 @@
+//! The page of a journal of a few entries, the pages that are refused, and a writer that fails.
+use cell_audit::AuditError;
+use cell_page::{MAX_PAGE_ENTRIES, PageError, write_page};
+use cell_samples::{begun, book_all};
+use cell_types::Belt;
+use plate_book::{Book, Refusal};
+use std::alloc::Global;
+use std::io::Write;
+use std::process::Abort;
+
+// The rows of the first entries of the journal of one plate: it is laid in, and the feed belt carries it to its end.
+const ROWS: &str =
+    r##"[[0,0,0,0,0,0,0,0,0],"000000000","adfhnnppa","---------","-----","000000","000000","rr",0,0,[0,0,0,0,0,0],-1,"",""],
+[[0,0,0,0,0,0,0,0,0],"000000000","adfhnnppa","---------","-----","000000","000000","gr",0,0,[1,0,0,0,0,0],0,"lamp,feed,green,","feed belt: its light turns green"],
+[[1,0,0,0,0,0,0,0,0],"000000000","adfhnnppa","---------","-----","000000","000000","rr",0,0,[2,1,0,0,0,0],0,"admitted,1,,","feed belt: plate 1 is admitted"],
+[[1,0,0,0,0,0,0,0,0],"000000000","adfhnnppa","b--------","-----","000000","000000","rr",0,0,[3,1,0,0,0,0],0,"started,feed_belt,to_end,","feed belt: starts to go to its end"],
+[[0,1,0,0,0,0,0,0,0],"000000000","adfhnnppa","---------","-----","000000","000000","rr",0,0,[4,1,0,0,0,0],0,"conveyed,feed_belt,1,feed_end","feed belt: brings plate 1 to the feed belt's end"]"##;
+
+// Writes the page of the first four entries of the journal of one plate.
+fn write_first<W: Write>(
+    rt: &impl Abort,
+    alloc: Global,
+    writer: &mut W,
+    answer: Option<AuditError>,
+) -> Result<(), PageError> {
+    let book = begun(alloc, 100, 10, 4).expect(rt, "a book");
+    write_page(writer, &book, answer)
+}
+
+// That page as text.
+fn first_page(rt: &impl Abort, alloc: Global, answer: Option<AuditError>) -> String {
+    let mut page = Vec::new(alloc);
+    assert_eq!(rt; write_first(rt, alloc, &mut page, answer), Ok(()));
+    String::from_utf8(page).ok().expect(rt, "the page is UTF-8")
+}
+
+// What stands in a page between the beginning of the rows and their end.
+fn rows_in(page: &str) -> Option<&str> {
+    let (_, rest) = page.split_once("\"rows\":[\n")?;
+    let (rows, _) = rest.split_once("\n]}\n</script>\n")?;
+    Some(rows)
+}
+
+// A book of so many entries, of which each switches the feed light.
+fn switching(rt: &impl Abort, alloc: Global, count: u32) -> Book {
+    let mut book = Book::new(alloc, 100_000, 1).ok().expect(rt, "a book");
+    for place in 0..count {
+        let record = if place % 2 == 0 {
+            "lamp,feed,green,"
+        } else {
+            "lamp,feed,red,"
+        };
+        assert!(rt; book_all(&mut book, &[record]).is_ok());
+    }
+    book
+}
+
+// Writes the page of such a book.
+fn write_switching(
+    rt: &impl Abort,
+    alloc: Global,
+    page: &mut Vec<u8>,
+    count: u32,
+) -> Result<(), PageError> {
+    let book = switching(rt, alloc, count);
+    write_page(page, &book, None)
+}
+
+#[test]
+fn writes_a_row_for_each_state(rt: HostRuntime) {
+    let page = first_page(&rt, rt.alloc(), None);
+    assert_eq!(rt; rows_in(page.as_str()), Some(ROWS));
+}
+
+#[test]
+fn writes_a_page_with_the_rows_and_the_answer(rt: HostRuntime) {
+    let answer = AuditError::Refused(5, Refusal::LampRed(Belt::Feed));
+    let page = first_page(&rt, rt.alloc(), Some(answer));
+    let text = page.as_str();
+    assert!(rt; text.starts_with("<!DOCTYPE html>\n<html lang=\"en\">\n"));
+    assert!(rt; text.contains(ROWS));
+    assert!(rt; text.contains("refused 5 LampRed feed"));
+    assert!(rt; text.ends_with("</script>\n</body>\n</html>\n"));
+}
+
+#[test]
+fn refuses_a_journal_that_is_too_long(rt: HostRuntime) {
+    let mut page = Vec::new(rt.alloc());
+    let refused = write_switching(&rt, rt.alloc(), &mut page, MAX_PAGE_ENTRIES + 1);
+    assert_eq!(rt; refused, Err(PageError::TooManyEntries));
+    assert!(rt; page.is_empty());
+    let longest = write_switching(&rt, rt.alloc(), &mut page, MAX_PAGE_ENTRIES);
+    assert_eq!(rt; longest, Ok(()));
+    assert!(rt; page.len() < 5_000_000);
+}
+
+// A page isn't written whole into so many bytes.
+fn fails_after(rt: &impl Abort, alloc: Global, room: usize) {
+    let mut bytes = vec![in alloc; 0u8; room].expect(rt, "memory");
+    let mut rest = bytes.as_mut_slice();
+    let answer = write_first(rt, alloc, &mut rest, None);
+    assert_eq!(rt; answer, Err(PageError::WriteFault));
+}
+
+#[test]
+fn tells_that_the_writer_failed(rt: HostRuntime) {
+    for room in [0, 1000, 30_000] {
+        fails_after(&rt, rt.alloc(), room);
+    }
+}
