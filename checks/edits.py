@@ -1,15 +1,15 @@
 #!/usr/bin/env python3
-"""Tries the edits of edits/: changes of the code, mostly of one line, after which it does another thing than its contract says, so that the prover has to refuse
-them. Usage: checks/edits.sh [changed | all | tried | CRATE..]
+"""Tries the edits of edits/: changes of the code, mostly of one line, after which it does another thing than its contract
+says, so that the prover has to refuse them. Usage: checks/edits.sh [changed | all | tried | CRATE..]
 
   changed   (no word) those of the crates whose digest isn't in edits/TRIED
   all       those of every crate
   CRATE..   those of these crates
   tried     tries none: says which crates changed since all their edits were refused, and fails where there is one
 
-It first proves what isn't proved. Then it tries edits side by side, each over a copy of what rt kept of its crate, and says of each whether it was refused, and
-by what. edits/TRIED has a line for each crate whose edits were all refused: a digest over its src, specs, proofs and edits. It is judged by the function by which
-`rt ci` judges the edits of must-fail/."""
+It first proves what isn't proved. Then it tries edits side by side, each over a copy of what rt kept of its crate, and says
+of each whether it was refused, and by what. edits/TRIED has a line for each crate whose edits were all refused: a digest
+over its src, specs, proofs and edits. Each is judged by the function by which `rt ci` judges the edits of must-fail/."""
 
 import hashlib
 import importlib.machinery
@@ -33,16 +33,19 @@ IN_TURN = 8
 def edits_of(crate):
     """The edits of a crate, by the paths of their files."""
     folder = f"{EDITS}/{crate}"
-    return [f"{folder}/{it}" for it in sorted(os.listdir(folder)) if it.endswith(".edit")] if os.path.isdir(folder) else []
+    names = sorted(os.listdir(folder)) if os.path.isdir(folder) else []
+    return [f"{folder}/{it}" for it in names if it.endswith(".edit")]
 
 
 def digest_of(crate):
     """A digest over the files of a crate's sources and edits."""
     digest = hashlib.sha256()
     folders = [*(f"crates/{crate}/{part}" for part in rooms.PARTS), f"edits/{crate}"]
-    for file in sorted(f"{at}/{it}" for folder in folders for at, _, names in os.walk(f"{rooms.TREE}/{folder}") for it in names):
+    walks = [walk for folder in folders for walk in os.walk(f"{rooms.TREE}/{folder}")]
+    for file in sorted(f"{at}/{it}" for at, _, names in walks for it in names):
         with open(file, "rb") as text:
-            digest.update(f"{os.path.relpath(file, rooms.TREE)}\n{hashlib.sha256(text.read()).hexdigest()}\n".encode())
+            sum_of_file = hashlib.sha256(text.read()).hexdigest()
+        digest.update(f"{os.path.relpath(file, rooms.TREE)}\n{sum_of_file}\n".encode())
     return digest.hexdigest()
 
 
@@ -63,7 +66,7 @@ def note_tried(crate, digest):
 
 
 def load_rt():
-    """rt itself, as a module: its command must-fail proves a crate anew for its first edit and tries one edit after another."""
+    """rt itself, as a module: its command must-fail proves a crate anew for its first edit, and tries one after another."""
     loader = importlib.machinery.SourceFileLoader("rt", os.path.realpath(shutil.which("rt")))
     module = importlib.util.module_from_spec(importlib.util.spec_from_loader("rt", loader))
     loader.exec_module(module)
@@ -73,7 +76,8 @@ def load_rt():
 
 
 def try_in_turn(rt, crate, edits, say):
-    """Tries edits of a crate over one copy of what rt kept of it, and returns whether all were refused and the crate itself is proved over that copy."""
+    """Tries edits of a crate over one copy of what rt kept of it, and returns whether all were refused and the crate itself
+    is proved over that copy."""
     with tempfile.TemporaryDirectory(prefix="edits-") as place:
         kept = f"{place}/kept"
         if os.path.isdir(f"{crate.folder}/out/incremental"):
@@ -90,7 +94,8 @@ def try_in_turn(rt, crate, edits, say):
 
 
 def try_all(names):
-    """Tries the edits of these crates side by side, and notes those whose edits were all refused. Returns how many crates have one that wasn't."""
+    """Tries the edits of these crates side by side, and notes those whose edits were all refused. Returns how many crates
+    have one that wasn't."""
     rt, clock, printing = load_rt(), rooms.Clock(), threading.Lock()
     crates = {it.name: it for it in rt.rtlib.crates_below(rooms.TREE)}
     digests = {name: digest_of(name) for name in names}
@@ -134,7 +139,7 @@ def main(words):
         return 1 if changed else 0
     unknown = [it for it in words if it not in named and it not in ("changed", "all")]
     if unknown or len(words) > 1 and {"changed", "all"} & {*words}:
-        print(f"edits: no crate with edits is named {' '.join(unknown) or ' '.join(words)}", __doc__.split("\n\n")[0], sep="\n", file=sys.stderr)
+        print(f"edits: no crate with edits is named {' '.join(unknown or words)}", file=sys.stderr)
         return 2
     names = named if words == ["all"] else changed if words in ([], ["changed"]) else words
     if not names:

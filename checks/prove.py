@@ -1,6 +1,9 @@
 #!/usr/bin/env python3
-"""Proves the libraries that cellctl stands on, as many side by side as there are processors and memory, and then proves and builds the program over them. It
-says how far it is. What is proved already is not proved again. With names of crates it proves these and those below them, and builds no program."""
+"""Proves the libraries that cellctl stands on, as many side by side as there are processors and memory, and then proves and
+builds the program over them. It says how far it is. What is proved already is not proved again. With names of crates it
+proves these and those below them.
+
+Usage: checks/prove.py [CRATE..]"""
 
 import os
 import shutil
@@ -20,14 +23,15 @@ def keep(origin, target):
 
 
 def prove(crates, name, jobs, place):
-    """Proves a crate in a room, over what rt kept of it, and brings back what was made. Returns whether it was proved, and what rt said."""
+    """Proves a crate in a room, over what rt kept of it, and brings back what was made. Returns whether it was proved, and
+    what rt said."""
     room, own = f"{place}/{name}", f"{rooms.TREE}/crates/{name}/out"
     folder = rooms.open_room(room, crates, name)
     parts = [it for it in ("incremental", "rlib") if os.path.isdir(f"{own}/{it}")]
     for part in parts:
         keep(f"{own}/{part}", f"{folder}/out/{part}")
     is_program = os.path.isfile(f"{folder}/src/main.rt")
-    words = ["rt", "run", "--jobs", str(jobs), "--", "--help"] if is_program else ["rt", "lib", "--jobs", str(jobs)]
+    words = ["rt", "run" if is_program else "lib", "--jobs", str(jobs), *(["--", "--help"] if is_program else [])]
     try:
         status, said = rooms.run(words, folder)
     finally:
@@ -53,7 +57,7 @@ def prove_all(names):
         def task(name, jobs):
             is_proved, said = prove(crates, name, jobs, place)
             if not is_proved:
-                print("\n".join(said.rstrip("\n").split("\n")[-5:]), f"cellctl: {name} was not proved", sep="\n", flush=True)
+                print(*said.rstrip("\n").split("\n")[-5:], f"cellctl: {name} was not proved", sep="\n", flush=True)
                 return None
             done.append(name)
             print(f"cellctl: {len(done)} of {len(needed)} proved, after {clock}: {name}", flush=True)

@@ -1,8 +1,9 @@
-"""Rooms: folders in which rt works on one crate over libraries that are built already, so that crates are proved side by side.
+"""Rooms: folders in which rt works on one crate over libraries that are built already, so that crates are proved side by
+side.
 
-rt locks every crate below the one that it works on, so in one tree it proves one crate after another. A room has its own copy of
-them: sources, and libraries as hard links where the file system has them. rt makes each library anew in a new folder and writes
-none in place, so the tree's own stay as they are.
+rt locks every crate below the one that it works on, so in one tree it proves one crate after another. A room has its own
+copy of them: sources, and libraries as hard links where the file system has them. rt makes each library anew in a new
+folder and writes none in place, so the tree's own stay as they are.
 """
 
 import contextlib
@@ -41,8 +42,13 @@ def all_below(crates, name):
 
 def lines_of(name, tree=TREE):
     """The lines of a crate's sources."""
-    files = (f"{at}/{it}" for part in PARTS for at, _, names in os.walk(f"{tree}/crates/{name}/{part}") for it in names)
-    return sum(open(it, "rb").read().count(b"\n") for it in files)
+    count = 0
+    for part in PARTS:
+        for at, _, files in os.walk(f"{tree}/crates/{name}/{part}"):
+            for file in files:
+                with open(f"{at}/{file}", "rb") as text:
+                    count += text.read().count(b"\n")
+    return count
 
 
 def longest_chains(crates, weight):
@@ -74,11 +80,14 @@ def link(origin, copy):
 
 
 def open_room(room, crates, name, tree=TREE):
-    """Makes a room for a crate, with the libraries below it, and returns the crate's folder in it. What rt kept of the crate stays behind."""
+    """Makes a room for a crate, with the libraries below it, and returns the crate's folder in it. What rt kept of the crate
+    stays behind."""
     below = all_below(crates, name)
     os.makedirs(f"{room}/crates")
-    with open(f"{tree}/crates.txt", encoding="utf-8") as origin, open(f"{room}/crates.txt", "w", encoding="utf-8") as copy:
-        copy.writelines(line for line in origin if line.split(":")[0].split()[:1] and line.split(":")[0].split()[0] in {*below, name})
+    with open(f"{tree}/crates.txt", encoding="utf-8") as lines:
+        listed = [line for line in lines if line.partition(":")[0] in {*below, name}]
+    with open(f"{room}/crates.txt", "w", encoding="utf-8") as copy:
+        copy.writelines(listed)
     for it in [*below, name]:
         for part in PARTS:
             if os.path.isdir(f"{tree}/crates/{it}/{part}"):
@@ -89,8 +98,9 @@ def open_room(room, crates, name, tree=TREE):
 
 
 def in_lanes(tasks, count):
-    """Runs tasks side by side, and returns what each gave. A task is a name, the names of those that it waits for, its rank and a call that is given how many
-    processors it may use; of those that may begin the one with the highest rank begins. None begins once one has given None."""
+    """Runs tasks side by side, and returns what each gave. A task is a name, the names of those that it waits for, its rank
+    and a call that is given how many processors it may use; of those that may begin the one with the highest rank begins.
+    None begins once one has given None."""
     given, running, turn, left = {}, {}, threading.Condition(), dict(tasks)
 
     def work(name, call, jobs):
@@ -106,7 +116,8 @@ def in_lanes(tasks, count):
     with turn:
         try:
             while (left or running) and None not in given.values():
-                ready = sorted((it for it in left if all(below in given for below in left[it][0])), key=lambda it: -left[it][1])
+                ready = [it for it in left if all(below in given for below in left[it][0])]
+                ready.sort(key=lambda it: -left[it][1])
                 for at, name in enumerate(ready):
                     idle = count - sum(running.values())
                     if idle > 0:
@@ -125,7 +136,8 @@ STARTED = set()
 
 def run(words, folder):
     """Runs a command in a folder, and returns its status and what it said. It is ended where this program is."""
-    with subprocess.Popen(words, cwd=folder, stdin=subprocess.DEVNULL, stdout=subprocess.PIPE, stderr=subprocess.STDOUT, text=True, errors="replace") as started:
+    how = {"stdin": subprocess.DEVNULL, "stdout": subprocess.PIPE, "stderr": subprocess.STDOUT, "errors": "replace"}
+    with subprocess.Popen(words, cwd=folder, **how) as started:
         STARTED.add(started)
         said = started.communicate()[0]
         STARTED.discard(started)
@@ -134,7 +146,8 @@ def run(words, folder):
 
 @contextlib.contextmanager
 def alone(tree=TREE):
-    """Waits until no other call of this works in the tree. Where this one is ended, it first ends what it started, so that what rt kept gets back to its place."""
+    """Waits until no other call of this works in the tree. Where this one is ended, it first ends what it started, so that
+    what rt kept gets back to its place."""
 
     def end(*_):
         for it in (signal.SIGINT, signal.SIGTERM):
