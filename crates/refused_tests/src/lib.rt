@@ -11,8 +11,6 @@ mod explained;
 #[cfg(test)]
 mod runs;
 #[cfg(test)]
-mod same;
-#[cfg(test)]
 mod shown;
 #[cfg(test)]
 mod texts;
