@@ -1,7 +1,8 @@
 #!/bin/bash
 # Looks whether the documents are true where a script can tell: each command in a block of the kind `console` is run, and
 # prints what stands there; each excerpt of code stands in its file; each link leads somewhere; each crate is in the map and
-# has its README; the manual page is what the help texts make, and the completion has each command and option.
+# has its README; the documents name the kit that KIT names; the manual page is what the help texts make, and the completion
+# has each command and option.
 # Usage: checks/docs.sh     Build the program first: ./cellctl --prove does. CELLCTL names another one.
 set -u
 here=$(cd "$(dirname "$0")/.." && pwd) || exit 1
@@ -139,6 +140,13 @@ look_at_crates() {
     [ "$(wc -l < README.md)" -le 80 ] || wrong "README.md has more than 80 lines"
 }
 
+look_at_kit() {
+    local document
+    for document in README.md docs/PROVED.md; do
+        grep -qF "\`$(cat KIT)\`" "$document" || wrong "$document names another kit than KIT"
+    done
+}
+
 # The words of a part of a help text: its commands, or its long options.
 words_of() {
     "$cellctl" $2 --help | awk -v part="$1" '
@@ -177,6 +185,7 @@ look_at_scripts
 look_at_excerpts
 look_at_links
 look_at_crates
+look_at_kit
 look_at_words
 echo "documents: $commands commands run; $([ $failed = 0 ] && echo all as they stand || echo some are another)"
 exit $failed
