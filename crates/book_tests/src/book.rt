@@ -17,40 +17,61 @@ const ALL_DECLARED: [&str; 6] = [
     "declared,deposit,silent,",
 ];
 
+// Books these records.
+pub(crate) fn book_records(rt: &impl Abort, book: &mut Book, records: &[&str]) {
+    assert_eq!(rt; book_all(book, records), Ok(()));
+}
+
 // A book with the first entries of the journal, and these besides.
 fn begun_with(rt: &impl Abort, alloc: Global, count: usize, records: &[&str]) -> Book {
-    let Ok(mut book) = begun(alloc, 100, 10, count) else {
-        panic!(rt; "the entries are allowed, and there is memory");
-    };
-    assert_eq!(rt; book_all(&mut book, records), Ok(()));
+    let mut book = begun(alloc, 100, 10, count).expect(rt, "a book");
+    book_records(rt, &mut book, records);
     book
+}
+
+// A book of these limits.
+pub(crate) fn new_book(rt: &impl Abort, alloc: Global, limit: u32, plates: u32) -> Book {
+    Book::new(alloc, limit, plates).ok().expect(rt, "a book")
 }
 
 // All that a book tells.
 fn told_by(rt: &impl Abort, alloc: Global, book: &Book) -> Told {
-    let Ok(told) = Told::of(alloc, book) else {
-        panic!(rt; "there is memory");
-    };
-    told
+    Told::of(alloc, book).expect(rt, "memory")
 }
 
-// What a book with the first entries of the journal, and these besides, answers to a last one. A refusal leaves the book as it
-// was, and an entry that is booked changes it.
-fn answer(
+// What a book answers to a record.
+fn answer_to(rt: &impl Abort, book: &mut Book, record: &str) -> Result<(), Refusal> {
+    book.apply(entry_of(record).expect(rt, record))
+}
+
+// Whether a book allows a record.
+fn allowed_by(rt: &impl Abort, book: &Book, record: &str) -> Result<(), Refusal> {
+    book.allows(entry_of(record).expect(rt, record))
+}
+
+// What a book answers to a record. A refusal leaves the book as it was, and an entry that is booked changes it.
+fn last_answer(rt: &impl Abort, alloc: Global, book: &mut Book, last: &str) -> Result<(), Refusal> {
+    let before = told_by(rt, alloc, book);
+    let allowed = allowed_by(rt, book, last);
+    let applied = answer_to(rt, book, last);
+    assert!(rt; allowed == applied, "{last}");
+    let is_same = told_by(rt, alloc, book).is_same(&before);
+    assert!(rt; is_same == applied.is_err(), "{last}");
+    applied
+}
+
+// A book with the first entries of the journal, and these besides, gives this answer to a last one.
+fn answers(
     rt: &impl Abort,
     alloc: Global,
     count: usize,
     records: &[&str],
     last: &str,
-) -> Result<(), Refusal> {
+    wanted: Result<(), Refusal>,
+) {
     let mut book = begun_with(rt, alloc, count, records);
-    let before = told_by(rt, alloc, &book);
-    let allowed = book.allows(entry_of(last).expect(rt, last));
-    let applied = book.apply(entry_of(last).expect(rt, last));
-    assert!(rt; allowed == applied, "{last}");
-    let is_same = told_by(rt, alloc, &book).is_same(&before);
-    assert!(rt; is_same == applied.is_err(), "{last}");
-    applied
+    let given = last_answer(rt, alloc, &mut book, last);
+    assert!(rt; given == wanted, "after {count}: {last}");
 }
 
 #[test]
@@ -103,8 +124,7 @@ fn the_first_refusal_is_answered(rt: HostRuntime) {
         (60, "delivered,1,,", Refusal::LampRed(Belt::Deposit)),
         (61, "delivered,2,,", Refusal::WrongPlate),
     ] {
-        let given = answer(&rt, rt.alloc(), count, &[], record);
-        assert!(rt; given == Err(refusal), "after {count}: {record}");
+        answers(&rt, rt.alloc(), count, &[], record, Err(refusal));
     }
 }
 
@@ -153,8 +173,7 @@ fn faults_and_repairs_are_answered(rt: HostRuntime) {
             Refusal::AlreadyAsked(Machine::Feed),
         ),
     ] {
-        let given = answer(&rt, rt.alloc(), count, records, record);
-        assert!(rt; given == Err(refusal), "after {count}: {record}");
+        answers(&rt, rt.alloc(), count, records, record, Err(refusal));
     }
     let other_press: &[&str] = &[
         "declared,press1,operator_stop,",
@@ -177,9 +196,16 @@ fn faults_and_repairs_are_answered(rt: HostRuntime) {
         (other_press, "dropped,arm1,1,press2"),
         (emptied, "repaired,press1,,"),
     ] {
-        let given = answer(&rt, rt.alloc(), 28, records, record);
-        assert!(rt; given == Ok(()), "{record}");
+        answers(&rt, rt.alloc(), 28, records, record, Ok(()));
     }
+}
+
+// Neither a book nor records have these limits, for this reason.
+fn has_no_book(rt: &impl Abort, alloc: Global, limit: u32, plates: u32, error: OpenError) {
+    let book = Book::new(alloc, limit, plates).err();
+    assert!(rt; book == Some(error));
+    let records = Records::new(alloc, limit, plates).err();
+    assert!(rt; records == Some(error));
 }
 
 #[test]
@@ -191,51 +217,56 @@ fn limits_are_kept(rt: HostRuntime) {
         (1, 0, OpenError::BadPlates),
         (1, 100_001, OpenError::BadPlates),
     ] {
-        assert!(rt; matches!(Book::new(rt.alloc(), limit, plates), Err(e) if e == error));
-        assert!(rt; matches!(Records::new(rt.alloc(), limit, plates), Err(e) if e == error));
+        has_no_book(&rt, rt.alloc(), limit, plates, error);
     }
+}
+
+// After a record another is refused, since no more plates are admitted.
+fn has_no_plates_left(rt: &impl Abort, book: &mut Book, before: &str, record: &str) {
+    book_records(rt, book, &[before]);
+    let given = answer_to(rt, book, record);
+    assert!(rt; given == Err(Refusal::PlateLimit), "after {before}");
 }
 
 #[test]
 fn plates_beyond_the_limit_are_refused(rt: HostRuntime) {
-    let Ok(mut book) = begun(rt.alloc(), 10, 1, 4) else {
-        panic!(rt; "the entries are allowed, and there is memory");
-    };
+    let mut book = begun(rt.alloc(), 10, 1, 4).expect(&rt, "a book");
     for (before, record) in [
         ("stop_asked,table,,", "admitted,2,,"),
         ("stop_asked,robot,,", "admitted,3,,"),
         ("declared,feed,silent,", "admitted,3,,"),
     ] {
-        assert_eq!(rt; book_all(&mut book, &[before]), Ok(()));
-        let given = book.apply(entry_of(record).expect(&rt, record));
-        assert!(rt; given == Err(Refusal::PlateLimit), "after {before}");
+        has_no_plates_left(&rt, &mut book, before, record);
     }
 }
 
 // None of these records is booked, since the journal is full.
 fn none_is_booked(rt: &impl Abort, book: &mut Book, records: &[&str]) {
     for record in records {
-        let given = book.apply(entry_of(record).expect(rt, record));
+        let given = answer_to(rt, book, record);
         assert!(rt; given == Err(Refusal::JournalFull), "{record}");
     }
 }
 
-#[test]
-fn a_full_journal_takes_declarations_alone(rt: HostRuntime) {
-    let Ok(mut book) = Book::new(rt.alloc(), 1, 1) else {
-        panic!(rt; "the limits are in range, and there is memory");
-    };
-    assert_eq!(rt; book_all(&mut book, &["lamp,feed,green,"]), Ok(()));
+// Of these records a journal that is full but for declarations allows those alone.
+fn allows_declarations_alone(rt: &impl Abort, book: &Book) {
     for record in [
         "lamp,feed,red,",
         "stop_asked,feed,,",
         "declared,feed,silent,",
     ] {
-        let given = book.allows(entry_of(record).expect(&rt, record));
+        let given = allowed_by(rt, book, record);
         let declared = record == "declared,feed,silent,";
         assert!(rt; given.is_ok() == declared, "{record}");
     }
-    assert_eq!(rt; book_all(&mut book, &ALL_DECLARED), Ok(()));
+}
+
+#[test]
+fn a_full_journal_takes_declarations_alone(rt: HostRuntime) {
+    let mut book = new_book(&rt, rt.alloc(), 1, 1);
+    book_records(&rt, &mut book, &["lamp,feed,green,"]);
+    allows_declarations_alone(&rt, &book);
+    book_records(&rt, &mut book, &ALL_DECLARED);
     assert!(rt; book.journal().len() == 7);
     none_is_booked(&rt, &mut book, &ONE_PLATE);
     none_is_booked(&rt, &mut book, &ALL_DECLARED);
@@ -270,22 +301,22 @@ fn the_book_tells_its_journal(rt: HostRuntime) {
     delivery_is_told(&rt, &begun_with(&rt, rt.alloc(), 62, &[]), first);
 }
 
+// The first press stands in the middle, and nobody holds its zone.
+fn press_is_at_home(rt: &impl Abort, book: &Book) {
+    let pose = book.pose(Axis::PressOne);
+    assert!(rt; pose.at == Pose::Middle && pose.going.is_none());
+    assert!(rt; book.holder(Zone::Z3).is_none());
+    assert!(rt; book.totals().forged == 0);
+}
+
 #[test]
 fn a_repaired_press_is_at_home(rt: HostRuntime) {
-    let repaired = begun_with(
-        &rt,
-        rt.alloc(),
-        34,
-        &[
-            "declared,press1,missing_motion,",
-            "quarantined,1,press1,",
-            "repaired,press1,,",
-        ],
-    );
-    let pose = repaired.pose(Axis::PressOne);
-    assert!(rt; pose.at == Pose::Middle && pose.going.is_none());
-    assert!(rt; repaired.holder(Zone::Z3).is_none());
-    assert!(rt; repaired.totals().forged == 0);
+    let records = [
+        "declared,press1,missing_motion,",
+        "quarantined,1,press1,",
+        "repaired,press1,,",
+    ];
+    press_is_at_home(&rt, &begun_with(&rt, rt.alloc(), 34, &records));
 }
 
 // Clears a plate from the table. Where the growth of the quarantine is refused, the book is as it was, and takes the entry
@@ -298,46 +329,54 @@ fn clear(rt: &impl Abort, book: &mut Book, plate: PlateId, cleared: Entry) {
     }
 }
 
-// In a run that refuses one allocation the quarantine's growth may be the one refused.
-#[test]
-fn a_refused_growth_leaves_the_book(rt: HostRuntime) {
-    let Ok(mut book) = Book::new(rt.alloc(), 100, 10).or_else(|_| Book::new(rt.alloc(), 100, 10))
-    else {
-        panic!(rt; "the limits are in range, and there is memory");
-    };
-    assert_eq!(rt; book_all(&mut book, &ONE_PLATE[..7]), Ok(()));
-    assert_eq!(rt;
-        book_all(
-            &mut book,
-            &["yielded,feed,z1,", "declared,table,operator_stop,"]
-        ),
-        Ok(())
-    );
-    let first = PlateId::new(1).expect(&rt, "a plate's number");
-    let cleared = entry_of("quarantined,1,table,").expect(&rt, "a record");
-    clear(&rt, &mut book, first, cleared);
+// The first plate was cleared from the table by the tenth entry.
+fn is_cleared(rt: &impl Abort, book: &Book, first: PlateId) {
     assert!(rt; book.journal().len() == 10 && book.place(first) == Place::Quarantine);
     assert!(rt; book.quarantine().get(&first).copied() == Some(Station::Table));
 }
 
+// In a run that refuses one allocation the quarantine's growth may be the one refused.
 #[test]
-fn records_tell_a_cleared_plate(rt: HostRuntime) {
-    let Ok(mut records) = Records::new(rt.alloc(), 100, 10) else {
-        panic!(rt; "the limits are in range, and there is memory");
-    };
-    let cleared = [
-        "yielded,feed,z1,",
-        "declared,table,operator_stop,",
-        "quarantined,1,table,",
-    ];
-    for record in ONE_PLATE.iter().take(7).chain(cleared.iter()) {
-        let given = records.apply(entry_of(record).expect(&rt, record));
-        assert!(rt; given == Ok(()), "{record}");
-    }
+fn a_refused_growth_leaves_the_book(rt: HostRuntime) {
+    let mut book = Book::new(rt.alloc(), 100, 10)
+        .or_else(|_| Book::new(rt.alloc(), 100, 10))
+        .ok()
+        .expect(&rt, "a book");
+    book_records(&rt, &mut book, &ONE_PLATE[..7]);
+    let failed = ["yielded,feed,z1,", "declared,table,operator_stop,"];
+    book_records(&rt, &mut book, &failed);
     let first = PlateId::new(1).expect(&rt, "a plate's number");
+    let cleared = entry_of("quarantined,1,table,").expect(&rt, "a record");
+    clear(&rt, &mut book, first, cleared);
+    is_cleared(&rt, &book, first);
+}
+
+// Records take a record.
+fn records_take(rt: &impl Abort, records: &mut Records, record: &str) {
+    let given = records.apply(entry_of(record).expect(rt, record));
+    assert!(rt; given == Ok(()), "{record}");
+}
+
+// The first plate was cleared from the table by the tenth entry of these records.
+fn records_tell_it(rt: &impl Abort, records: &Records, first: PlateId) {
     assert!(rt; records.totals().entries == 10);
     assert!(rt; records.quarantine().get(&first).copied() == Some(Station::Table));
     assert!(rt; records.place(first) == Place::Quarantine);
+}
+
+#[test]
+fn records_tell_a_cleared_plate(rt: HostRuntime) {
+    let mut records = Records::new(rt.alloc(), 100, 10)
+        .ok()
+        .expect(&rt, "records");
+    for record in &ONE_PLATE[..7] {
+        records_take(&rt, &mut records, record);
+    }
+    records_take(&rt, &mut records, "yielded,feed,z1,");
+    records_take(&rt, &mut records, "declared,table,operator_stop,");
+    records_take(&rt, &mut records, "quarantined,1,table,");
+    let first = PlateId::new(1).expect(&rt, "a plate's number");
+    records_tell_it(&rt, &records, first);
 }
 
 #[test]

@@ -1,7 +1,8 @@
 //! Past states, and entries as words.
+use crate::book::{book_records, new_book};
 use cell_journal::laws::{pack, unpack};
 use cell_journal::{Journal, Snapshot};
-use cell_samples::{LAID_BACK, ONE_PLATE, begun, book_all, entry_of};
+use cell_samples::{LAID_BACK, ONE_PLATE, begun, entry_of};
 use cell_types::{
     AXES, Axis, BELTS, Belt, Colour, Entry, MACHINES, Machine, PlateId, Pose, STATIONS, Station,
     ZONES, Zone,
@@ -15,6 +16,12 @@ fn entry(rt: &impl Abort, record: &str) -> Entry {
     entry_of(record).expect(rt, record)
 }
 
+// The entry of a record is packed as this word, and unpacked from it.
+fn is_packed(rt: &impl Abort, record: &str, word: u32) {
+    assert_eq!(rt; pack(entry(rt, record)), word, "{record}");
+    assert_eq!(rt; unpack(word), Some(entry(rt, record)), "{record}");
+}
+
 #[test]
 fn entries_are_packed_by_the_table_of_bits(rt: HostRuntime) {
     for (record, word) in [
@@ -25,8 +32,7 @@ fn entries_are_packed_by_the_table_of_bits(rt: HostRuntime) {
         ("expected,1,,", 527),
         ("reinstated,100000,,", 51_200_016),
     ] {
-        assert_eq!(rt; pack(entry(&rt, record)), word, "{record}");
-        assert_eq!(rt; unpack(word), Some(entry(&rt, record)), "{record}");
+        is_packed(&rt, record, word);
     }
 }
 
@@ -56,6 +62,13 @@ fn words_of_no_entry_are_not_unpacked(rt: HostRuntime) {
     }
 }
 
+// The entry of each record is unpacked from its word.
+fn are_unpacked(rt: &impl Abort, records: &[&str]) {
+    for record in records {
+        is_packed(rt, record, pack(entry(rt, record)));
+    }
+}
+
 #[test]
 fn each_record_is_unpacked_again(rt: HostRuntime) {
     let others = [
@@ -69,14 +82,12 @@ fn each_record_is_unpacked_again(rt: HostRuntime) {
         "expected,100000,,",
         "reinstated,77,,",
     ];
-    for record in ONE_PLATE.iter().chain(others.iter()) {
-        let word = pack(entry(&rt, record));
-        assert_eq!(rt; unpack(word), Some(entry(&rt, record)), "{record}");
-    }
+    are_unpacked(&rt, &ONE_PLATE);
+    are_unpacked(&rt, &others);
 }
 
-// What a book tells is what a snapshot says.
-fn check_told(rt: &impl Abort, snapshot: &Snapshot, book: &Book) {
+// What a book tells of stations, axes and zones is what a snapshot says.
+fn check_places(rt: &impl Abort, snapshot: &Snapshot, book: &Book) {
     for station in STATIONS {
         assert_eq!(rt; snapshot.plate_at(station), book.plate_at(station));
     }
@@ -86,10 +97,20 @@ fn check_told(rt: &impl Abort, snapshot: &Snapshot, book: &Book) {
     for zone in ZONES {
         assert_eq!(rt; snapshot.holder(zone), book.holder(zone));
     }
+}
+
+// What a book tells of machines is what a snapshot says.
+fn check_machines(rt: &impl Abort, snapshot: &Snapshot, book: &Book) {
     for machine in MACHINES {
         assert_eq!(rt; snapshot.failed(machine), book.failed(machine));
         assert_eq!(rt; snapshot.asked(machine), book.asked(machine));
     }
+}
+
+// What a book tells is what a snapshot says.
+fn check_told(rt: &impl Abort, snapshot: &Snapshot, book: &Book) {
+    check_places(rt, snapshot, book);
+    check_machines(rt, snapshot, book);
     for belt in BELTS {
         assert_eq!(rt; snapshot.lamp(belt), book.lamp(belt));
     }
@@ -97,31 +118,49 @@ fn check_told(rt: &impl Abort, snapshot: &Snapshot, book: &Book) {
     assert_eq!(rt; snapshot.totals, book.totals());
 }
 
+// The state of a book after as many entries as another has, and how many were replayed for it.
+fn state_of(whole: &Book, book: &Book) -> (Snapshot, u32) {
+    let length = book.journal().len();
+    whole.state_at(length.min(whole.journal().len()))
+}
+
+// The state of a book after as many entries as another has is what that one tells.
+fn is_past_state(rt: &impl Abort, whole: &Book, book: &Book) {
+    let (snapshot, replayed) = state_of(whole, book);
+    check_told(rt, &snapshot, book);
+    assert_eq!(rt; replayed, book.journal().len());
+}
+
+// A book with the first entries of the journal of one plate.
+fn one_plate(rt: &impl Abort, alloc: Global, count: usize) -> Book {
+    begun(alloc, 100, 10, count).expect(rt, "a book")
+}
+
 #[test]
 fn each_past_state_is_that_of_a_shorter_book(rt: HostRuntime) {
-    let Ok(whole) = begun(rt.alloc(), 100, 10, 62) else {
-        panic!(rt; "the entries are allowed, and there is memory");
-    };
+    let whole = one_plate(&rt, rt.alloc(), 62);
     for count in 0..63 {
-        let Ok(book) = begun(rt.alloc(), 100, 10, count) else {
-            panic!(rt; "the entries are allowed, and there is memory");
-        };
-        let i = book.journal().len();
-        if i <= whole.journal().len() {
-            let (snapshot, replayed) = whole.state_at(i);
-            check_told(&rt, &snapshot, &book);
-            assert_eq!(rt; replayed, i);
-        }
+        is_past_state(&rt, &whole, &one_plate(&rt, rt.alloc(), count));
     }
 }
 
 // A book with the first entries of the journal of a plate that is laid back.
 fn laid_back(rt: &impl Abort, alloc: Global, count: usize) -> Book {
-    let Ok(mut book) = Book::new(alloc, 100, 10) else {
-        panic!(rt; "the limits are in range, and there is memory");
-    };
-    assert_eq!(rt; book_all(&mut book, &LAID_BACK[..count.min(13)]), Ok(()));
+    let mut book = new_book(rt, alloc, 100, 10);
+    book_records(rt, &mut book, &LAID_BACK[..count.min(13)]);
     book
+}
+
+// The state of a book after as many entries as another has tells which plate is expected.
+fn is_expected_there(rt: &impl Abort, whole: &Book, book: &Book) {
+    let (snapshot, _) = state_of(whole, book);
+    let i = book.journal().len();
+    let expected = if i == 11 || i == 12 {
+        PlateId::new(1)
+    } else {
+        None
+    };
+    assert_eq!(rt; snapshot.expected, expected, "after {i}");
 }
 
 #[test]
@@ -129,77 +168,72 @@ fn each_past_state_tells_which_plate_is_expected(rt: HostRuntime) {
     let whole = laid_back(&rt, rt.alloc(), 13);
     for count in 0..14 {
         let book = laid_back(&rt, rt.alloc(), count);
-        let i = book.journal().len();
-        if i <= whole.journal().len() {
-            let (snapshot, _) = whole.state_at(i);
-            check_told(&rt, &snapshot, &book);
-            let expected = if i == 11 || i == 12 {
-                PlateId::new(1)
-            } else {
-                None
-            };
-            assert_eq!(rt; snapshot.expected, expected, "after {i}");
-        }
+        is_past_state(&rt, &whole, &book);
+        is_expected_there(&rt, &whole, &book);
     }
 }
 
-#[test]
-fn a_plate_in_the_press_is_seen(rt: HostRuntime) {
-    let Ok(book) = begun(rt.alloc(), 100, 10, 62) else {
-        panic!(rt; "the entries are allowed, and there is memory");
-    };
+// After 35 entries the plate is in the first press, which stands at the top.
+fn shows_the_press(rt: &impl Abort, book: &Book) {
     assert!(rt; 35 <= book.journal().len());
     let (snapshot, replayed) = book.state_at(35);
     assert_eq!(rt; snapshot.plate_at(Station::Press1), PlateId::new(1));
-    assert_eq!(rt; snapshot.pose(Axis::PressOne).at, Pose::Top);
-    assert_eq!(rt; snapshot.pose(Axis::PressOne).going, None);
+    let pose = snapshot.pose(Axis::PressOne);
+    assert_eq!(rt; (pose.at, pose.going), (Pose::Top, None));
     assert_eq!(rt; snapshot.holder(Zone::Z3), Some(Machine::Press1));
-    assert_eq!(rt; snapshot.totals.forged, 1);
-    assert_eq!(rt; replayed, 35);
+    assert_eq!(rt; [snapshot.totals.forged, replayed], [1, 35]);
+}
+
+// The opening is what an empty book tells.
+fn is_opening(rt: &impl Abort, book: &Book, empty: &Book) {
     let (opening, none) = book.state_at(0);
-    let Ok(empty) = Book::new(rt.alloc(), 1, 1) else {
-        panic!(rt; "the limits are in range, and there is memory");
-    };
-    check_told(&rt, &opening, &empty);
+    check_told(rt, &opening, empty);
     assert_eq!(rt; none, 0);
 }
 
 #[test]
-fn states_are_replayed_from_the_last_checkpoint(rt: HostRuntime) {
-    let Ok(mut book) = Book::new(rt.alloc(), 300, 1) else {
-        panic!(rt; "the limits are in range, and there is memory");
-    };
-    for place in 0..300 {
-        let colour = if place % 2 == 0 {
-            Colour::Green
+fn a_plate_in_the_press_is_seen(rt: HostRuntime) {
+    let book = one_plate(&rt, rt.alloc(), 62);
+    shows_the_press(&rt, &book);
+    is_opening(&rt, &book, &new_book(&rt, rt.alloc(), 1, 1));
+}
+
+// Books so many entries, each of which switches the feed light.
+fn switch(rt: &impl Abort, book: &mut Book, count: u32) {
+    for place in 0..count {
+        let record = if place % 2 == 0 {
+            "lamp,feed,green,"
         } else {
-            Colour::Red
+            "lamp,feed,red,"
         };
-        let lamp = Entry::Lamp {
-            belt: Belt::Feed,
-            colour,
-        };
-        assert_eq!(rt; book.apply(lamp), Ok(()));
+        book_records(rt, book, &[record]);
     }
+}
+
+// After so many entries the feed light has this colour, and so many entries were replayed for that.
+fn is_replayed(rt: &impl Abort, book: &Book, i: u32, colour: Colour, count: u32) {
+    assert!(rt; i <= book.journal().len());
+    let (snapshot, replayed) = book.state_at(i);
+    assert_eq!(rt; snapshot.lamp(Belt::Feed), colour);
+    assert_eq!(rt; [snapshot.totals.entries, replayed], [i, count]);
+}
+
+#[test]
+fn states_are_replayed_from_the_last_checkpoint(rt: HostRuntime) {
+    let mut book = new_book(&rt, rt.alloc(), 300, 1);
+    switch(&rt, &mut book, 300);
     assert!(rt; book.journal().len() == 300);
-    for (i, colour, count) in [
-        (255, Colour::Green, 255),
-        (256, Colour::Red, 0),
-        (300, Colour::Red, 44),
-    ] {
-        let (snapshot, replayed) = book.state_at(i);
-        assert_eq!(rt; snapshot.lamp(Belt::Feed), colour);
-        assert_eq!(rt; snapshot.totals.entries, i);
-        assert_eq!(rt; replayed, count);
-    }
+    is_replayed(&rt, &book, 255, Colour::Green, 255);
+    is_replayed(&rt, &book, 256, Colour::Red, 0);
+    is_replayed(&rt, &book, 300, Colour::Red, 44);
 }
 
 // A journal keeps no law but its limit: what its entries leave is by their effects alone.
 #[test]
 fn a_journal_tells_the_effects_of_any_entries(rt: HostRuntime) {
-    let Ok(mut journal) = Journal::with_limit(rt.alloc(), 3) else {
-        panic!(rt; "the limit is in range, and there is memory");
-    };
+    let mut journal = Journal::with_limit(rt.alloc(), 3)
+        .ok()
+        .expect(&rt, "a journal");
     for record in [
         "claimed,robot,z3,",
         "gripped,arm1,7,table",
@@ -209,8 +243,13 @@ fn a_journal_tells_the_effects_of_any_entries(rt: HostRuntime) {
         assert!(rt; !journal.is_full_for(&entry), "{record}");
         journal.append(entry);
     }
+    tells_effects(&rt, &journal);
+}
+
+// The robot gave up its zone by the last of three entries, and still carries its plate.
+fn tells_effects(rt: &impl Abort, journal: &Journal) {
     assert!(rt; journal.len() == 3);
-    assert_eq!(rt; journal.at(2), entry(&rt, "repaired,robot,,"));
+    assert_eq!(rt; journal.at(2), entry(rt, "repaired,robot,,"));
     let (two, _) = journal.state_at(2);
     assert_eq!(rt; two.holder(Zone::Z3), Some(Machine::Robot));
     assert_eq!(rt; two.plate_at(Station::Arm1), PlateId::new(7));

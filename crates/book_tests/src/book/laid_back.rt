@@ -1,6 +1,6 @@
 //! Worked examples: a plate that was cleared is expected at FeedIn, and laid back there.
-use crate::book::answer;
-use cell_samples::{LAID_BACK, ONE_PLATE, begun, book_all, entry_of};
+use crate::book::{answers, begun_with, book_records, new_book, records_take};
+use cell_samples::{LAID_BACK, ONE_PLATE};
 use cell_types::{Belt, Colour, Place, PlateId, Station};
 use plate_book::{Book, Records, Refusal};
 use std::alloc::Global;
@@ -8,11 +8,9 @@ use std::process::Abort;
 
 // A book with the first entries of the journal of a plate that is laid back, and these besides.
 fn laid_back(rt: &impl Abort, alloc: Global, count: usize, records: &[&str]) -> Book {
-    let Ok(mut book) = Book::new(alloc, 100, 10) else {
-        panic!(rt; "the limits are in range, and there is memory");
-    };
-    assert_eq!(rt; book_all(&mut book, &LAID_BACK[..count.min(13)]), Ok(()));
-    assert_eq!(rt; book_all(&mut book, records), Ok(()));
+    let mut book = new_book(rt, alloc, 100, 10);
+    book_records(rt, &mut book, &LAID_BACK[..count.min(13)]);
+    book_records(rt, &mut book, records);
     book
 }
 
@@ -49,8 +47,7 @@ fn a_cleared_plate_is_expected_and_laid_back(rt: HostRuntime) {
         (13, "admitted,2,,", Err(Refusal::LampRed(Belt::Feed))),
     ] {
         let records = &LAID_BACK[7..count];
-        let given = answer(&rt, rt.alloc(), 7, records, record);
-        assert!(rt; given == wanted, "after {count}: {record}");
+        answers(&rt, rt.alloc(), 7, records, record, wanted);
     }
 }
 
@@ -61,8 +58,8 @@ fn a_plate_cleared_from_a_press_is_not_laid_back(rt: HostRuntime) {
         "quarantined,1,press1,",
         "repaired,press1,,",
     ];
-    let given = answer(&rt, rt.alloc(), 34, cleared, "expected,1,,");
-    assert!(rt; given == Err(Refusal::NotReturnable));
+    let refused = Err(Refusal::NotReturnable);
+    answers(&rt, rt.alloc(), 34, cleared, "expected,1,,", refused);
 }
 
 // Each station on which a plate can stand before a press, and the entries that clear one from it; and then the others.
@@ -85,33 +82,48 @@ fn a_plate_is_laid_back_from_before_a_press_alone(rt: HostRuntime) {
         (56, dep_in, refused),
         (59, dep_end, refused),
     ] {
-        let given = answer(&rt, rt.alloc(), count, records, "expected,1,,");
-        assert!(rt; given == wanted, "after {count}");
+        answers(&rt, rt.alloc(), count, records, "expected,1,,", wanted);
     }
+}
+
+// After so many entries this plate is expected, or none.
+fn is_expected_after(rt: &impl Abort, alloc: Global, count: usize, expected: Option<PlateId>) {
+    let book = laid_back(rt, alloc, count, &[]);
+    assert_eq!(rt; book.expected(), expected, "after {count}");
+}
+
+// The first plate is in quarantine, cleared from the table.
+fn is_in_quarantine(rt: &impl Abort, book: &Book, first: PlateId) {
+    assert_eq!(rt; book.place(first), Place::Quarantine);
+    quarantine_is(rt, book, &[(1, Station::Table)]);
+}
+
+// The first plate stands at the feed belt's start.
+fn is_at_feed_in(rt: &impl Abort, book: &Book, first: PlateId) {
+    assert!(rt; book.journal().len() == 13);
+    assert_eq!(rt; book.place(first), Place::At(Station::FeedIn));
+    assert_eq!(rt; book.plate_at(Station::FeedIn), Some(first));
+    assert!(rt; book.on_stations().as_slice() == [(Station::FeedIn, first)].as_slice());
+    quarantine_is(rt, book, &[]);
+    assert_eq!(rt; book.lamp(Belt::Feed), Colour::Red);
+}
+
+// These counts of plates admitted, cleared and laid back.
+fn counts_of(book: &Book) -> [u32; 3] {
+    let totals = book.totals();
+    [totals.admitted, totals.quarantined, totals.reinstated]
 }
 
 #[test]
 fn the_book_tells_a_plate_that_is_laid_back(rt: HostRuntime) {
     let first = PlateId::new(1).expect(&rt, "a plate's number");
     for (count, expected) in [(10, None), (11, Some(first)), (12, Some(first)), (13, None)] {
-        let book = laid_back(&rt, rt.alloc(), count, &[]);
-        assert_eq!(rt; book.expected(), expected, "after {count}");
+        is_expected_after(&rt, rt.alloc(), count, expected);
     }
-    let book = laid_back(&rt, rt.alloc(), 12, &[]);
-    assert_eq!(rt; book.place(first), Place::Quarantine);
-    quarantine_is(&rt, &book, &[(1, Station::Table)]);
+    is_in_quarantine(&rt, &laid_back(&rt, rt.alloc(), 12, &[]), first);
     let book = laid_back(&rt, rt.alloc(), 13, &[]);
-    assert!(rt; book.journal().len() == 13);
-    assert_eq!(rt; book.place(first), Place::At(Station::FeedIn));
-    assert_eq!(rt; book.plate_at(Station::FeedIn), Some(first));
-    assert!(rt; book.on_stations().as_slice() == [(Station::FeedIn, first)].as_slice());
-    quarantine_is(&rt, &book, &[]);
-    assert_eq!(rt; book.lamp(Belt::Feed), Colour::Red);
-    let totals = book.totals();
-    assert_eq!(rt;
-        [totals.admitted, totals.quarantined, totals.reinstated],
-        [1, 1, 1]
-    );
+    is_at_feed_in(&rt, &book, first);
+    assert_eq!(rt; counts_of(&book), [1, 1, 1]);
 }
 
 // A plate that was laid back may be cleared and expected once more. The total counts each clearing.
@@ -120,9 +132,8 @@ fn a_plate_is_cleared_again(rt: HostRuntime) {
     let again: &[&str] = &["declared,feed,operator_stop,", "quarantined,1,feed_in,"];
     let mut book = laid_back(&rt, rt.alloc(), 13, again);
     quarantine_is(&rt, &book, &[(1, Station::FeedIn)]);
-    let totals = book.totals();
-    assert_eq!(rt; [totals.quarantined, totals.reinstated], [2, 1]);
-    assert_eq!(rt; book_all(&mut book, &["expected,1,,"]), Ok(()));
+    assert_eq!(rt; counts_of(&book), [1, 2, 1]);
+    book_records(&rt, &mut book, &["expected,1,,"]);
     assert!(rt; book.journal().len() == 16);
     assert_eq!(rt; book.expected(), PlateId::new(1));
 }
@@ -136,24 +147,22 @@ fn clear_one(rt: &impl Abort, book: &mut Book, admitted: &'static str, cleared: 
         cleared,
         "repaired,feed,,",
     ];
-    assert_eq!(rt; book_all(book, &records), Ok(()));
+    book_records(rt, book, &records);
 }
 
 // The quarantine is in the order of the last clearings, whichever plate leaves it.
 #[test]
 fn the_quarantine_keeps_its_order(rt: HostRuntime) {
-    let Ok(mut book) = Book::new(rt.alloc(), 100, 10) else {
-        panic!(rt; "the limits are in range, and there is memory");
-    };
+    let mut book = new_book(&rt, rt.alloc(), 100, 10);
     clear_one(&rt, &mut book, "admitted,1,,", "quarantined,1,feed_in,");
     clear_one(&rt, &mut book, "admitted,2,,", "quarantined,2,feed_in,");
     clear_one(&rt, &mut book, "admitted,3,,", "quarantined,3,feed_in,");
     let laid_back = ["expected,1,,", "lamp,feed,green,", "reinstated,1,,"];
-    assert_eq!(rt; book_all(&mut book, &laid_back), Ok(()));
+    book_records(&rt, &mut book, &laid_back);
     assert!(rt; book.journal().len() == 18);
     quarantine_is(&rt, &book, &[(2, Station::FeedIn), (3, Station::FeedIn)]);
     let cleared = ["declared,feed,silent,", "quarantined,1,feed_in,"];
-    assert_eq!(rt; book_all(&mut book, &cleared), Ok(()));
+    book_records(&rt, &mut book, &cleared);
     let last = [
         (2, Station::FeedIn),
         (3, Station::FeedIn),
@@ -162,40 +171,51 @@ fn the_quarantine_keeps_its_order(rt: HostRuntime) {
     quarantine_is(&rt, &book, &last);
 }
 
-#[test]
-fn records_tell_a_plate_that_is_laid_back(rt: HostRuntime) {
-    let Ok(mut records) = Records::new(rt.alloc(), 100, 10) else {
-        panic!(rt; "the limits are in range, and there is memory");
-    };
-    let first = PlateId::new(1).expect(&rt, "a plate's number");
-    for (place, record) in LAID_BACK.iter().enumerate() {
-        let given = records.apply(entry_of(record).expect(&rt, record));
-        assert!(rt; given == Ok(()), "{record}");
-        let expected = if place == 10 || place == 11 {
-            Some(first)
-        } else {
-            None
-        };
-        assert_eq!(rt; records.expected(), expected, "{record}");
-    }
+// Records take a record, and then this plate is expected, or none.
+fn records_expect(rt: &impl Abort, records: &mut Records, record: &str, expected: Option<PlateId>) {
+    records_take(rt, records, record);
+    assert_eq!(rt; records.expected(), expected, "{record}");
+}
+
+// The first plate stands at the feed belt's start, and none is in quarantine.
+fn records_tell_feed_in(rt: &impl Abort, records: &Records, first: PlateId) {
     assert!(rt; records.quarantine().is_empty());
     assert_eq!(rt; records.place(first), Place::At(Station::FeedIn));
     assert_eq!(rt; records.totals().reinstated, 1);
 }
 
-// A plate that is laid back goes the way of a new one, and is forged and delivered once.
 #[test]
-fn a_plate_that_was_laid_back_is_delivered(rt: HostRuntime) {
-    let repaired: &[&str] = &["repaired,table,,"];
-    let mut book = laid_back(&rt, rt.alloc(), 13, repaired);
-    assert_eq!(rt; book_all(&mut book, &ONE_PLATE[2..]), Ok(()));
+fn records_tell_a_plate_that_is_laid_back(rt: HostRuntime) {
+    let mut records = Records::new(rt.alloc(), 100, 10)
+        .ok()
+        .expect(&rt, "records");
+    let first = PlateId::new(1).expect(&rt, "a plate's number");
+    for (place, record) in LAID_BACK.iter().enumerate() {
+        let expected = if place == 10 || place == 11 {
+            Some(first)
+        } else {
+            None
+        };
+        records_expect(&rt, &mut records, record, expected);
+    }
+    records_tell_feed_in(&rt, &records, first);
+}
+
+// One plate was admitted, forged and delivered.
+fn is_delivered(rt: &impl Abort, book: &Book) {
     let totals = book.totals();
     assert_eq!(rt;
         [totals.admitted, totals.forged, totals.delivered],
         [1, 1, 1]
     );
-    let Ok(whole) = begun(rt.alloc(), 100, 10, 62) else {
-        panic!(rt; "the entries are allowed, and there is memory");
-    };
+}
+
+// A plate that is laid back goes the way of a new one, and is forged and delivered once.
+#[test]
+fn a_plate_that_was_laid_back_is_delivered(rt: HostRuntime) {
+    let mut book = laid_back(&rt, rt.alloc(), 13, &["repaired,table,,"]);
+    book_records(&rt, &mut book, &ONE_PLATE[2..]);
+    is_delivered(&rt, &book);
+    let whole = begun_with(&rt, rt.alloc(), 62, &[]);
     assert!(rt; book.delivered() == whole.delivered());
 }

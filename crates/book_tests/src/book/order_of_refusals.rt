@@ -1,7 +1,7 @@
 //! The one order of refusals: for each two refusals that an entry can meet together, a case in which the first is
 //! answered while both conditions hold. docs/ORDER.md lists the pairs, in the order of these cases.
-use crate::book::told_by;
-use cell_samples::{begun, book_all, entry_of};
+use crate::book::{answer_to, book_records, told_by};
+use cell_samples::begun;
 use plate_book::{Book, Refusal};
 use std::alloc::Global;
 use std::process::Abort;
@@ -313,17 +313,14 @@ fn number(rt: &impl Abort, line: &str, place: usize) -> u32 {
 // A book of the limits of a case, with as many of the journal's entries.
 fn book_of(rt: &impl Abort, alloc: Global, numbers: &str) -> Book {
     let [limit, plates, count] = [0, 1, 2].map(|place| number(rt, numbers, place));
-    let Ok(book) = begun(alloc, limit, plates, count as usize) else {
-        panic!(rt; "{numbers}");
-    };
-    book
+    begun(alloc, limit, plates, count as usize).expect(rt, numbers)
 }
 
 // Books the records of a line.
 fn book_line(rt: &impl Abort, book: &mut Book, line: &str) {
     for record in line.split(' ') {
         if !record.is_empty() {
-            assert_eq!(rt; book_all(book, &[record]), Ok(()));
+            book_records(rt, book, &[record]);
         }
     }
 }
@@ -335,18 +332,22 @@ fn is_wanted(rt: &impl Abort, refusal: Refusal, wanted: &str, case: &str) {
     assert!(rt; refusal.word() == words.next(), "{case}");
 }
 
-// Books all but the last record of a case, and compares the answer to it. The refusal leaves the book as it was.
+// A book answers a record so. The refusal leaves the book as it was.
+fn refuses(rt: &impl Abort, alloc: Global, book: &mut Book, parts: [&str; 2], case: &str) {
+    let [record, wanted] = parts;
+    let before = told_by(rt, alloc, book);
+    let refusal = answer_to(rt, book, record).err().expect(rt, case);
+    is_wanted(rt, refusal, wanted, case);
+    assert!(rt; told_by(rt, alloc, book).is_same(&before), "{case}");
+}
+
+// Books all but the last record of a case, and compares the answer to it.
 fn answers(rt: &impl Abort, alloc: Global, case: &str) {
     let mut parts = case.split('|');
     let mut book = book_of(rt, alloc, parts.next().unwrap_or(""));
     book_line(rt, &mut book, parts.next().unwrap_or(""));
-    let before = told_by(rt, alloc, &book);
-    let Err(refusal) = book.apply(entry_of(parts.next().unwrap_or("")).expect(rt, "a record"))
-    else {
-        panic!(rt; "{case}");
-    };
-    is_wanted(rt, refusal, parts.next().unwrap_or(""), case);
-    assert!(rt; told_by(rt, alloc, &book).is_same(&before), "{case}");
+    let last = [parts.next().unwrap_or(""), parts.next().unwrap_or("")];
+    refuses(rt, alloc, &mut book, last, case);
 }
 
 fn all_answer(rt: &impl Abort, alloc: Global, cases: &[&str]) {
@@ -356,86 +357,26 @@ fn all_answer(rt: &impl Abort, alloc: Global, cases: &[&str]) {
 }
 
 #[test]
-fn admitted_meets_the_lower_first(rt: HostRuntime) {
-    all_answer(&rt, rt.alloc(), &ADMITTED);
-}
-
-#[test]
-fn arrived_meets_the_lower_first(rt: HostRuntime) {
-    all_answer(&rt, rt.alloc(), &ARRIVED);
-}
-
-#[test]
-fn claimed_meets_the_lower_first(rt: HostRuntime) {
-    all_answer(&rt, rt.alloc(), &CLAIMED);
-}
-
-#[test]
-fn conveyed_meets_the_lower_first(rt: HostRuntime) {
-    all_answer(&rt, rt.alloc(), &CONVEYED);
-}
-
-#[test]
-fn delivered_meets_the_lower_first(rt: HostRuntime) {
-    all_answer(&rt, rt.alloc(), &DELIVERED);
-}
-
-#[test]
-fn dropped_meets_the_lower_first(rt: HostRuntime) {
-    all_answer(&rt, rt.alloc(), &DROPPED);
-}
-
-#[test]
-fn expected_meets_the_lower_first(rt: HostRuntime) {
-    all_answer(&rt, rt.alloc(), &EXPECTED);
-}
-
-#[test]
-fn forged_meets_the_lower_first(rt: HostRuntime) {
-    all_answer(&rt, rt.alloc(), &FORGED);
-}
-
-#[test]
-fn gripped_meets_the_lower_first(rt: HostRuntime) {
-    all_answer(&rt, rt.alloc(), &GRIPPED);
-}
-
-#[test]
-fn lamp_meets_the_lower_first(rt: HostRuntime) {
-    all_answer(&rt, rt.alloc(), &LAMP);
-}
-
-#[test]
-fn quarantined_meets_the_lower_first(rt: HostRuntime) {
-    all_answer(&rt, rt.alloc(), &QUARANTINED);
-}
-
-#[test]
-fn reinstated_meets_the_lower_first(rt: HostRuntime) {
-    all_answer(&rt, rt.alloc(), &REINSTATED);
-}
-
-#[test]
-fn repaired_meets_the_lower_first(rt: HostRuntime) {
-    all_answer(&rt, rt.alloc(), &REPAIRED);
-}
-
-#[test]
-fn started_meets_the_lower_first(rt: HostRuntime) {
-    all_answer(&rt, rt.alloc(), &STARTED);
-}
-
-#[test]
-fn stop_asked_meets_the_lower_first(rt: HostRuntime) {
-    all_answer(&rt, rt.alloc(), &STOP_ASKED);
-}
-
-#[test]
-fn yielded_meets_the_lower_first(rt: HostRuntime) {
-    all_answer(&rt, rt.alloc(), &YIELDED);
-}
-
-#[test]
-fn declared_meets_the_lower_first(rt: HostRuntime) {
-    all_answer(&rt, rt.alloc(), &DECLARED);
+fn each_kind_of_entry_meets_the_lower_refusal_first(rt: HostRuntime) {
+    for cases in [
+        ADMITTED.as_slice(),
+        ARRIVED.as_slice(),
+        CLAIMED.as_slice(),
+        CONVEYED.as_slice(),
+        DELIVERED.as_slice(),
+        DROPPED.as_slice(),
+        EXPECTED.as_slice(),
+        FORGED.as_slice(),
+        GRIPPED.as_slice(),
+        LAMP.as_slice(),
+        QUARANTINED.as_slice(),
+        REINSTATED.as_slice(),
+        REPAIRED.as_slice(),
+        STARTED.as_slice(),
+        STOP_ASKED.as_slice(),
+        YIELDED.as_slice(),
+        DECLARED.as_slice(),
+    ] {
+        all_answer(&rt, rt.alloc(), cases);
+    }
 }
