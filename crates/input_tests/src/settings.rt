@@ -7,25 +7,22 @@ use std::alloc::Global;
 use std::process::Abort;
 use std::test::Fail;
 
-// What is printed for a text, and the status.
-fn checked(alloc: Global, text: &[u8]) -> Result<(Vec<u8>, Result<u8, WriteFault>), Fail> {
+// This is printed for a text, with this status.
+fn prints_with(rt: &impl Abort, alloc: Global, text: &[u8], wanted: &[u8], status: u8) {
     let mut written = Vec::new(alloc);
-    let status = check_lines(alloc, text, &mut written);
-    Ok((written, status))
+    let answer = check_lines(alloc, text, &mut written);
+    let shown = String::from_utf8_lossy(alloc, text).expect(rt, "memory");
+    assert_eq!(rt; answer, Ok(status), "{shown}");
+    assert_eq!(rt; written.as_slice(), wanted, "{shown}");
 }
 
 // The text is refused with this line.
-fn prints(rt: &impl Abort, alloc: Global, text: &[u8], wanted: &[u8]) -> Result<(), Fail> {
-    let (written, status) = checked(alloc, text)?;
-    let shown = String::from_utf8_lossy(alloc, text)?;
-    assert_eq!(rt; status, Ok(1), "{shown}");
-    assert_eq!(rt; written.as_slice(), wanted, "{shown}");
-    Ok(())
+fn prints(rt: &impl Abort, alloc: Global, text: &[u8], wanted: &[u8]) {
+    prints_with(rt, alloc, text, wanted, 1);
 }
 
 #[test]
-fn prints_what_a_check_finds(rt: HostRuntime) -> Result<(), Fail> {
-    let alloc = rt.alloc();
+fn prints_what_a_check_finds(rt: HostRuntime) {
     for (text, wanted) in [
         (
             b"plates = 0".as_slice(),
@@ -89,17 +86,13 @@ fn prints_what_a_check_finds(rt: HostRuntime) -> Result<(), Fail> {
             b"settings NotNumber watch.arm_one.limit\n",
         ),
     ] {
-        prints(&rt, alloc, text, wanted)?;
+        prints(&rt, rt.alloc(), text, wanted);
     }
-    let (written, status) = checked(alloc, b"plates = 5")?;
-    assert_eq!(rt; status, Ok(0));
-    assert_eq!(rt; written.as_slice(), b"settings ok\n".as_slice());
-    Ok(())
+    prints_with(&rt, rt.alloc(), b"plates = 5", b"settings ok\n", 0);
 }
 
 #[test]
-fn tells_the_first_fault(rt: HostRuntime) -> Result<(), Fail> {
-    let alloc = rt.alloc();
+fn tells_the_first_fault(rt: HostRuntime) {
     for (text, wanted) in [
         // An unknown key comes before all faults of numbers, and tables are walked in the order of their keys' bytes.
         (
@@ -140,13 +133,12 @@ fn tells_the_first_fault(rt: HostRuntime) -> Result<(), Fail> {
             b"settings OutOfRange watch.deposit_belt.leave\n",
         ),
     ] {
-        prints(&rt, alloc, text, wanted)?;
+        prints(&rt, rt.alloc(), text, wanted);
     }
-    Ok(())
 }
 
 #[test]
-fn prints_a_control_character_as_its_escape(rt: HostRuntime) -> Result<(), Fail> {
+fn prints_a_control_character_as_its_escape(rt: HostRuntime) {
     for (text, wanted) in [
         (
             b"\"x\\nsettings ok\" = 1".as_slice(),
@@ -167,13 +159,12 @@ fn prints_a_control_character_as_its_escape(rt: HostRuntime) -> Result<(), Fail>
             b"settings UnknownKey watch.arm_one.\\u000A\n",
         ),
     ] {
-        prints(&rt, rt.alloc(), text, wanted)?;
+        prints(&rt, rt.alloc(), text, wanted);
     }
-    Ok(())
 }
 
 #[test]
-fn prints_all_other_characters_as_they_stand(rt: HostRuntime) -> Result<(), Fail> {
+fn prints_all_other_characters_as_they_stand(rt: HostRuntime) {
     for (text, wanted) in [
         (
             b"\"caf\xC3\xA9 \xE2\x82\xAC\" = 1".as_slice(),
@@ -186,46 +177,51 @@ fn prints_all_other_characters_as_they_stand(rt: HostRuntime) -> Result<(), Fail
         ),
         (b"\"\" = 1", b"settings UnknownKey \n"),
     ] {
-        prints(&rt, rt.alloc(), text, wanted)?;
+        prints(&rt, rt.alloc(), text, wanted);
     }
-    Ok(())
+}
+
+// What settings' text says: the plates, the limit of the journal, the turns, and the limits of the axes.
+fn says(
+    rt: &impl Abort,
+    alloc: Global,
+    text: &[u8],
+    [plates, journal_limit, turns]: [u32; 3],
+    limits: [Limits; 9],
+) {
+    let plan = read_settings(alloc, text).ok().expect(rt, "settings");
+    assert_eq!(rt; plan.plates, plates);
+    assert_eq!(rt; plan.journal_limit, journal_limit);
+    assert_eq!(rt; plan.turns, turns);
+    assert_eq!(rt; plan.limits, limits);
+}
+
+// Limits that are in their ranges.
+fn limits_of(rt: &impl Abort, leave: u16, limit: u16) -> Limits {
+    Limits::new(leave, limit).expect(rt, "limits in their ranges")
 }
 
 #[test]
-fn reads_numbers_and_defaults(rt: HostRuntime) -> Result<(), Fail> {
-    let alloc = rt.alloc();
-    let usual = Limits::new(3, 20).ok_or("the usual limits")?;
-    let plan = read_settings(alloc, b"plates = 5\n")?;
-    assert_eq!(rt; plan.plates, 5);
-    assert_eq!(rt; plan.journal_limit, 100_000);
-    assert_eq!(rt; plan.turns, 100_000);
-    assert_eq!(rt; plan.limits, [usual; 9]);
+fn reads_numbers_and_defaults(rt: HostRuntime) {
+    let usual = limits_of(&rt, 3, 20);
+    let numbers = [5, 100_000, 100_000];
+    says(&rt, rt.alloc(), b"plates = 5\n", numbers, [usual; 9]);
     let text = b"plates = 100_000\njournal_limit = 1_000_000\nturns = 10_000_000\n\
 [watch.feed_belt]\nleave = 2\nlimit = 3\n[watch.deposit_belt]\nleave = 999\nlimit = 1000\n\
 [watch.press_one]\nlimit = 40\n[watch.press_two]\nleave = 19\n";
-    let plan = read_settings(alloc, text)?;
-    assert_eq!(rt; plan.plates, 100_000);
-    assert_eq!(rt; plan.journal_limit, 1_000_000);
-    assert_eq!(rt; plan.turns, 10_000_000);
-    let feed_belt = Limits::new(2, 3).ok_or("the shortest limits")?;
-    let press_one = Limits::new(3, 40).ok_or("a later limit")?;
-    let press_two = Limits::new(19, 20).ok_or("a later start")?;
-    let deposit_belt = Limits::new(999, 1000).ok_or("the longest limits")?;
-    assert_eq!(rt;
-        plan.limits,
-        [
-            feed_belt,
-            usual,
-            usual,
-            usual,
-            usual,
-            usual,
-            press_one,
-            press_two,
-            deposit_belt
-        ]
-    );
-    Ok(())
+    let limits = [
+        limits_of(&rt, 2, 3),
+        usual,
+        usual,
+        usual,
+        usual,
+        usual,
+        limits_of(&rt, 3, 40),
+        limits_of(&rt, 19, 20),
+        limits_of(&rt, 999, 1000),
+    ];
+    let numbers = [100_000, 1_000_000, 10_000_000];
+    says(&rt, rt.alloc(), text, numbers, limits);
 }
 
 #[test]
@@ -239,28 +235,35 @@ fn says_what_is_wrong(rt: HostRuntime) -> Result<(), Fail> {
     Ok(())
 }
 
-#[test]
-fn tells_that_the_writer_failed(rt: HostRuntime) {
-    let text = b"plates = 5".as_slice();
-    for left in 0..12usize {
-        let mut writer = FailingWriter::new(Vec::new(rt.alloc()), left);
-        let answer = check_lines(rt.alloc(), text, &mut writer);
-        assert_eq!(rt; answer, Err(WriteFault), "after {left} bytes");
-    }
-    let mut writer = FailingWriter::new(Vec::new(rt.alloc()), 12);
-    assert_eq!(rt; check_lines(rt.alloc(), text, &mut writer), Ok(0));
-    let answer = check_lines(rt.alloc(), text, &mut Unwilling);
-    assert_eq!(rt; answer, Err(WriteFault), "nothing was taken");
+// A writer that takes so many bytes gives this answer, and took the first part of what is due.
+fn writer_of(
+    rt: &impl Abort,
+    alloc: Global,
+    text: &[u8],
+    left: usize,
+    due: &[u8],
+    wanted: Result<u8, WriteFault>,
+) {
+    let mut writer = FailingWriter::new(Vec::new(alloc), left);
+    let answer = check_lines(alloc, text, &mut writer);
+    assert_eq!(rt; answer, wanted, "after {left} bytes");
+    let part = &due[..left.min(due.len())];
+    assert_eq!(rt; writer.inner().as_slice(), part);
 }
 
 #[test]
-fn a_failed_writer_took_a_first_part(rt: HostRuntime) {
+fn tells_that_the_writer_failed_after_a_first_part(rt: HostRuntime) {
+    let text = b"plates = 5".as_slice();
+    let due = b"settings ok\n".as_slice();
+    for left in 0..12usize {
+        writer_of(&rt, rt.alloc(), text, left, due, Err(WriteFault));
+    }
+    writer_of(&rt, rt.alloc(), text, 12, due, Ok(0));
+    let answer = check_lines(rt.alloc(), text, &mut Unwilling);
+    assert_eq!(rt; answer, Err(WriteFault), "nothing was taken");
     let text = b"\"a\\nb\" = 1".as_slice();
     let due = b"settings UnknownKey a\\u000Ab\n".as_slice();
     for left in 0..due.len() {
-        let mut writer = FailingWriter::new(Vec::new(rt.alloc()), left);
-        let answer = check_lines(rt.alloc(), text, &mut writer);
-        assert_eq!(rt; answer, Err(WriteFault), "after {left} bytes");
-        assert_eq!(rt; writer.inner().as_slice(), &due[..left]);
+        writer_of(&rt, rt.alloc(), text, left, due, Err(WriteFault));
     }
 }
