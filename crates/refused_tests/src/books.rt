@@ -2,6 +2,7 @@
 ghost use Rattle.std.specs.Prelude.{◌≡◌, ◌<◌};
 ghost use Rattle.cell_ledger.specs.New.{AreBlank};
 
+use crate::same::check_same;
 use cell_journal::{Journal, JournalError};
 use cell_ledger::{Blanks, Kept, Run};
 use cell_samples::{ONE_PLATE, begun, book_all, call_begins, call_ends, entry_of, plate};
@@ -18,8 +19,8 @@ fn journal_with_limit(rt: HostRuntime) {
     let answer = Journal::with_limit(alloc, 1000);
     call_ends(alloc, answer.is_err());
     match answer {
-        Ok(journal) => assert_eq!(rt; journal.len(), 0),
-        Err(why) => assert_eq!(rt; why, JournalError::OutOfMemory),
+        Ok(journal) => check_same(&rt, &"entries", &journal.len(), &0),
+        Err(why) => check_same(&rt, &"why", &why, &JournalError::OutOfMemory),
     }
 }
 
@@ -30,8 +31,8 @@ fn book_new(rt: HostRuntime) {
     let answer = Book::new(alloc, 1000, 1000);
     call_ends(alloc, answer.is_err());
     match answer {
-        Ok(book) => assert_eq!(rt; book.journal().len(), 0),
-        Err(why) => assert_eq!(rt; why, OpenError::OutOfMemory),
+        Ok(book) => check_same(&rt, &"entries", &book.journal().len(), &0),
+        Err(why) => check_same(&rt, &"why", &why, &OpenError::OutOfMemory),
     }
 }
 
@@ -42,8 +43,8 @@ fn records_new(rt: HostRuntime) {
     let answer = Records::new(alloc, 1000, 1000);
     call_ends(alloc, answer.is_err());
     match answer {
-        Ok(records) => assert_eq!(rt; records.totals().entries, 0),
-        Err(why) => assert_eq!(rt; why, OpenError::OutOfMemory),
+        Ok(records) => check_same(&rt, &"entries", &records.totals().entries, &0),
+        Err(why) => check_same(&rt, &"why", &why, &OpenError::OutOfMemory),
     }
 }
 
@@ -65,7 +66,10 @@ fn totals(entries: u32, quarantined: u32) -> Totals {
 // A book of nine entries, in which the first plate can be cleared from the table.
 fn book_to_clear(rt: &impl Abort, alloc: Global) -> Book {
     let mut book = begun(alloc, 100, 10, 7).expect(rt, "a book");
-    assert_eq!(rt; book_all(&mut book, &FAILED_TABLE), Ok(()));
+    assert!(rt;
+        book_all(&mut book, &FAILED_TABLE).is_ok(),
+        "both are allowed"
+    );
     book
 }
 
@@ -74,24 +78,23 @@ const CLEARED: &str = "quarantined,1,table,";
 
 // Nothing was cleared: the book tells of its nine entries.
 fn check_as_it_was(rt: &impl Abort, book: &Book, first: PlateId) {
-    assert_eq!(rt; book.journal().len(), 9);
-    assert_eq!(rt; book.journal().get(8), entry_of(FAILED_TABLE[1]));
-    assert_eq!(rt; book.totals(), totals(9, 0));
-    assert_eq!(rt; book.place(first), Place::At(Station::Table));
-    assert_eq!(rt; book.plate_at(Station::Table), Some(first));
+    let journal = book.journal();
+    check_same(rt, &"entries", &journal.len(), &9);
+    check_same(rt, &"entry 8", &journal.get(8), &entry_of(FAILED_TABLE[1]));
+    check_same(rt, &"totals", &book.totals(), &totals(9, 0));
+    check_same(rt, &"place", &book.place(first), &Place::At(Station::Table));
+    check_same(rt, &"table", &book.plate_at(Station::Table), &Some(first));
     assert!(rt; book.failed(Machine::Table) && book.quarantine().is_empty());
 }
 
 // The plate was cleared.
 fn check_cleared(rt: &impl Abort, book: &Book, first: PlateId) {
-    assert_eq!(rt; book.journal().len(), 10);
-    assert_eq!(rt; book.totals(), totals(10, 1));
-    assert_eq!(rt; book.place(first), Place::Quarantine);
+    check_same(rt, &"entries", &book.journal().len(), &10);
+    check_same(rt, &"totals", &book.totals(), &totals(10, 1));
+    check_same(rt, &"place", &book.place(first), &Place::Quarantine);
     assert!(rt; book.plate_at(Station::Table).is_none());
-    assert_eq!(rt;
-        book.quarantine().get(&first).copied(),
-        Some(Station::Table)
-    );
+    let station = book.quarantine().get(&first).copied();
+    check_same(rt, &"quarantine", &station, &Some(Station::Table));
 }
 
 #[test]
@@ -104,9 +107,9 @@ fn book_apply(rt: HostRuntime) {
     let answer = book.apply(entry);
     call_ends(alloc, answer.is_err());
     if let Err(why) = answer {
-        assert_eq!(rt; why, Refusal::OutOfMemory);
+        check_same(&rt, &"why", &why, &Refusal::OutOfMemory);
         check_as_it_was(&rt, &book, first);
-        assert_eq!(rt; book_all(&mut book, &[CLEARED]), Ok(()));
+        assert!(rt; book_all(&mut book, &[CLEARED]).is_ok(), "it is allowed");
     }
     check_cleared(&rt, &book, first);
 }
@@ -124,14 +127,15 @@ fn clear_kept<R: Run>(rt: &impl Abort, alloc: Global, book: Book, blanks: Blanks
     let answer = kept.apply(&mut shares, entry);
     call_ends(alloc, answer.is_err());
     if let Err(why) = answer {
-        assert_eq!(rt; why, Refusal::OutOfMemory);
+        check_same(rt, &"why", &why, &Refusal::OutOfMemory);
         check_as_it_was(rt, kept.book(), first);
-        assert_eq!(rt; shares.counts(), totals(9, 0));
+        check_same(rt, &"counts", &shares.counts(), &totals(9, 0));
         let entry = entry_of(CLEARED).expect(rt, "a record");
-        assert_eq!(rt; kept.apply(&mut shares, entry), Ok(()));
+        let again = kept.apply(&mut shares, entry);
+        check_same(rt, &"again", &again, &Ok(()));
     }
     check_cleared(rt, kept.book(), first);
-    assert_eq!(rt; shares.counts(), totals(10, 1));
+    check_same(rt, &"counts", &shares.counts(), &totals(10, 1));
 }
 
 #[test]
@@ -148,9 +152,35 @@ fn records_to_clear(rt: &impl Abort, alloc: Global) -> Records {
     };
     for record in ONE_PLATE.iter().take(7).chain(FAILED_TABLE.iter()) {
         let answer = records.apply(entry_of(record).expect(rt, record));
-        assert_eq!(rt; answer, Ok(()), "{record}");
+        check_same(rt, record, &answer, &Ok(()));
     }
     records
+}
+
+// Nothing was cleared: the records tell of their nine entries.
+fn check_records_as_they_were(rt: &impl Abort, records: &Records, first: PlateId) {
+    check_same(rt, &"totals", &records.totals(), &totals(9, 0));
+    check_same(
+        rt,
+        &"place",
+        &records.place(first),
+        &Place::At(Station::Table),
+    );
+    check_same(
+        rt,
+        &"table",
+        &records.plate_at(Station::Table),
+        &Some(first),
+    );
+    assert!(rt; records.failed(Machine::Table) && records.quarantine().is_empty());
+}
+
+// The plate was cleared.
+fn check_records_cleared(rt: &impl Abort, records: &Records, first: PlateId) {
+    check_same(rt, &"totals", &records.totals(), &totals(10, 1));
+    check_same(rt, &"place", &records.place(first), &Place::Quarantine);
+    let station = records.quarantine().get(&first).copied();
+    check_same(rt, &"quarantine", &station, &Some(Station::Table));
 }
 
 #[test]
@@ -163,18 +193,11 @@ fn records_apply(rt: HostRuntime) {
     let answer = records.apply(entry);
     call_ends(alloc, answer.is_err());
     if let Err(why) = answer {
-        assert_eq!(rt; why, Refusal::OutOfMemory);
-        assert_eq!(rt; records.totals(), totals(9, 0));
-        assert_eq!(rt; records.place(first), Place::At(Station::Table));
-        assert_eq!(rt; records.plate_at(Station::Table), Some(first));
-        assert!(rt; records.failed(Machine::Table) && records.quarantine().is_empty());
+        check_same(&rt, &"why", &why, &Refusal::OutOfMemory);
+        check_records_as_they_were(&rt, &records, first);
         let entry = entry_of(CLEARED).expect(&rt, "a record");
-        assert_eq!(rt; records.apply(entry), Ok(()));
+        let again = records.apply(entry);
+        check_same(&rt, &"again", &again, &Ok(()));
     }
-    assert_eq!(rt; records.totals(), totals(10, 1));
-    assert_eq!(rt; records.place(first), Place::Quarantine);
-    assert_eq!(rt;
-        records.quarantine().get(&first).copied(),
-        Some(Station::Table)
-    );
+    check_records_cleared(&rt, &records, first);
 }

@@ -1,4 +1,5 @@
 //! Texts that are explained.
+use crate::same::check_same;
 use crate::texts::{PLAIN, PROFILE_1, clearing};
 use cell_audit::WriteFault;
 use cell_explain::{explain_faults, explain_journal, explain_operator, explain_settings};
@@ -42,6 +43,13 @@ fn explain(
     Ok((written, answer))
 }
 
+// At most so many first lines of what is due are written.
+fn check_begun(rt: &impl Abort, written: &[u8], due: &[u8], first: usize) {
+    let lines = written.iter().filter(|byte| **byte == b'\n').count();
+    assert!(rt; due.starts_with(written));
+    assert!(rt; lines <= first && (written.is_empty() || written.ends_with(b"\n")));
+}
+
 // The text is explained with this status, or only so many first lines are written, where memory was refused.
 fn check_explain<R: AllocGlobal + Abort>(
     rt: &R,
@@ -51,15 +59,13 @@ fn check_explain<R: AllocGlobal + Abort>(
     first: usize,
 ) -> Result<(), Fail> {
     let (due, usual) = explain(rt.alloc(), kind, text, false)?;
-    assert_eq!(rt; usual, Ok(status));
+    check_same(rt, &"usually", &usual, &Ok(status));
     let (written, answer) = explain(rt.alloc(), kind, text, true)?;
-    let lines = written.iter().filter(|byte| **byte == b'\n').count();
     if answer == Ok(4) {
-        assert!(rt; due.as_slice().starts_with(written.as_slice()));
-        assert!(rt; lines <= first && (written.is_empty() || written.as_slice().ends_with(b"\n")));
+        check_begun(rt, written.as_slice(), due.as_slice(), first);
     } else {
-        assert_eq!(rt; answer, Ok(status));
-        assert_eq!(rt; written.as_slice(), due.as_slice());
+        check_same(rt, &"the answer", &answer, &Ok(status));
+        check_same(rt, &"the text", &written.as_slice(), &due.as_slice());
     }
     Ok(())
 }

@@ -11,6 +11,8 @@ mod explained;
 #[cfg(test)]
 mod runs;
 #[cfg(test)]
+mod same;
+#[cfg(test)]
 mod shown;
 #[cfg(test)]
 mod texts;

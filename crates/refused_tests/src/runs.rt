@@ -1,4 +1,5 @@
 //! Whole runs by their texts, in rounds on one thread and on threads.
+use crate::same::check_same;
 use cell_audit::{AuditError, audit};
 use cell_endings::write_ending;
 use cell_journal::Journal;
@@ -80,8 +81,8 @@ fn check_lines<R: AllocGlobal + Abort + Threads + Wait + Sync>(
     if answer == Ok(4) {
         assert!(rt; lines.is_empty() || tells_memory(lines));
     } else {
-        assert_eq!(rt; answer, Ok(0));
-        assert_eq!(rt; lines, due);
+        check_same(rt, &"the answer", &answer, &Ok(0));
+        check_same(rt, &"the lines", &lines, &due);
     }
     Ok(())
 }
@@ -102,16 +103,35 @@ fn run_texts_on_threads(rt: HostRuntime) -> Result<(), Fail> {
 #[test]
 fn run_texts_in_rounds_with_journal(rt: HostRuntime) -> Result<(), Fail> {
     let (due, status) = run(&rt, SHORT, false, true, false)?;
-    assert_eq!(rt; status, Ok(0));
+    check_same(&rt, &"usually", &status, &Ok(0));
     let (written, answer) = run(&rt, SHORT, false, true, true)?;
     let (text, due) = (written.as_slice(), due.as_slice());
     if answer == Ok(4) {
         assert!(rt; due.starts_with(text));
     } else {
-        assert_eq!(rt; answer, Ok(0));
-        assert_eq!(rt; text, due);
+        check_same(&rt, &"the answer", &answer, &Ok(0));
+        check_same(&rt, &"the journal", &text, &due);
     }
     Ok(())
+}
+
+// The audit of a whole journal of that plate.
+fn check_audited(rt: &impl Abort, audited: Result<(u8, Totals), AuditError>) {
+    match audited {
+        Ok((number, totals)) => {
+            check_same(rt, &"the profile", &number, &2);
+            let Totals {
+                admitted,
+                forged,
+                quarantined,
+                delivered,
+                ..
+            } = totals;
+            let counts = [admitted, forged, quarantined, delivered];
+            check_same(rt, &"the totals", &counts, &[1, 1, 0, 1]);
+        }
+        Err(why) => panic!(rt; "the journal is legal: {why:?}"),
+    }
 }
 
 // That of a run on threads isn't. No entry of it is refused, and a whole one has the plate's counts.
@@ -122,21 +142,8 @@ fn run_texts_on_threads_with_journal(rt: HostRuntime) -> Result<(), Fail> {
     if answer == Ok(4) {
         assert!(rt; matches!(audited, Ok(_) | Err(AuditError::Unreadable(_))));
     } else {
-        assert_eq!(rt; answer, Ok(0));
-        match audited {
-            Ok((number, totals)) => {
-                assert_eq!(rt; number, 2);
-                let Totals {
-                    admitted,
-                    forged,
-                    quarantined,
-                    delivered,
-                    ..
-                } = totals;
-                assert_eq!(rt; [admitted, forged, quarantined, delivered], [1, 1, 0, 1]);
-            }
-            Err(why) => panic!(rt; "the journal is legal: {why:?}"),
-        }
+        check_same(&rt, &"the answer", &answer, &Ok(0));
+        check_audited(&rt, audited);
     }
     Ok(())
 }
@@ -177,23 +184,32 @@ fn begins(journal: &Journal, whole: &Journal) -> bool {
     same
 }
 
+// The length of a journal that was kept, whose entries are the first of another's.
+fn check_kept(rt: &impl Abort, journal: &Option<Journal>, whole: &Journal) -> Option<u32> {
+    match journal {
+        Some(journal) => {
+            assert!(rt; begins(journal, whole));
+            Some(journal.len())
+        }
+        None => None,
+    }
+}
+
 // Where memory is wanting, a journal that is kept is a first part of the one that is due.
 #[test]
 fn run_texts_kept_in_rounds(rt: HostRuntime) -> Result<(), Fail> {
     let (due, status, whole) = keep(&rt, SHORT, false)?;
     let whole = whole.expect(&rt, "a journal");
-    assert_eq!(rt; status, 0);
+    check_same(&rt, &"usually", &status, &0);
     let (written, status, journal) = keep(&rt, SHORT, true)?;
+    let length = check_kept(&rt, &journal, &whole);
     let lines = written.as_slice();
-    if let Some(journal) = &journal {
-        assert!(rt; begins(journal, &whole));
-    }
     if status == 4 {
         assert!(rt; lines.is_empty() || tells_memory(lines));
     } else {
-        assert_eq!(rt; status, 0);
-        assert_eq!(rt; lines, due.as_slice());
-        assert_eq!(rt; journal.map(|kept| kept.len()), Some(whole.len()));
+        check_same(&rt, &"the status", &status, &0);
+        check_same(&rt, &"the lines", &lines, &due.as_slice());
+        check_same(&rt, &"the journal", &length, &Some(whole.len()));
     }
     Ok(())
 }
@@ -239,16 +255,16 @@ fn write_ending_of_a_stalled_run(rt: HostRuntime) -> Result<(), Fail> {
     let alloc = rt.alloc();
     let (_, status, journal) = keep(&rt, STALLED, false)?;
     let journal = journal.expect(&rt, "a journal");
-    assert_eq!(rt; status, 1);
+    check_same(&rt, &"the status", &status, &1);
     let (due, wanted) = ending(&rt, alloc, &journal, false)?;
     assert!(rt; !wanted);
     let ends = due.iter().filter(|byte| **byte == b'\n').count();
-    assert_eq!(rt; ends, 4);
+    check_same(&rt, &"how many lines", &ends, &4);
     let (written, wanted) = ending(&rt, alloc, &journal, true)?;
     if wanted {
         assert!(rt; due.as_slice().starts_with(written.as_slice()));
     } else {
-        assert_eq!(rt; written.as_slice(), due.as_slice());
+        check_same(&rt, &"what is said", &written.as_slice(), &due.as_slice());
     }
     Ok(())
 }

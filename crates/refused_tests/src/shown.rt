@@ -1,14 +1,32 @@
 //! Journals that are read for more than their audit, and shown.
+use crate::same::check_same;
 use crate::texts::{PROFILE_1, QUOTED, clearing};
-use cell_audit::AuditError;
+use cell_audit::{AuditError, Reading};
 use cell_samples::{begun, call_begins, call_ends};
 use cell_show::{Form, ShowError, show_journal};
+use plate_book::Book;
 use std::alloc::Global;
 use std::process::Abort;
 use std::test::Fail;
 
 // Room for all that is drawn, so that the writer asks for no memory.
 const ROOM: usize = 1_000_000;
+
+// A journal of ten entries, or fewer where memory was wanting, begins as another book. It has the totals that are due.
+fn check_reading(rt: &impl Abort, reading: &Reading, first: &Book, wanted: bool) {
+    let journal = reading.book.journal();
+    assert!(rt; journal.len() == 10 || wanted && journal.len() < 10);
+    for place in 0..journal.len().min(7) {
+        check_same(rt, &place, &journal.get(place), &first.journal().get(place));
+    }
+    match &reading.answer {
+        Ok((number, totals)) => {
+            let told = [*number as u32, totals.entries, totals.quarantined];
+            check_same(rt, &"what was read", &told, &[1, 10, 1]);
+        }
+        Err(why) => check_same(rt, &"why", why, &AuditError::OutOfMemory),
+    }
+}
 
 #[test]
 fn read_journal(rt: HostRuntime) -> Result<(), Fail> {
@@ -22,21 +40,8 @@ fn read_journal(rt: HostRuntime) -> Result<(), Fail> {
         Err(_) => true,
     };
     call_ends(alloc, wanted);
-    if let Ok(reading) = answer {
-        let journal = reading.book.journal();
-        assert!(rt; journal.len() == 10 || wanted && journal.len() < 10);
-        for place in 0..journal.len().min(7) {
-            assert_eq!(rt; journal.get(place), first.journal().get(place));
-        }
-        match reading.answer {
-            Ok((number, totals)) => {
-                assert_eq!(rt;
-                    [number as u32, totals.entries, totals.quarantined],
-                    [1, 10, 1]
-                );
-            }
-            Err(why) => assert_eq!(rt; why, AuditError::OutOfMemory),
-        }
+    if let Ok(reading) = &answer {
+        check_reading(&rt, reading, &first, wanted);
     }
     Ok(())
 }
@@ -58,13 +63,13 @@ fn show(alloc: Global, form: Form, marked: bool) -> Result<(Vec<u8>, Result<u8, 
 // A journal is shown, or nothing is written, where memory was refused.
 fn check_show<R: AllocGlobal + Abort>(rt: &R, form: Form) -> Result<(), Fail> {
     let (due, status) = show(rt.alloc(), form, false)?;
-    assert_eq!(rt; status, Ok(0));
+    check_same(rt, &"usually", &status, &Ok(0));
     let (written, answer) = show(rt.alloc(), form, true)?;
     if answer == Ok(4) {
         assert!(rt; written.is_empty());
     } else {
-        assert_eq!(rt; answer, Ok(0));
-        assert_eq!(rt; written.as_slice(), due.as_slice());
+        check_same(rt, &"the answer", &answer, &Ok(0));
+        check_same(rt, &"what was shown", &written.as_slice(), &due.as_slice());
     }
     Ok(())
 }

@@ -1,11 +1,12 @@
 //! Texts that are read, judged and written.
+use crate::same::check_same;
 use cell_audit::{AuditError, MigrateError, WriteError};
 use cell_diagnosis::Limits;
 use cell_lines::WriteFault;
 use cell_samples::{ONE_PLATE, begun, call_begins, call_ends, one_plate_text};
 use cell_settings::SettingsError;
 use cell_sim::{FaultError, FaultScript, SimPort, World};
-use cell_turns::Port;
+use cell_turns::{Plan, Port};
 use cell_types::{Axis, Command, Machine, Pose, Totals};
 use operator_desk::{Action, Script, ScriptError};
 use std::alloc::{AllocError, Global};
@@ -28,9 +29,10 @@ fn script_read(rt: HostRuntime) {
     call_ends(alloc, answer.is_err());
     match answer {
         Ok(script) => {
-            assert_eq!(rt; script.next(&book), Some(Action::Stop(Machine::Feed)));
+            let stop = Some(Action::Stop(Machine::Feed));
+            check_same(&rt, &"next", &script.next(&book), &stop);
         }
-        Err(why) => assert_eq!(rt; why, ScriptError::OutOfMemory),
+        Err(why) => check_same(&rt, &"why", &why, &ScriptError::OutOfMemory),
     }
 }
 
@@ -51,11 +53,18 @@ fn fault_script_read(rt: HostRuntime) {
             assert!(rt; feed.command(on).is_err());
             assert!(rt; feed.command(on).is_ok());
         }
-        Err(why) => assert_eq!(rt; why, FaultError::OutOfMemory),
+        Err(why) => check_same(&rt, &"why", &why, &FaultError::OutOfMemory),
     }
 }
 
 const SETTINGS: &[u8] = b"plates = 5\nturns = 7\n[watch.press_one]\nleave = 4\nlimit = 9\n";
+
+fn check_plan(rt: &impl Abort, plan: &Plan) {
+    let told = [plan.plates, plan.turns, plan.journal_limit];
+    check_same(rt, &"plates, turns, journal", &told, &[5, 7, 100_000]);
+    let limits = plan.limits[Axis::PressOne as usize];
+    check_same(rt, &"limits", &Some(limits), &Limits::new(4, 9));
+}
 
 #[test]
 fn read_settings(rt: HostRuntime) {
@@ -64,14 +73,7 @@ fn read_settings(rt: HostRuntime) {
     let answer = cell_settings::read_settings(alloc, SETTINGS);
     call_ends(alloc, matches!(&answer, Err(SettingsError::OutOfMemory)));
     match &answer {
-        Ok(plan) => {
-            assert_eq!(rt;
-                [plan.plates, plan.turns, plan.journal_limit],
-                [5, 7, 100_000]
-            );
-            let limits = plan.limits[Axis::PressOne as usize];
-            assert_eq!(rt; Some(limits), Limits::new(4, 9));
-        }
+        Ok(plan) => check_plan(&rt, plan),
         Err(why) => assert!(rt; matches!(why, SettingsError::OutOfMemory), "{why:?}"),
     }
 }
@@ -88,7 +90,7 @@ fn read_settings_out_of_range(rt: HostRuntime) {
     match &answer {
         Ok(_) => panic!(rt; "the limit is out of range"),
         Err(SettingsError::OutOfRange(path)) => {
-            assert_eq!(rt; path.as_str(), "watch.press_one.limit");
+            check_same(&rt, &"path", &path.as_str(), &"watch.press_one.limit");
         }
         Err(why) => assert!(rt; matches!(why, SettingsError::OutOfMemory), "{why:?}"),
     }
@@ -110,8 +112,8 @@ fn check_written(
     if is_wanted(answer) {
         assert!(rt; due.starts_with(written));
     } else {
-        assert_eq!(rt; answer, Ok(status));
-        assert_eq!(rt; written, due);
+        check_same(rt, &"the answer", &answer, &Ok(status));
+        check_same(rt, &"what was written", &written, &due);
     }
 }
 
@@ -147,11 +149,12 @@ fn write_journal(rt: HostRuntime) -> Result<(), Fail> {
     call_begins(alloc);
     let answer = cell_audit::write_journal(alloc, book.journal(), &mut written);
     call_ends(alloc, answer.is_err());
+    let (written, due) = (written.as_slice(), due.as_slice());
     match answer {
-        Ok(()) => assert_eq!(rt; written.as_slice(), due.as_slice()),
+        Ok(()) => check_same(&rt, &"what was written", &written, &due),
         Err(why) => {
-            assert_eq!(rt; why, WriteError::OutOfMemory);
-            assert!(rt; due.as_slice().starts_with(written.as_slice()));
+            check_same(&rt, &"why", &why, &WriteError::OutOfMemory);
+            assert!(rt; due.starts_with(written));
         }
     }
     Ok(())
@@ -193,8 +196,8 @@ fn check_audit<R: AllocGlobal + Abort>(rt: &R, last: &[u8]) -> Result<(), Fail> 
         reinstated: 0,
     };
     match answer {
-        Ok(told) => assert_eq!(rt; told, (1, due)),
-        Err(why) => assert_eq!(rt; why, AuditError::OutOfMemory),
+        Ok(told) => check_same(rt, &"the audit", &told, &(1, due)),
+        Err(why) => check_same(rt, &"why", &why, &AuditError::OutOfMemory),
     }
     Ok(())
 }
@@ -246,17 +249,16 @@ fn check_migrate<R: AllocGlobal + Abort>(rt: &R, last: &[u8]) -> Result<(), Fail
     call_begins(alloc);
     let answer = cell_audit::migrate(alloc, text.as_slice(), &mut written);
     call_ends(alloc, answer == Err(MigrateError::OutOfMemory));
+    let (written, due) = (written.as_slice(), due.as_slice());
     match answer {
         Ok(told) => {
-            assert_eq!(rt;
-                [told.entries, told.quarantined, told.reinstated],
-                [10, 1, 0]
-            );
-            assert_eq!(rt; written.as_slice(), due.as_slice());
+            let counts = [told.entries, told.quarantined, told.reinstated];
+            check_same(rt, &"the totals", &counts, &[10, 1, 0]);
+            check_same(rt, &"what was written", &written, &due);
         }
         Err(why) => {
-            assert_eq!(rt; why, MigrateError::OutOfMemory);
-            assert!(rt; due.as_slice().starts_with(written.as_slice()));
+            check_same(rt, &"why", &why, &MigrateError::OutOfMemory);
+            assert!(rt; due.starts_with(written));
         }
     }
     Ok(())

@@ -5,6 +5,7 @@ ghost use Rattle.cell_turns.specs.Six.{at};
 ghost use Rattle.cell_turns.specs.Minds.{machine_of_watch};
 ghost use Rattle.cell_ledger.specs.New.{AreBlank};
 
+use crate::same::check_same;
 use cell_diagnosis::{Limits, Reading};
 use cell_ledger::{Blanks, Kept, Run, Shares};
 use cell_samples::{begun, call_begins, call_ends, entry_of};
@@ -63,6 +64,12 @@ fn turn_at_plate<R: Run>(
     cell_turns::turn(machine, kept, shares, watch, showing(1), list, plan)
 }
 
+// The book and the shares count so many entries.
+fn check_counts<R: Run>(rt: &impl Abort, kept: &Kept<R>, shares: &Shares<R>, count: u32) {
+    check_same(rt, &"totals", &kept.book().totals(), &entries(count));
+    check_same(rt, &"counts", &shares.counts(), &entries(count));
+}
+
 // The feed light is green, and a plate is shown for the second time: the turn admits it. Where its list is refused memory
 // nothing has changed, so the same turn admits it later.
 fn admit<R: Run>(rt: &impl Abort, alloc: Global, book: Book, blanks: Blanks, plan: &Plan)
@@ -75,23 +82,27 @@ fn admit<R: Run>(rt: &impl Abort, alloc: Global, book: Book, blanks: Blanks, pla
     let mut watch = Watch::start(feed, kept.book());
     let mut list = Vec::new(alloc);
     let first = turn_at_plate(feed, &mut kept, &mut shares, &mut watch, &mut list, plan);
-    assert_eq!(rt; first, Ok(None));
+    check_same(rt, &"first", &first, &Ok(None));
     let noted = watch;
     let mut list = Vec::new(alloc);
     call_begins(alloc);
     let mut answer = turn_at_plate(feed, &mut kept, &mut shares, &mut watch, &mut list, plan);
     call_ends(alloc, answer.is_err());
     if let Err(why) = answer {
-        assert_eq!(rt; why, TurnError::OutOfMemory);
+        check_same(rt, &"why", &why, &TurnError::OutOfMemory);
         assert!(rt; list.is_empty() && watch == noted);
-        assert_eq!(rt; kept.book().totals(), entries(1));
-        assert_eq!(rt; shares.counts(), entries(1));
+        check_counts(rt, &kept, &shares, 1);
         answer = turn_at_plate(feed, &mut kept, &mut shares, &mut watch, &mut list, plan);
     }
-    assert_eq!(rt; answer, Ok(Some(Command::Lamp(Belt::Feed, Colour::Red))));
-    assert_eq!(rt; list.first().copied(), entry_of("admitted,1,,"));
-    assert_eq!(rt; kept.book().totals(), entries(2));
-    assert_eq!(rt; shares.counts(), entries(2));
+    let red = Command::Lamp(Belt::Feed, Colour::Red);
+    check_same(rt, &"answer", &answer, &Ok(Some(red)));
+    check_same(
+        rt,
+        &"list",
+        &list.first().copied(),
+        &entry_of("admitted,1,,"),
+    );
+    check_counts(rt, &kept, &shares, 2);
 }
 
 #[test]
@@ -125,11 +136,13 @@ const BOOKED: [&str; 5] = [
 fn check_steps<R: Run>(rt: &impl Abort, kept: &Kept<R>, shares: &Shares<R>, count: usize) {
     let journal = kept.book().journal();
     for (place, record) in (2..7u32).zip(BOOKED.iter()).take(count) {
-        assert_eq!(rt; journal.get(place), entry_of(record), "{record}");
+        check_same(rt, record, &journal.get(place), &entry_of(record));
     }
-    assert_eq!(rt; journal.len() as usize, count.saturating_add(2));
-    assert_eq!(rt; shares.counts(), kept.book().totals());
-    assert_eq!(rt; shares.counts().quarantined, u32::from(2 < count));
+    let counts = shares.counts();
+    let length = count.saturating_add(2);
+    check_same(rt, &"entries", &(journal.len() as usize), &length);
+    check_same(rt, &"counts", &counts, &kept.book().totals());
+    check_same(rt, &"cleared", &counts.quarantined, &u32::from(2 < count));
 }
 
 // A plan, and the simulated machines and hands by which it is carried out.
