@@ -91,6 +91,9 @@ impl<R: Run, P: Port + Drop, O: OperatorPort + Drop> Stage<R, P, O> {
             &mut self.watches,
             plan,
         );
-        ran.expect(rt, "memory")
+        let Ok(ran) = ran else {
+            panic!(rt; "there is memory");
+        };
+        ran
     }
 }
