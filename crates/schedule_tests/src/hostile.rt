@@ -29,12 +29,18 @@ const SEED: u64 = 0x5e_ed0f_5eed;
 /// How many answers and commands a port keeps, and how many acts the hands keep: more than a schedule has steps.
 const ROOM: usize = 2_000;
 
-// What is left of a schedule.
+// The steps that were taken, what was counted on the way, and how many turns were refused.
 #[derive(Drop)]
-struct Left<P, O> {
+struct Taken {
     steps: Vec<Step>,
     tally: Tally,
     refused: usize,
+}
+
+// What is left of a schedule.
+#[derive(Drop)]
+struct Left<P, O> {
+    taken: Taken,
     book: Book,
     ports: Six<TellingPort<P>>,
     hands: TellingHands<O>,
@@ -46,10 +52,7 @@ fn telling<P: Drop>(
     setting: &Setting,
     ports: Six<P>,
 ) -> Six<TellingPort<P>> {
-    let Ok(ports) = telling_ports(alloc, ports, setting.failing, ROOM) else {
-        panic!(rt; "there is memory");
-    };
-    ports
+    telling_ports(alloc, ports, setting.failing, ROOM).expect(rt, "memory")
 }
 
 fn telling_hands<O: Drop>(
@@ -58,10 +61,7 @@ fn telling_hands<O: Drop>(
     setting: &Setting,
     hands: O,
 ) -> TellingHands<O> {
-    let Ok(hands) = TellingHands::new(alloc, hands, setting.removing, setting.homing, ROOM) else {
-        panic!(rt; "there is memory");
-    };
-    hands
+    TellingHands::new(alloc, hands, setting.removing, setting.homing, ROOM).expect(rt, "memory")
 }
 
 // A turn books one entry of its machine at most. One that is refused leaves the book and the machine's watch as they were: the
@@ -184,7 +184,31 @@ fn take_step<R: Run, P: Port + Drop, O: OperatorPort + Drop>(
     }
 }
 
-// A schedule whose steps are drawn as it goes on, one after another, over a simulated cell.
+// Draws the steps of a schedule one after another, and takes each as it is drawn.
+fn take_steps<R: Run, P: Port + Drop, O: OperatorPort + Drop>(
+    rt: &impl Abort,
+    alloc: Global,
+    stage: &mut Stage<R, P, O>,
+    drawing: &mut Drawing,
+    setting: &Setting,
+) -> Taken
+    requires { (m : MachineValue) → machine_of_watch (at stage.old.watches m) ≡ m }
+{
+    let mut taken = Taken {
+        steps: Vec::new(alloc),
+        tally: Tally::default(),
+        refused: 0,
+    };
+    for _ in 0..setting.habits.steps {
+        let step = stage.draw(drawing);
+        let more = take_step(rt, alloc, stage, &step, setting, &mut taken.tally);
+        taken.refused = taken.refused.saturating_add(more);
+        taken.steps.push(step).expect(rt, "memory");
+    }
+    taken
+}
+
+// A schedule whose steps are drawn as it goes on, over a simulated cell.
 fn play_live<'a, R: Run, W: AllocGlobal + Abort + Wait>(
     rt: &'a W,
     drawing: &mut Drawing,
@@ -202,16 +226,7 @@ fn play_live<'a, R: Run, W: AllocGlobal + Abort + Wait>(
     let ports = telling(rt, alloc, setting, sim_ports(rt, world, faults));
     let hands = telling_hands(rt, alloc, setting, SimOperator::new(rt, world));
     let mut stage = Stage::<R, _, _>::new(book, blanks, ports, hands);
-    let mut steps = Vec::new(alloc);
-    let mut tally = Tally::default();
-    let mut refused: usize = 0;
-    for _ in 0..setting.habits.steps {
-        let step = stage.draw(drawing);
-        let more = take_step(rt, alloc, &mut stage, &step, setting, &mut tally);
-        refused = refused.saturating_add(more);
-        let pushed = steps.push(step);
-        assert!(rt; pushed.is_ok(), "there is memory");
-    }
+    let taken = take_steps(rt, alloc, &mut stage, drawing, setting);
     let Stage {
         kept,
         ports,
@@ -219,16 +234,32 @@ fn play_live<'a, R: Run, W: AllocGlobal + Abort + Wait>(
         ..
     } = stage;
     Left {
-        steps,
-        tally,
-        refused,
+        taken,
         book: kept.into_book(),
         ports,
         hands,
     }
 }
 
-// The same steps at once, over ports that reach no machine: what has to hold of a schedule holds, and the journal is the same.
+// What has to hold of a schedule holds of one whose steps were taken at once, and its journal is that of the live one.
+fn check_again<R: Run, P: Port + Drop, O: OperatorPort + Drop, Q, H, W: AllocGlobal + Abort>(
+    rt: &W,
+    stage: &Stage<R, P, O>,
+    setting: &Setting,
+    live: &Left<Q, H>,
+    ran: &Ran,
+) {
+    let book = stage.kept.book();
+    assert!(rt; stage.shares.counts() == book.totals());
+    check_journal(rt, book, setting.entries, setting.plates);
+    check_same(rt, book.journal(), live.book.journal());
+    check_lists(rt, book.journal(), ran);
+    check_devices(rt, ran, &stage.ports, &stage.hands);
+    check_devices(rt, ran, &live.ports, &live.hands);
+    assert_eq!(rt; ran.refused, live.taken.refused);
+}
+
+// The same steps at once, over ports that reach no machine.
 fn play_again<R: Run, P, O, W: AllocGlobal + Abort>(
     rt: &W,
     setting: &Setting,
@@ -244,52 +275,60 @@ fn play_again<R: Run, P, O, W: AllocGlobal + Abort>(
     let ports = telling(rt, alloc, setting, StillPort { shown: None }.for_all());
     let hands = telling_hands(rt, alloc, setting, StillHands);
     let mut stage = Stage::<R, _, _>::new(book, blanks, ports, hands);
-    let ran = stage.take(rt, alloc, live.steps.as_slice(), &setting.plan);
-    let book = stage.kept.book();
-    assert!(rt; stage.shares.counts() == book.totals());
-    check_journal(rt, book, setting.entries, setting.plates);
-    check_same(rt, book.journal(), live.book.journal());
-    check_lists(rt, book.journal(), &ran);
-    check_devices(rt, &ran, &stage.ports, &stage.hands);
-    check_devices(rt, &ran, &live.ports, &live.hands);
-    assert_eq!(rt; ran.refused, live.refused);
+    let ran = stage.take(rt, alloc, live.taken.steps.as_slice(), &setting.plan);
+    check_again(rt, &stage, setting, live, &ran);
 }
 
-// What a schedule made, beside what was counted on its way.
-fn tally_of<P, O>(rt: &impl Abort, alloc: Global, live: &Left<P, O>) -> Tally {
-    let Ok(entries) = cell_samples::entries_of(alloc, live.book.journal()) else {
-        panic!(rt; "there is memory");
-    };
-    let mut tally = live.tally;
-    tally.schedules = 1;
-    tally.steps = live.steps.len() as u64;
-    tally.count_entries(entries.as_slice());
-    tally.acts_failed = live.hands.failures();
-    tally.delivering = u32::from(live.book.totals().delivered > 0);
-    let ports = &live.ports;
-    for port in [
+// How many commands of all ports failed.
+fn failures_of<P>(ports: &Six<TellingPort<P>>) -> u32 {
+    [
         &ports.feed,
         &ports.table,
         &ports.robot,
         &ports.press1,
         &ports.press2,
         &ports.deposit,
-    ] {
-        tally.commands_failed = tally.commands_failed.saturating_add(port.failures());
-    }
+    ]
+    .iter()
+    .fold(0, |sum: u32, port| sum.saturating_add(port.failures()))
+}
+
+// What a schedule made, beside what was counted on its way.
+fn tally_of<P, O>(rt: &impl Abort, alloc: Global, live: &Left<P, O>) -> Tally {
+    let entries = cell_samples::entries_of(alloc, live.book.journal()).expect(rt, "memory");
+    let mut tally = live.taken.tally;
+    tally.schedules = 1;
+    tally.steps = live.taken.steps.len() as u64;
+    tally.count_entries(entries.as_slice());
+    tally.acts_failed = live.hands.failures();
+    tally.delivering = u32::from(live.book.totals().delivered > 0);
+    tally.commands_failed = failures_of(&live.ports);
     tally
+}
+
+// The schedule of a setting, live and then at once.
+fn play<W: AllocGlobal + Abort + Wait>(
+    rt: &W,
+    setting: &Setting,
+    drawing: &mut Drawing,
+    world: &Mutex<World>,
+    faults: &FaultScript,
+) -> Tally {
+    let alloc = rt.alloc();
+    let book = setting.book(rt, alloc);
+    let live = play_live::<Brand, W>(rt, drawing, setting, world, faults, book, Blanks::new(1));
+    let book = setting.book(rt, alloc);
+    play_again::<Brand, _, _, W>(rt, setting, &live, book, Blanks::new(1));
+    tally_of(rt, alloc, &live)
 }
 
 // The schedule of a seed.
 fn play_seed<W: AllocGlobal + Abort + Wait>(rt: &W, seed: u64) -> Tally {
-    let alloc = rt.alloc();
     let mut random = Random::new(seed);
     let setting = Setting::draw(rt, &mut random);
-    let Ok(faults) = FaultScript::read(alloc, setting.faults.as_bytes()) else {
-        panic!(rt; "the faults are readable");
-    };
+    let faults = FaultScript::read(rt.alloc(), setting.faults.as_bytes());
+    let faults = faults.ok().expect(rt, "the faults are readable");
     let world = Mutex::new(World::new(setting.plan.plates));
-    let book = setting.book(rt, alloc);
     let mut drawing = Drawing {
         random,
         habits: setting.habits,
@@ -297,39 +336,37 @@ fn play_seed<W: AllocGlobal + Abort + Wait>(rt: &W, seed: u64) -> Tally {
         disturbed: 0,
         way: 0,
     };
-    let live = play_live::<Brand, W>(
-        rt,
-        &mut drawing,
-        &setting,
-        &world,
-        &faults,
-        book,
-        Blanks::new(1),
-    );
-    let book = setting.book(rt, alloc);
-    play_again::<Brand, _, _, W>(rt, &setting, &live, book, Blanks::new(1));
-    tally_of(rt, alloc, &live)
+    play(rt, &setting, &mut drawing, &world, &faults)
 }
 
-// A thousand schedules, from a number on. Among them are entries of every kind, many faults of each cause but stray positions,
-// which are rare, turns that were refused for either reason, and failures of ports and of hands; in many plates get through
-// the cell.
-fn check_thousand<W: AllocGlobal + Abort + Wait>(rt: &W, first: u64) {
+// What a thousand schedules made, from a number on.
+fn play_thousand<W: AllocGlobal + Abort + Wait>(rt: &W, first: u64) -> Tally {
     let mut all = Tally::default();
     for number in 0..1_000u64 {
         let seed = SEED.wrapping_add(first).wrapping_add(number);
         all.add(&play_seed(rt, seed));
     }
-    assert_eq!(rt; all.schedules, 1_000);
-    assert!(rt; all.kinds.iter().all(|made| *made >= 100), "{all:?}");
+    all
+}
+
+// Whether entries of every kind were made, and many faults of each cause but stray positions, which are rare.
+fn has_all_entries(all: &Tally) -> bool {
     let causes = all.causes.iter().filter(|made| **made >= 50).count();
-    assert!(rt; causes >= 10, "{all:?}");
-    assert!(rt; all.full >= 1_000 && all.past_plates >= 1_000, "{all:?}");
-    assert!(rt;
-        all.commands_failed >= 100 && all.acts_failed >= 100,
-        "{all:?}"
-    );
-    assert!(rt; all.spared >= 1_000 && all.delivering >= 200, "{all:?}");
+    all.kinds.iter().all(|made| *made >= 100) && causes >= 10
+}
+
+// Whether turns were refused for either reason, ports and hands failed, and in many schedules plates got through the cell.
+fn has_all_ways(all: &Tally) -> bool {
+    let refused = all.full.min(all.past_plates).min(all.spared);
+    let failed = all.commands_failed.min(all.acts_failed);
+    refused >= 1_000 && failed >= 100 && all.delivering >= 200
+}
+
+// A thousand schedules, from a number on, are lawful, and all that can come came in them.
+fn check_thousand<W: AllocGlobal + Abort + Wait>(rt: &W, first: u64) {
+    let all = play_thousand(rt, first);
+    let came = all.schedules == 1_000 && has_all_entries(&all) && has_all_ways(&all);
+    assert!(rt; came, "{all:?}");
 }
 
 #[test]

@@ -9,7 +9,7 @@ use crate::checks::check_journal;
 use crate::stage::Stage;
 use cell_diagnosis::Limits;
 use cell_ledger::{Blanks, Run};
-use cell_sim::{FaultScript, SimOperator, World};
+use cell_sim::{FaultScript, SimOperator, SimPort, World};
 use cell_turns::{OperatorPort, Plan, Port, Step};
 use cell_types::{MACHINES, Machine};
 use cell_workers::{End, end_at_rest, is_idle};
@@ -30,9 +30,7 @@ const ROUNDS: usize = 5_000;
 const LEFT_OUT: usize = 200;
 
 fn plan_of_ten(rt: &impl Abort) -> Plan {
-    let Some(limits) = Limits::new(3, 20) else {
-        panic!(rt; "the limits are in range");
-    };
+    let limits = Limits::new(3, 20).expect(rt, "the limits are in range");
     Plan {
         plates: 10,
         journal_limit: ROOM,
@@ -111,10 +109,64 @@ fn finish<R: Run, P: Port + Drop, O: OperatorPort + Drop>(
     None
 }
 
+// A book of ten plates over a simulated cell, before its first turn.
+fn ten_plates<'a, R: Run, W: AllocGlobal + Abort + Wait>(
+    rt: &'a W,
+    world: &'a Mutex<World>,
+    faults: &'a FaultScript,
+    book: Book,
+    blanks: Blanks,
+) -> Stage<R, SimPort<'a, W>, SimOperator<'a, W>>
+    requires parts { 0 < R.parts }
+    requires limits { book.limits ≡ R.limits }
+    requires ledgers { AreBlank R.Run blanks }
+    ensures machines { (m : MachineValue) → machine_of_watch (at result.watches m) ≡ m }
+{
+    let alloc = rt.alloc();
+    let never = [Failing::Never; 6];
+    let ports = telling_ports(alloc, sim_ports(rt, world, faults), never, ROOM as usize);
+    let operator = SimOperator::new(rt, world);
+    let hands = TellingHands::new(alloc, operator, Failing::Never, Failing::Never, 0);
+    Stage::new(
+        book,
+        blanks,
+        ports.expect(rt, "memory"),
+        hands.expect(rt, "memory"),
+    )
+}
+
+// The journal is legal, and no machines met.
+fn check_cell<R: Run, P, O, W: AllocGlobal + Abort + Wait>(
+    rt: &W,
+    stage: &Stage<R, P, O>,
+    world: &Mutex<World>,
+) {
+    check_journal(rt, stage.kept.book(), ROOM, 10);
+    assert_eq!(rt; world.lock(rt).collisions(), 0);
+}
+
+// Rounds without each of these machines in turn: 1,000 steps each.
+fn leave_out<R: Run, P: Port + Drop, O: OperatorPort + Drop, W: AllocGlobal + Abort + Wait>(
+    rt: &W,
+    stage: &mut Stage<R, P, O>,
+    plan: &Plan,
+    world: &Mutex<World>,
+    left_out: &[Machine],
+)
+    requires { (m : MachineValue) → machine_of_watch (at stage.old.watches m) ≡ m }
+    ensures { (m : MachineValue) → machine_of_watch (at stage.new.watches m) ≡ m }
+{
+    for machine in left_out {
+        take_rounds(rt, rt.alloc(), stage, plan, Some(*machine), LEFT_OUT);
+        check_cell(rt, stage, world);
+    }
+}
+
 // A run of ten plates: so many rounds with all machines, then 1,000 steps without each of these in turn, and then rounds with
 // all until the end. The run finishes, its journal is legal in each part that was looked at, and no machines meet.
 fn play_over<R: Run, W: AllocGlobal + Abort + Wait>(
     rt: &W,
+    plan: &Plan,
     rounds: usize,
     left_out: &[Machine],
     book: Book,
@@ -124,44 +176,25 @@ fn play_over<R: Run, W: AllocGlobal + Abort + Wait>(
     requires limits { book.limits ≡ R.limits }
     requires ledgers { AreBlank R.Run blanks }
 {
-    let alloc = rt.alloc();
-    let plan = plan_of_ten(rt);
     let world = Mutex::new(World::new(plan.plates));
-    let faults = FaultScript::read(alloc, b"").expect(rt, "no faults are readable");
-    let never = Failing::Never;
-    let ports = telling_ports(
-        alloc,
-        sim_ports(rt, &world, &faults),
-        [never; 6],
-        ROOM as usize,
-    );
-    let hands = TellingHands::new(alloc, SimOperator::new(rt, &world), never, never, 0);
-    let (Ok(ports), Ok(hands)) = (ports, hands) else {
-        panic!(rt; "there is memory");
-    };
-    let mut stage = Stage::<R, _, _>::new(book, blanks, ports, hands);
-    take_rounds(rt, alloc, &mut stage, &plan, None, rounds);
-    for machine in left_out {
-        take_rounds(rt, alloc, &mut stage, &plan, Some(*machine), LEFT_OUT);
-        check_journal(rt, stage.kept.book(), ROOM, 10);
-        assert_eq!(rt; world.lock(rt).collisions(), 0, "without {machine:?}");
-    }
-    let end = finish(rt, alloc, &mut stage, &plan);
+    let faults = FaultScript::read(rt.alloc(), b"").expect(rt, "no faults are readable");
+    let mut stage = ten_plates::<R, W>(rt, &world, &faults, book, blanks);
+    take_rounds(rt, rt.alloc(), &mut stage, plan, None, rounds);
+    leave_out(rt, &mut stage, plan, &world, left_out);
+    let end = finish(rt, rt.alloc(), &mut stage, plan);
     assert_eq!(rt;
         end,
         Some(End::Finished),
         "without {left_out:?} after {rounds} rounds"
     );
     assert_eq!(rt; stage.kept.book().totals().delivered, 10);
-    assert_eq!(rt; world.lock(rt).collisions(), 0);
-    check_journal(rt, stage.kept.book(), ROOM, 10);
+    check_cell(rt, &stage, &world);
 }
 
 fn play<W: AllocGlobal + Abort + Wait>(rt: &W, rounds: usize, left_out: &[Machine]) {
-    let Ok(book) = Book::new(rt.alloc(), ROOM, 10) else {
-        panic!(rt; "there is memory");
-    };
-    play_over::<Brand, W>(rt, rounds, left_out, book, Blanks::new(1));
+    let book = Book::new(rt.alloc(), ROOM, 10).ok().expect(rt, "a book");
+    let plan = plan_of_ten(rt);
+    play_over::<Brand, W>(rt, &plan, rounds, left_out, book, Blanks::new(1));
 }
 
 #[test]

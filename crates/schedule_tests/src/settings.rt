@@ -169,9 +169,8 @@ impl Setting {
 
     /// An empty book with the setting's limits.
     pub(crate) fn book(&self, rt: &impl Abort, alloc: Global) -> Book {
-        let Ok(book) = Book::new(alloc, self.entries, self.plates) else {
-            panic!(rt; "there is memory, and the limits are in range");
-        };
-        book
+        Book::new(alloc, self.entries, self.plates)
+            .ok()
+            .expect(rt, "a book")
     }
 }

@@ -91,9 +91,6 @@ impl<R: Run, P: Port + Drop, O: OperatorPort + Drop> Stage<R, P, O> {
             &mut self.watches,
             plan,
         );
-        let Ok(ran) = ran else {
-            panic!(rt; "there is memory");
-        };
-        ran
+        ran.expect(rt, "memory")
     }
 }

@@ -1,4 +1,4 @@
-use Rattle.schedule_tests.proofs.hostile.play_seed.Given as goal
+use Rattle.schedule_tests.proofs.hostile.play.Given as goal
 
 abbrev pub ghosts-play_live : goal.ghosts-play_live
 ghosts-play_live g a = record {
