@@ -7,18 +7,17 @@ says, so that the prover has to refuse them. Usage: checks/edits.sh [changed | a
   CRATE..   those of these crates
   tried     tries none: says which crates changed since all their edits were refused, and fails where there is one
 
-It first proves what isn't proved. Then it tries edits side by side, each over a copy of what rt kept of its crate, and says
-of each whether it was refused, and by what. edits/TRIED has a line for each crate whose edits were all refused: a digest
-over its src, specs, proofs and edits. Each is judged by the function by which `rt ci` judges the edits of must-fail/."""
+It first proves what isn't proved. Then `rt must-fail` tries the edits, side by side, each over what rt kept of its crate, in
+a copy of the tree in which they stand in must-fail/; it says at the end of each whether it was refused, and by what. What
+it tried of the same files earlier, on this machine, it doesn't try again. edits/TRIED has a line for each crate whose edits
+were all refused: a digest over its src, specs, proofs and edits."""
 
 import hashlib
-import importlib.machinery
-import importlib.util
 import os
+import re
 import shutil
 import sys
 import tempfile
-import threading
 
 sys.dont_write_bytecode = True
 import prove
@@ -26,8 +25,6 @@ import rooms
 
 EDITS = f"{rooms.TREE}/edits"
 TRIED = f"{EDITS}/TRIED"
-# How many edits are tried in turn over one copy of what was kept of a crate.
-IN_TURN = 8
 
 
 def edits_of(crate):
@@ -65,68 +62,29 @@ def note_tried(crate, digest):
     os.replace(f"{TRIED}.new", TRIED)
 
 
-def load_rt():
-    """rt itself, as a module: its command must-fail proves a crate anew for its first edit, and tries one after another."""
-    loader = importlib.machinery.SourceFileLoader("rt", os.path.realpath(shutil.which("rt")))
-    module = importlib.util.module_from_spec(importlib.util.spec_from_loader("rt", loader))
-    loader.exec_module(module)
-    # Its first call sets a signal's handler, which only the main thread may.
-    module.rtlib.guarded()
-    return module
-
-
-def try_in_turn(rt, crate, edits, say):
-    """Tries edits of a crate over one copy of what rt kept of it, and returns whether all were refused and the crate itself
-    is proved over that copy."""
-    with tempfile.TemporaryDirectory(prefix="edits-") as place:
-        kept = f"{place}/kept"
-        if os.path.isdir(f"{crate.folder}/out/incremental"):
-            shutil.copytree(f"{crate.folder}/out/incremental", kept)
-        well = True
-        for edit in edits:
-            refused, said = rt.must_fail(crate, edit, ["--jobs", "1"], kept)
-            well = well and refused
-            say(said.replace("must-fail ", "", 1))
-        if rt.checked(crate, {}, ["--jobs", "1"], kept).returncode:
-            say(f"{crate.name}: NOT PROVED over what its edits left, so that they were refused says nothing")
-            return False
-        return well
-
-
 def try_all(names):
-    """Tries the edits of these crates side by side, and notes those whose edits were all refused. Returns how many crates
-    have one that wasn't."""
-    rt, clock, printing = load_rt(), rooms.Clock(), threading.Lock()
-    crates = {it.name: it for it in rt.rtlib.crates_below(rooms.TREE)}
-    digests = {name: digest_of(name) for name in names}
-    left = {name: len(range(0, len(edits_of(name)), IN_TURN)) for name in names}
-    failed = set()
-
-    def say(text):
-        with printing:
-            print(text, flush=True)
-
-    def work(name, edits):
-        well = try_in_turn(rt, crates[name], edits, say)
-        with printing:
-            left[name] -= 1
-            if not well:
-                failed.add(name)
-            if not left[name]:
-                is_well = name not in failed and digest_of(name) == digests[name]
-                note_tried(name, digests[name] if is_well else None)
-                print(f"edits: {name}: {'all refused' if is_well else 'NOT ALL REFUSED'}, after {clock}", flush=True)
-        return True
-
-    tasks = {}
+    """Tries the edits of these crates in a room, where they stand where rt looks for them, and notes those whose edits were all
+    refused. Returns how many crates have one that wasn't."""
+    crates, clock, digests = rooms.read_crates(), rooms.Clock(), {name: digest_of(name) for name in names}
+    with tempfile.TemporaryDirectory(prefix="edits-") as place:
+        room = f"{place}/room"
+        rooms.open_room(room, crates, names)
+        for name in names:
+            shutil.copytree(f"{EDITS}/{name}", f"{room}/crates/{name}/must-fail")
+            kept = f"{rooms.TREE}/crates/{name}/out/incremental"
+            if os.path.isdir(kept):
+                rooms.link(kept, f"{room}/crates/{name}/out/incremental")
+        said = rooms.run(["rt", "must-fail", *names], room)[1]
+    print(said, end="", flush=True)
+    failed = 0
     for name in names:
-        edits = edits_of(name)
-        weight = sum(map(rooms.lines_of, [*rooms.all_below(rooms.read_crates(), name), name]))
-        for at in range(0, len(edits), IN_TURN):
-            part = edits[at : at + IN_TURN]
-            tasks[name, at] = ((), weight * len(part), lambda jobs, name=name, part=part: work(name, part))
-    rooms.in_lanes(tasks, rooms.lanes())
-    return len(failed)
+        refused = len(re.findall(rf"^(?:rt: )?must-fail {name}/\S+: refused, as it must be", said, re.MULTILINE))
+        is_well = refused == len(edits_of(name)) and digest_of(name) == digests[name]
+        note_tried(name, digests[name] if is_well else None)
+        failed += not is_well
+        print(f"edits: {name}: {refused} of {len(edits_of(name))} refused", flush=True)
+    print(f"edits: all tried after {clock}", flush=True)
+    return failed
 
 
 def main(words):

@@ -26,7 +26,8 @@ def prove(crates, name, jobs, place):
     """Proves a crate in a room, over what rt kept of it, and brings back what was made. Returns whether it was proved, and
     what rt said."""
     room, own = f"{place}/{name}", f"{rooms.TREE}/crates/{name}/out"
-    folder = rooms.open_room(room, crates, name)
+    folder = f"{room}/crates/{name}"
+    rooms.open_room(room, crates, [name])
     parts = [it for it in ("incremental", "rlib") if os.path.isdir(f"{own}/{it}")]
     for part in parts:
         keep(f"{own}/{part}", f"{folder}/out/{part}")

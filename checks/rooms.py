@@ -79,22 +79,20 @@ def link(origin, copy):
         subprocess.run(["cp", "-a", origin, copy], check=True)
 
 
-def open_room(room, crates, name, tree=TREE):
-    """Makes a room for a crate, with the libraries below it, and returns the crate's folder in it. What rt kept of the crate
-    stays behind."""
-    below = all_below(crates, name)
+def open_room(room, crates, names, tree=TREE):
+    """Makes a room for crates, with the libraries below them. What rt kept of the crates themselves stays behind."""
+    below = {it for name in names for it in all_below(crates, name)}
     os.makedirs(f"{room}/crates")
     with open(f"{tree}/crates.txt", encoding="utf-8") as lines:
-        listed = [line for line in lines if line.partition(":")[0] in {*below, name}]
+        listed = [line for line in lines if line.partition(":")[0] in {*below, *names}]
     with open(f"{room}/crates.txt", "w", encoding="utf-8") as copy:
         copy.writelines(listed)
-    for it in [*below, name]:
+    for it in {*below, *names}:
         for part in PARTS:
             if os.path.isdir(f"{tree}/crates/{it}/{part}"):
                 shutil.copytree(f"{tree}/crates/{it}/{part}", f"{room}/crates/{it}/{part}")
     for it in below:
         link(f"{tree}/crates/{it}/out/rlib", f"{room}/crates/{it}/out/rlib")
-    return f"{room}/crates/{name}"
 
 
 def in_lanes(tasks, count):
