@@ -15,6 +15,14 @@ use crate::help::{
 use clap::{Arg, ArgAction, Command};
 use std::alloc::{AllocError, Global};
 
+// A command with its line in the list of commands.
+fn named<'a>(alloc: Global, name: &'a str, about: &'a str) -> Command<'a>
+    ensures app { app_of result ≡ new_app name.entry.now }
+    ensures local { (out-Command result).has_globals ≡ false }
+{
+    Command::new(alloc, name).about(about)
+}
+
 // A command with its texts: its line in the list of commands, its help, and an example.
 fn described<'a>(
     alloc: Global,
@@ -26,8 +34,7 @@ fn described<'a>(
     ensures app { app_of result ≡ new_app name.entry.now }
     ensures local { (out-Command result).has_globals ≡ false }
 {
-    Command::new(alloc, name)
-        .about(about)
+    named(alloc, name, about)
         .long_about(help)
         .after_help(example)
 }

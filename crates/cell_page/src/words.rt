@@ -50,8 +50,8 @@ fn write_names<W: Write>(
     Ok(())
 }
 
-/// Writes the lists of names.
-pub(crate) fn write_words<W: Write>(writer: &mut W) -> Result<(), PageError>
+// Writes the lists of names of machines, stations and axes.
+fn write_machine_words<W: Write>(writer: &mut W) -> Result<(), PageError>
     ensures { result ≡ Err PageError.TooManyEntries → ⊥ }
 {
     write_names(
@@ -65,7 +65,14 @@ pub(crate) fn write_words<W: Write>(writer: &mut W) -> Result<(), PageError>
         &STATIONS.map(|station| station_name(station)),
     )?;
     write_names(writer, "axes", &AXES.map(|axis| axis_name(axis)))?;
-    write_names(writer, "parts", &AXES.map(|axis| axis_of_its_machine(axis)))?;
+    write_names(writer, "parts", &AXES.map(|axis| axis_of_its_machine(axis)))
+}
+
+/// Writes the lists of names.
+pub(crate) fn write_words<W: Write>(writer: &mut W) -> Result<(), PageError>
+    ensures { result ≡ Err PageError.TooManyEntries → ⊥ }
+{
+    write_machine_words(writer)?;
     write_names(writer, "poses", &POSES.map(|pose| pose_name(pose)))?;
     write_names(writer, "ways", &POSES.map(|pose| way_to_pose(pose)))?;
     write_names(writer, "zones", &ZONES.map(|zone| zone_name(zone)))?;
