@@ -4,6 +4,8 @@
 #[cfg(test)]
 mod book;
 #[cfg(test)]
+mod cases;
+#[cfg(test)]
 mod journal;
 #[cfg(test)]
 mod past;

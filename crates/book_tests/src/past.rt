@@ -1,239 +1,239 @@
 //! Past states, and entries as words.
-use crate::book::{book_records, new_book};
+use crate::book::{book_records, book_with};
+use crate::cases::{entry, is_wanted, number, part, text_of};
 use cell_journal::laws::{pack, unpack};
 use cell_journal::{Journal, Snapshot};
-use cell_samples::{LAID_BACK, ONE_PLATE, begun, entry_of};
-use cell_types::{
-    AXES, Axis, BELTS, Belt, Colour, Entry, MACHINES, Machine, PlateId, Pose, STATIONS, Station,
-    ZONES, Zone,
-};
+use cell_samples::{LAID_BACK, ONE_PLATE};
+use cell_types::{AXES, Axis, BELTS, Belt, MACHINES, STATIONS, Station, ZONES, Zone};
 use plate_book::Book;
-use std::alloc::Global;
+use std::alloc::{AllocError, Global};
 use std::process::Abort;
 
-// The entry of a record.
-fn entry(rt: &impl Abort, record: &str) -> Entry {
-    entry_of(record).expect(rt, record)
-}
+// Records, and the words of their entries by the table of bits.
+const PACKED: [(&str, u32); 6] = [
+    ("lamp,feed,red,", 0),
+    ("conveyed,feed_belt,1,table", 134_218_246),
+    ("started,press_one,top,", 8388),
+    ("quarantined,100000,press2,", 453_853_197),
+    ("expected,1,,", 527),
+    ("reinstated,100000,,", 51_200_016),
+];
+
+// Words of no entry. A plate that is expected or laid back has a number from 1 to 100,000, and nothing besides. No
+// kind has a number from 17 on, no entry has the two highest bits, a second colour is the last one, an admission has
+// a plate from 1 to 100,000, and nothing besides.
+const NO_ENTRY: [u32; 15] = [
+    15,
+    16,
+    15 + (100_001 << 9),
+    15 + (1 << 5) + (1 << 9),
+    16 + (1 << 9) + (1 << 26),
+    17,
+    17 + (1 << 9),
+    31,
+    1 << 30,
+    1 << 31,
+    2 << 9,
+    1,
+    1 + (100_001 << 9),
+    1 + (1 << 5) + (1 << 9),
+    1 + (1 << 9) + (1 << 26),
+];
+
+// Records of kinds and words that the journal of one plate has not.
+const OTHERS: [&str; 9] = [
+    "admitted,100000,,",
+    "gripped,arm2,77,press2",
+    "dropped,arm1,3,press2",
+    "declared,deposit,operator_stop,",
+    "stop_asked,press2,,",
+    "quarantined,9,dep_end,",
+    "repaired,robot,,",
+    "expected,100000,,",
+    "reinstated,77,,",
+];
 
 // The entry of a record is packed as this word, and unpacked from it.
 fn is_packed(rt: &impl Abort, record: &str, word: u32) {
-    assert_eq!(rt; pack(entry(rt, record)), word, "{record}");
-    assert_eq!(rt; unpack(word), Some(entry(rt, record)), "{record}");
+    assert!(rt; pack(entry(rt, record)) == word, "{record}");
+    assert!(rt; unpack(word) == Some(entry(rt, record)), "{record}");
 }
 
 #[test]
 fn entries_are_packed_by_the_table_of_bits(rt: HostRuntime) {
-    for (record, word) in [
-        ("lamp,feed,red,", 0),
-        ("conveyed,feed_belt,1,table", 134_218_246),
-        ("started,press_one,top,", 8388),
-        ("quarantined,100000,press2,", 453_853_197),
-        ("expected,1,,", 527),
-        ("reinstated,100000,,", 51_200_016),
-    ] {
+    for (record, word) in PACKED {
         is_packed(&rt, record, word);
     }
-}
-
-#[test]
-fn words_of_no_entry_are_not_unpacked(rt: HostRuntime) {
-    // A plate that is expected or laid back has a number from 1 to 100,000, and nothing besides. No kind has a number from 17
-    // on, no entry has the two highest bits, a second colour is the last one, an admission has a plate from 1 to 100,000, and
-    // nothing besides.
-    for word in [
-        15,
-        16,
-        15 + (100_001 << 9),
-        15 + (1 << 5) + (1 << 9),
-        16 + (1 << 9) + (1 << 26),
-        17,
-        17 + (1 << 9),
-        31,
-        1 << 30,
-        1 << 31,
-        2 << 9,
-        1,
-        1 + (100_001 << 9),
-        1 + (1 << 5) + (1 << 9),
-        1 + (1 << 9) + (1 << 26),
-    ] {
-        assert_eq!(rt; unpack(word), None, "{word}");
+    for word in NO_ENTRY {
+        assert!(rt; unpack(word).is_none(), "{word}");
     }
-}
-
-// The entry of each record is unpacked from its word.
-fn are_unpacked(rt: &impl Abort, records: &[&str]) {
-    for record in records {
-        is_packed(rt, record, pack(entry(rt, record)));
-    }
-}
-
-#[test]
-fn each_record_is_unpacked_again(rt: HostRuntime) {
-    let others = [
-        "admitted,100000,,",
-        "gripped,arm2,77,press2",
-        "dropped,arm1,3,press2",
-        "declared,deposit,operator_stop,",
-        "stop_asked,press2,,",
-        "quarantined,9,dep_end,",
-        "repaired,robot,,",
-        "expected,100000,,",
-        "reinstated,77,,",
-    ];
-    are_unpacked(&rt, &ONE_PLATE);
-    are_unpacked(&rt, &others);
-}
-
-// What a book tells of stations, axes and zones is what a snapshot says.
-fn check_places(rt: &impl Abort, snapshot: &Snapshot, book: &Book) {
-    for station in STATIONS {
-        assert_eq!(rt; snapshot.plate_at(station), book.plate_at(station));
-    }
-    for axis in AXES {
-        assert_eq!(rt; snapshot.pose(axis), book.pose(axis));
-    }
-    for zone in ZONES {
-        assert_eq!(rt; snapshot.holder(zone), book.holder(zone));
-    }
-}
-
-// What a book tells of machines is what a snapshot says.
-fn check_machines(rt: &impl Abort, snapshot: &Snapshot, book: &Book) {
-    for machine in MACHINES {
-        assert_eq!(rt; snapshot.failed(machine), book.failed(machine));
-        assert_eq!(rt; snapshot.asked(machine), book.asked(machine));
+    for record in ONE_PLATE.iter().chain(OTHERS.iter()) {
+        is_packed(&rt, record, pack(entry(&rt, record)));
     }
 }
 
 // What a book tells is what a snapshot says.
 fn check_told(rt: &impl Abort, snapshot: &Snapshot, book: &Book) {
-    check_places(rt, snapshot, book);
-    check_machines(rt, snapshot, book);
-    for belt in BELTS {
-        assert_eq!(rt; snapshot.lamp(belt), book.lamp(belt));
+    for station in STATIONS {
+        assert!(rt; snapshot.plate_at(station) == book.plate_at(station));
     }
-    assert_eq!(rt; snapshot.expected, book.expected());
-    assert_eq!(rt; snapshot.totals, book.totals());
-}
-
-// The state of a book after as many entries as another has, and how many were replayed for it.
-fn state_of(whole: &Book, book: &Book) -> (Snapshot, u32) {
-    let length = book.journal().len();
-    whole.state_at(length.min(whole.journal().len()))
+    for axis in AXES {
+        assert!(rt; snapshot.pose(axis) == book.pose(axis));
+    }
+    for zone in ZONES {
+        assert!(rt; snapshot.holder(zone) == book.holder(zone));
+    }
+    for machine in MACHINES {
+        assert!(rt; snapshot.failed(machine) == book.failed(machine));
+        assert!(rt; snapshot.asked(machine) == book.asked(machine));
+    }
+    for belt in BELTS {
+        assert!(rt; snapshot.lamp(belt) == book.lamp(belt));
+    }
+    assert!(rt; snapshot.expected == book.expected());
+    assert!(rt; snapshot.totals == book.totals());
 }
 
 // The state of a book after as many entries as another has is what that one tells.
 fn is_past_state(rt: &impl Abort, whole: &Book, book: &Book) {
-    let (snapshot, replayed) = state_of(whole, book);
+    let length = book.journal().len();
+    assert!(rt; length <= whole.journal().len());
+    let (snapshot, replayed) = whole.state_at(length);
     check_told(rt, &snapshot, book);
-    assert_eq!(rt; replayed, book.journal().len());
+    assert!(rt; replayed == length);
 }
 
-// A book with the first entries of the journal of one plate.
-fn one_plate(rt: &impl Abort, alloc: Global, count: usize) -> Book {
-    begun(alloc, 100, 10, count).expect(rt, "a book")
+// Each past state of a journal is what a book with so many entries tells, and the opening what an empty book tells.
+fn are_past_states(rt: &impl Abort, alloc: Global, journal: &[&str]) {
+    let whole = book_with(rt, alloc, [100, 10], journal);
+    is_past_state(rt, &whole, &book_with(rt, alloc, [1, 1], &[]));
+    for count in 0..journal.len() {
+        is_past_state(
+            rt,
+            &whole,
+            &book_with(rt, alloc, [100, 10], &journal[..count]),
+        );
+    }
+    is_past_state(rt, &whole, &whole);
 }
 
 #[test]
 fn each_past_state_is_that_of_a_shorter_book(rt: HostRuntime) {
-    let whole = one_plate(&rt, rt.alloc(), 62);
-    for count in 0..63 {
-        is_past_state(&rt, &whole, &one_plate(&rt, rt.alloc(), count));
+    are_past_states(&rt, rt.alloc(), &ONE_PLATE);
+    are_past_states(&rt, rt.alloc(), &LAID_BACK);
+}
+
+// A case: after how many entries, what is asked of the state then, and the answer. `replayed`: how many entries were
+// replayed for it.
+
+// The journal of one plate: the plate is in the first press, which stands at the top.
+const IN_THE_PRESS: [&str; 5] = [
+    "35|press1|Some(PlateId { number: 1 })",
+    "35|press_one|AxisState { at: Top, going: None }",
+    "35|z3|Some(Press1)",
+    "35|totals|Totals { entries: 35, admitted: 1, forged: 1, quarantined: 0, delivered: 0, reinstated: 0 }",
+    "35|replayed|35",
+];
+
+// The journal of a plate that is laid back.
+const EXPECTED: [&str; 14] = [
+    "0|expected|None",
+    "1|expected|None",
+    "2|expected|None",
+    "3|expected|None",
+    "4|expected|None",
+    "5|expected|None",
+    "6|expected|None",
+    "7|expected|None",
+    "8|expected|None",
+    "9|expected|None",
+    "10|expected|None",
+    "11|expected|Some(PlateId { number: 1 })",
+    "12|expected|Some(PlateId { number: 1 })",
+    "13|expected|None",
+];
+
+// A journal of 300 entries that switch the feed light, green first. Each 256 entries there is a checkpoint.
+const SWITCHED: [&str; 9] = [
+    "255|feed_light|Green",
+    "255|totals|Totals { entries: 255, admitted: 0, forged: 0, quarantined: 0, delivered: 0, reinstated: 0 }",
+    "255|replayed|255",
+    "256|feed_light|Red",
+    "256|totals|Totals { entries: 256, admitted: 0, forged: 0, quarantined: 0, delivered: 0, reinstated: 0 }",
+    "256|replayed|0",
+    "300|feed_light|Red",
+    "300|totals|Totals { entries: 300, admitted: 0, forged: 0, quarantined: 0, delivered: 0, reinstated: 0 }",
+    "300|replayed|44",
+];
+
+// A journal of three entries that isn't legal: the robot gives up its zone by the last one, and still carries its
+// plate.
+const EFFECTS: [&str; 5] = [
+    "2|z3|Some(Robot)",
+    "2|arm1|Some(PlateId { number: 7 })",
+    "3|z3|None",
+    "3|arm1|Some(PlateId { number: 7 })",
+    "3|replayed|3",
+];
+
+// What a past state answers to a question.
+fn answer(alloc: Global, state: &(Snapshot, u32), question: &str) -> Result<String, AllocError> {
+    let (snapshot, replayed) = state;
+    match question {
+        "press1" => text_of(alloc, &snapshot.plate_at(Station::Press1)),
+        "arm1" => text_of(alloc, &snapshot.plate_at(Station::Arm1)),
+        "press_one" => text_of(alloc, &snapshot.pose(Axis::PressOne)),
+        "z3" => text_of(alloc, &snapshot.holder(Zone::Z3)),
+        "feed_light" => text_of(alloc, &snapshot.lamp(Belt::Feed)),
+        "expected" => text_of(alloc, &snapshot.expected),
+        "totals" => text_of(alloc, &snapshot.totals),
+        "replayed" => text_of(alloc, replayed),
+        _ => text_of(alloc, &question),
     }
 }
 
-// A book with the first entries of the journal of a plate that is laid back.
-fn laid_back(rt: &impl Abort, alloc: Global, count: usize) -> Book {
-    let mut book = new_book(rt, alloc, 100, 10);
-    book_records(rt, &mut book, &LAID_BACK[..count.min(13)]);
+// The past states of a book give the answers of these cases.
+fn all_answer(rt: &impl Abort, alloc: Global, book: &Book, cases: &[&str]) {
+    for case in cases {
+        let count = number(rt, part(case, 0));
+        assert!(rt; count <= book.journal().len(), "{case}");
+        let state = book.state_at(count);
+        is_wanted(rt, answer(alloc, &state, part(case, 1)), case);
+    }
+}
+
+// A book of 300 entries that switch the feed light.
+fn switched(rt: &impl Abort, alloc: Global) -> Book {
+    let mut book = book_with(rt, alloc, [300, 1], &[]);
+    for _ in 0..150 {
+        book_records(rt, &mut book, &["lamp,feed,green,", "lamp,feed,red,"]);
+    }
+    assert!(rt; book.journal().len() == 300);
     book
 }
 
-// The state of a book after as many entries as another has tells which plate is expected.
-fn is_expected_there(rt: &impl Abort, whole: &Book, book: &Book) {
-    let (snapshot, _) = state_of(whole, book);
-    let i = book.journal().len();
-    let expected = if i == 11 || i == 12 {
-        PlateId::new(1)
-    } else {
-        None
-    };
-    assert_eq!(rt; snapshot.expected, expected, "after {i}");
-}
-
 #[test]
-fn each_past_state_tells_which_plate_is_expected(rt: HostRuntime) {
-    let whole = laid_back(&rt, rt.alloc(), 13);
-    for count in 0..14 {
-        let book = laid_back(&rt, rt.alloc(), count);
-        is_past_state(&rt, &whole, &book);
-        is_expected_there(&rt, &whole, &book);
-    }
-}
-
-// After 35 entries the plate is in the first press, which stands at the top.
-fn shows_the_press(rt: &impl Abort, book: &Book) {
-    assert!(rt; 35 <= book.journal().len());
-    let (snapshot, replayed) = book.state_at(35);
-    assert_eq!(rt; snapshot.plate_at(Station::Press1), PlateId::new(1));
-    let pose = snapshot.pose(Axis::PressOne);
-    assert_eq!(rt; (pose.at, pose.going), (Pose::Top, None));
-    assert_eq!(rt; snapshot.holder(Zone::Z3), Some(Machine::Press1));
-    assert_eq!(rt; [snapshot.totals.forged, replayed], [1, 35]);
-}
-
-// The opening is what an empty book tells.
-fn is_opening(rt: &impl Abort, book: &Book, empty: &Book) {
-    let (opening, none) = book.state_at(0);
-    check_told(rt, &opening, empty);
-    assert_eq!(rt; none, 0);
-}
-
-#[test]
-fn a_plate_in_the_press_is_seen(rt: HostRuntime) {
-    let book = one_plate(&rt, rt.alloc(), 62);
-    shows_the_press(&rt, &book);
-    is_opening(&rt, &book, &new_book(&rt, rt.alloc(), 1, 1));
-}
-
-// Books so many entries, each of which switches the feed light.
-fn switch(rt: &impl Abort, book: &mut Book, count: u32) {
-    for place in 0..count {
-        let record = if place % 2 == 0 {
-            "lamp,feed,green,"
-        } else {
-            "lamp,feed,red,"
-        };
-        book_records(rt, book, &[record]);
-    }
-}
-
-// After so many entries the feed light has this colour, and so many entries were replayed for that.
-fn is_replayed(rt: &impl Abort, book: &Book, i: u32, colour: Colour, count: u32) {
-    assert!(rt; i <= book.journal().len());
-    let (snapshot, replayed) = book.state_at(i);
-    assert_eq!(rt; snapshot.lamp(Belt::Feed), colour);
-    assert_eq!(rt; [snapshot.totals.entries, replayed], [i, count]);
-}
-
-#[test]
-fn states_are_replayed_from_the_last_checkpoint(rt: HostRuntime) {
-    let mut book = new_book(&rt, rt.alloc(), 300, 1);
-    switch(&rt, &mut book, 300);
-    assert!(rt; book.journal().len() == 300);
-    is_replayed(&rt, &book, 255, Colour::Green, 255);
-    is_replayed(&rt, &book, 256, Colour::Red, 0);
-    is_replayed(&rt, &book, 300, Colour::Red, 44);
+fn past_states_are_seen_and_replayed_from_the_last_checkpoint(rt: HostRuntime) {
+    let alloc = rt.alloc();
+    all_answer(
+        &rt,
+        alloc,
+        &book_with(&rt, alloc, [100, 10], &ONE_PLATE),
+        &IN_THE_PRESS,
+    );
+    all_answer(
+        &rt,
+        alloc,
+        &book_with(&rt, alloc, [100, 10], &LAID_BACK),
+        &EXPECTED,
+    );
+    all_answer(&rt, alloc, &switched(&rt, alloc), &SWITCHED);
 }
 
 // A journal keeps no law but its limit: what its entries leave is by their effects alone.
 #[test]
 fn a_journal_tells_the_effects_of_any_entries(rt: HostRuntime) {
-    let mut journal = Journal::with_limit(rt.alloc(), 3)
-        .ok()
-        .expect(&rt, "a journal");
+    let mut journal = Journal::with_limit(rt.alloc(), 3).expect(&rt, "a journal");
     for record in [
         "claimed,robot,z3,",
         "gripped,arm1,7,table",
@@ -243,18 +243,12 @@ fn a_journal_tells_the_effects_of_any_entries(rt: HostRuntime) {
         assert!(rt; !journal.is_full_for(&entry), "{record}");
         journal.append(entry);
     }
-    tells_effects(&rt, &journal);
-}
-
-// The robot gave up its zone by the last of three entries, and still carries its plate.
-fn tells_effects(rt: &impl Abort, journal: &Journal) {
     assert!(rt; journal.len() == 3);
-    assert_eq!(rt; journal.at(2), entry(rt, "repaired,robot,,"));
-    let (two, _) = journal.state_at(2);
-    assert_eq!(rt; two.holder(Zone::Z3), Some(Machine::Robot));
-    assert_eq!(rt; two.plate_at(Station::Arm1), PlateId::new(7));
-    let (all, replayed) = journal.state_at(3);
-    assert_eq!(rt; all.holder(Zone::Z3), None);
-    assert_eq!(rt; all.plate_at(Station::Arm1), PlateId::new(7));
-    assert_eq!(rt; replayed, 3);
+    assert!(rt; journal.at(2) == entry(&rt, "repaired,robot,,"));
+    for case in EFFECTS {
+        let count = number(&rt, part(case, 0));
+        assert!(rt; count <= journal.len(), "{case}");
+        let state = journal.state_at(count);
+        is_wanted(&rt, answer(rt.alloc(), &state, part(case, 1)), case);
+    }
 }

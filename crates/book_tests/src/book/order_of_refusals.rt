@@ -1,10 +1,7 @@
 //! The one order of refusals: for each two refusals that an entry can meet together, a case in which the first is
 //! answered while both conditions hold. docs/ORDER.md lists the pairs, in the order of these cases.
-use crate::book::{answer_to, book_records, told_by};
-use cell_samples::begun;
-use plate_book::{Book, Refusal};
-use std::alloc::Global;
-use std::process::Abort;
+use crate::book::all_answer;
+use cell_samples::ONE_PLATE;
 
 // A case: the limits of entries and plates, how many entries of the one plate's journal come first, the records that
 // follow, the record that is refused, and the refusal.
@@ -304,58 +301,6 @@ const DECLARED: [&str; 1] = [
     "1 10 1|declared,feed,silent, declared,table,silent, declared,robot,silent, declared,press1,silent, declared,press2,silent, declared,deposit,silent,|declared,feed,silent,|JournalFull",
 ];
 
-// The number at a place of a line of numbers.
-fn number(rt: &impl Abort, line: &str, place: usize) -> u32 {
-    let text = line.split(' ').nth(place).unwrap_or("");
-    text.parse::<u32>().ok().expect(rt, line)
-}
-
-// A book of the limits of a case, with as many of the journal's entries.
-fn book_of(rt: &impl Abort, alloc: Global, numbers: &str) -> Book {
-    let [limit, plates, count] = [0, 1, 2].map(|place| number(rt, numbers, place));
-    begun(alloc, limit, plates, count as usize).expect(rt, numbers)
-}
-
-// Books the records of a line.
-fn book_line(rt: &impl Abort, book: &mut Book, line: &str) {
-    for record in line.split(' ') {
-        if !record.is_empty() {
-            book_records(rt, book, &[record]);
-        }
-    }
-}
-
-// Compares a refusal to the wanted name and word.
-fn is_wanted(rt: &impl Abort, refusal: Refusal, wanted: &str, case: &str) {
-    let mut words = wanted.split(' ');
-    assert!(rt; refusal.name() == words.next().unwrap_or(""), "{case}");
-    assert!(rt; refusal.word() == words.next(), "{case}");
-}
-
-// A book answers a record so. The refusal leaves the book as it was.
-fn refuses(rt: &impl Abort, alloc: Global, book: &mut Book, parts: [&str; 2], case: &str) {
-    let [record, wanted] = parts;
-    let before = told_by(rt, alloc, book);
-    let refusal = answer_to(rt, book, record).err().expect(rt, case);
-    is_wanted(rt, refusal, wanted, case);
-    assert!(rt; told_by(rt, alloc, book).is_same(&before), "{case}");
-}
-
-// Books all but the last record of a case, and compares the answer to it.
-fn answers(rt: &impl Abort, alloc: Global, case: &str) {
-    let mut parts = case.split('|');
-    let mut book = book_of(rt, alloc, parts.next().unwrap_or(""));
-    book_line(rt, &mut book, parts.next().unwrap_or(""));
-    let last = [parts.next().unwrap_or(""), parts.next().unwrap_or("")];
-    refuses(rt, alloc, &mut book, last, case);
-}
-
-fn all_answer(rt: &impl Abort, alloc: Global, cases: &[&str]) {
-    for case in cases {
-        answers(rt, alloc, case);
-    }
-}
-
 #[test]
 fn each_kind_of_entry_meets_the_lower_refusal_first(rt: HostRuntime) {
     for cases in [
@@ -377,6 +322,6 @@ fn each_kind_of_entry_meets_the_lower_refusal_first(rt: HostRuntime) {
         YIELDED.as_slice(),
         DECLARED.as_slice(),
     ] {
-        all_answer(&rt, rt.alloc(), cases);
+        all_answer(&rt, rt.alloc(), &ONE_PLATE, cases);
     }
 }
