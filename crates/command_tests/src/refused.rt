@@ -4,21 +4,18 @@ use cell_command::{Order, Paths, Running};
 use clap::error::ErrorKind;
 use std::process::Abort;
 
-// Reads words, which has to give this order, or clap's want of memory.
-fn check_order(rt: &(impl AllocGlobal + Abort), words: &[&str], wanted: Order<'_>) {
+// Reads words, which has to give this order or clap's error of this kind, or clap's want of memory.
+fn check(
+    rt: &(impl AllocGlobal + Abort),
+    words: &[&str],
+    order: Option<Order<'_>>,
+    kind: Option<ErrorKind>,
+) {
     match cell_command::read_words(rt.alloc(), words) {
-        Ok(order) => assert_eq!(rt; order, wanted),
-        Err(error) => assert_eq!(rt; error.kind(), ErrorKind::OutOfMemory),
-    }
-}
-
-// Reads words that clap refuses with this kind, or for want of memory.
-fn check_refused(rt: &(impl AllocGlobal + Abort), words: &[&str], wanted: ErrorKind) {
-    match cell_command::read_words(rt.alloc(), words) {
-        Ok(_) => panic!(rt; "read as an order, wanted {wanted:?}"),
+        Ok(read) => assert!(rt; Some(read) == order),
         Err(error) => {
-            let kind = error.kind();
-            assert!(rt; kind == wanted || kind == ErrorKind::OutOfMemory);
+            let told = error.kind();
+            assert!(rt; Some(told) == kind || told == ErrorKind::OutOfMemory);
         }
     }
 }
@@ -36,15 +33,21 @@ fn read_words(rt: HostRuntime) {
         explain: false,
         paths,
     };
-    check_order(&rt, &words, Order::Sim(running));
+    check(&rt, &words, Some(Order::Sim(running)), None);
 }
 
 #[test]
 fn read_words_of_no_command(rt: HostRuntime) {
-    check_refused(&rt, &["cellctl", "brew"], ErrorKind::InvalidSubcommand);
+    let kind = Some(ErrorKind::InvalidSubcommand);
+    check(&rt, &["cellctl", "brew"], None, kind);
 }
 
 #[test]
 fn read_words_for_help(rt: HostRuntime) {
-    check_refused(&rt, &["cellctl", "--help"], ErrorKind::DisplayHelp);
+    check(
+        &rt,
+        &["cellctl", "--help"],
+        None,
+        Some(ErrorKind::DisplayHelp),
+    );
 }
