@@ -1,171 +1,150 @@
 //! What is said of journals: legal ones, refused ones and ones that can't be read.
-use crate::said::{Kind, check_said};
-use crate::same::check_same;
+use crate::said::{Kind, check_texts};
 use cell_audit::WriteFault;
 use cell_explain::explain_journal;
-use std::alloc::Global;
-use std::process::Abort;
-use std::test::Fail;
 
-// This is said of each of these texts, with this status.
-fn are_explained(
-    rt: &impl Abort,
-    alloc: Global,
-    status: u8,
-    cases: &[(&str, &str)],
-) -> Result<(), Fail> {
-    for (text, wanted) in cases {
-        check_said(rt, alloc, Kind::Journal, text, status, wanted)?;
-    }
-    Ok(())
-}
+// A legal journal has the lines of the audit.
+const LEGAL: [(&str, &str); 2] = [
+    (
+        "profile,1,,\nlamp,feed,green,\nadmitted,1,,\n",
+        "legal 2\nadmitted 1\nforged 0\nquarantined 0\ndelivered 0\n",
+    ),
+    (
+        "profile,2,,\n",
+        "legal 0\nadmitted 0\nforged 0\nquarantined 0\ndelivered 0\nreinstated 0\n",
+    ),
+];
+
+// A refused entry is told with the one that made it so.
+const REFUSED: [(&str, &str); 12] = [
+    (
+        "profile,1,,\nlamp,feed,green,\nadmitted,1,,\nadmitted,2,,\n",
+        "line 4, entry 3: admitted,2,,: LampRed feed: the feed light is red, since entry 2 admitted plate 1\n",
+    ),
+    (
+        "profile,1,,\nadmitted,1,,\n",
+        "line 2, entry 1: admitted,1,,: LampRed feed: the feed light is red, from the start on\n",
+    ),
+    (
+        "profile,1,,\nlamp,feed,green,\nadmitted,2,,\n",
+        "line 3, entry 2: admitted,2,,: WrongPlate: the plate isn't the one that the entry has to name, from the start on\n",
+    ),
+    (
+        "profile,1,,\ndeclared,press2,silent,\nstarted,press_two,top,\n",
+        "line 3, entry 2: started,press_two,top,: MachineFailed press2: press 2 is booked failed, since entry 1 declared press 2 failed\n",
+    ),
+    (
+        "profile,1,,\ndeclared,feed,silent,\nrepaired,feed,,\nrepaired,feed,,\n",
+        "line 4, entry 3: repaired,feed,,: MachineHealthy feed: the feed belt isn't booked failed, since entry 2 repaired the feed belt\n",
+    ),
+    (
+        "profile,1,,\nclaimed,robot,z2,\nclaimed,table,z2,\n",
+        "line 3, entry 2: claimed,table,z2,: ZoneTaken z2: zone z2 is held, since entry 1 claimed zone z2 for the robot\n",
+    ),
+    (
+        "profile,1,,\nclaimed,robot,z3,\nyielded,robot,z3,\nyielded,robot,z3,\n",
+        "line 4, entry 3: yielded,robot,z3,: NotHolder z3: the machine doesn't hold zone z3, since entry 2 gave up zone z3\n",
+    ),
+    (
+        "profile,1,,\nclaimed,feed,z5,\n",
+        "line 2, entry 1: claimed,feed,z5,: NotNeighbour: the machine has no part in the zone, or the arm doesn't serve the station\n",
+    ),
+    (
+        "profile,1,,\nclaimed,table,z1,\nclaimed,table,z2,\nstarted,table_lift,high,\nstarted,table_lift,low,\n",
+        "line 5, entry 4: started,table_lift,low,: WrongPose table_lift: the table's lift isn't where it has to be, moves, or has no such motion, since entry 3 sent the table's lift high\n",
+    ),
+    (
+        "profile,1,,\nlamp,feed,green,\nadmitted,1,,\nlamp,feed,green,\n",
+        "line 4, entry 3: lamp,feed,green,: StationFull feed_in: a plate is at the feed belt's start, since entry 2 admitted plate 1\n",
+    ),
+    (
+        "profile,1,,\nstop_asked,robot,,\nstop_asked,robot,,\n",
+        "line 3, entry 2: stop_asked,robot,,: AlreadyAsked robot: a stop of the robot is asked already, since entry 1 asked the robot to stop\n",
+    ),
+    (
+        "profile,1,,\nforged,table,1,\n",
+        "line 2, entry 1: forged,table,1,: NoPress: the machine isn't a press\n",
+    ),
+];
+
+// A plate that isn't expected is told by its last entry.
+const NOT_EXPECTED: [(&str, &str); 3] = [
+    (
+        "profile,2,,\nlamp,feed,green,\nadmitted,1,,\nexpected,1,,\n",
+        "line 4, entry 3: expected,1,,: WrongPlate: the plate isn't the one that the entry has to name, since entry 2 admitted plate 1\n",
+    ),
+    (
+        "profile,2,,\nlamp,feed,green,\nadmitted,1,,\ndeclared,feed,silent,\nquarantined,1,feed_in,\nexpected,1,,\nexpected,1,,\n",
+        "line 7, entry 6: expected,1,,: PlateExpected: a plate is expected back, since entry 5 expected plate 1 back\n",
+    ),
+    (
+        "profile,2,,\nreinstated,1,,\n",
+        "line 2, entry 1: reinstated,1,,: WrongPlate: the plate isn't the one that the entry has to name, from the start on\n",
+    ),
+];
+
+// A record that can't be read is told by its field.
+const UNREADABLE: [(&str, &str); 13] = [
+    (
+        "",
+        "line 1: the first record is profile,1,, or profile,2,,\n",
+    ),
+    (
+        "\n\nprofile,3,,\n",
+        "line 3: the first record is profile,1,, or profile,2,,\n",
+    ),
+    (
+        "profile,1,,\nconveyed,feed_belt,1,tabel\n",
+        "line 2, entry 1: conveyed,feed_belt,1,tabel: field 4: one of feed_in, feed_end, table, arm1, arm2, press1, press2, dep_in, dep_end\n",
+    ),
+    (
+        "profile,1,,\nlamp,fed,green,\n",
+        "line 2, entry 1: lamp,fed,green,: field 2: one of feed, deposit\n",
+    ),
+    (
+        "profile,1,,\nadmitted,0,,\n",
+        "line 2, entry 1: admitted,0,,: field 2: a number from 1 to 100000\n",
+    ),
+    (
+        "profile,1,,\nclaimed,feed,z6,\n",
+        "line 2, entry 1: claimed,feed,z6,: field 3: one of z1, z2, z3, z4, z5\n",
+    ),
+    (
+        "profile,1,,\nadmitted,1,,x\n",
+        "line 2, entry 1: admitted,1,,x: field 4: nothing\n",
+    ),
+    (
+        "profile,1,,\nexpected,1,,\n",
+        "line 2, entry 1: expected,1,,: field 1: one of lamp, admitted, claimed, yielded, started, arrived, conveyed, forged, gripped, dropped, delivered, declared, stop_asked, quarantined, repaired\n",
+    ),
+    (
+        "profile,1,,\n\nlamp,feed,green,\r\n\r\n1,2,3,4,5,6\n",
+        "line 5, entry 2: six fields, and not four\n",
+    ),
+    (
+        "profile,1,,\nlamp",
+        "line 2, entry 1: one field, and not four\n",
+    ),
+    (
+        "\u{feff}profile,2,,\n\"lamp\",feed,\"gre\nen\",\n",
+        "line 2, entry 1: \"lamp\",feed,\"gre.en\",: field 3: one of red, green\n",
+    ),
+    (
+        "profile,2,,\nlamp,feed,\"green,\nadmitted,1,,\n",
+        "line 2, entry 1: lamp,feed,\"green,.admitted,1,,.: a quote isn't closed\n",
+    ),
+    (
+        "profile,2,,\nlamp,\u{1b}[31mfeed0123456789012345678901234567890123456789012345678901234567890123456789,green,\n",
+        "line 2, entry 1: lamp,.[31mfeed012345678901234567890123456789012345678901234567890123456789012345...: field 2: one of feed, deposit\n",
+    ),
+];
 
 #[test]
-fn a_legal_journal_has_the_lines_of_the_audit(rt: HostRuntime) -> Result<(), Fail> {
-    let cases = [
-        (
-            "profile,1,,\nlamp,feed,green,\nadmitted,1,,\n",
-            "legal 2\nadmitted 1\nforged 0\nquarantined 0\ndelivered 0\n",
-        ),
-        (
-            "profile,2,,\n",
-            "legal 0\nadmitted 0\nforged 0\nquarantined 0\ndelivered 0\nreinstated 0\n",
-        ),
-    ];
-    are_explained(&rt, rt.alloc(), 0, &cases)
-}
-
-#[test]
-fn a_refused_entry_is_told_with_the_one_that_made_it_so(rt: HostRuntime) -> Result<(), Fail> {
-    let cases = [
-        (
-            "profile,1,,\nlamp,feed,green,\nadmitted,1,,\nadmitted,2,,\n",
-            "line 4, entry 3: admitted,2,,: LampRed feed: the feed light is red, since entry 2 admitted plate 1\n",
-        ),
-        (
-            "profile,1,,\nadmitted,1,,\n",
-            "line 2, entry 1: admitted,1,,: LampRed feed: the feed light is red, from the start on\n",
-        ),
-        (
-            "profile,1,,\nlamp,feed,green,\nadmitted,2,,\n",
-            "line 3, entry 2: admitted,2,,: WrongPlate: the plate isn't the one that the entry has to name, from the start on\n",
-        ),
-        (
-            "profile,1,,\ndeclared,press2,silent,\nstarted,press_two,top,\n",
-            "line 3, entry 2: started,press_two,top,: MachineFailed press2: press 2 is booked failed, since entry 1 declared press 2 failed\n",
-        ),
-        (
-            "profile,1,,\ndeclared,feed,silent,\nrepaired,feed,,\nrepaired,feed,,\n",
-            "line 4, entry 3: repaired,feed,,: MachineHealthy feed: the feed belt isn't booked failed, since entry 2 repaired the feed belt\n",
-        ),
-        (
-            "profile,1,,\nclaimed,robot,z2,\nclaimed,table,z2,\n",
-            "line 3, entry 2: claimed,table,z2,: ZoneTaken z2: zone z2 is held, since entry 1 claimed zone z2 for the robot\n",
-        ),
-        (
-            "profile,1,,\nclaimed,robot,z3,\nyielded,robot,z3,\nyielded,robot,z3,\n",
-            "line 4, entry 3: yielded,robot,z3,: NotHolder z3: the machine doesn't hold zone z3, since entry 2 gave up zone z3\n",
-        ),
-        (
-            "profile,1,,\nclaimed,feed,z5,\n",
-            "line 2, entry 1: claimed,feed,z5,: NotNeighbour: the machine has no part in the zone, or the arm doesn't serve the station\n",
-        ),
-        (
-            "profile,1,,\nclaimed,table,z1,\nclaimed,table,z2,\nstarted,table_lift,high,\nstarted,table_lift,low,\n",
-            "line 5, entry 4: started,table_lift,low,: WrongPose table_lift: the table's lift isn't where it has to be, moves, or has no such motion, since entry 3 sent the table's lift high\n",
-        ),
-        (
-            "profile,1,,\nlamp,feed,green,\nadmitted,1,,\nlamp,feed,green,\n",
-            "line 4, entry 3: lamp,feed,green,: StationFull feed_in: a plate is at the feed belt's start, since entry 2 admitted plate 1\n",
-        ),
-        (
-            "profile,1,,\nstop_asked,robot,,\nstop_asked,robot,,\n",
-            "line 3, entry 2: stop_asked,robot,,: AlreadyAsked robot: a stop of the robot is asked already, since entry 1 asked the robot to stop\n",
-        ),
-        (
-            "profile,1,,\nforged,table,1,\n",
-            "line 2, entry 1: forged,table,1,: NoPress: the machine isn't a press\n",
-        ),
-    ];
-    are_explained(&rt, rt.alloc(), 1, &cases)
-}
-
-#[test]
-fn a_plate_that_is_not_expected_is_told_by_its_last_entry(rt: HostRuntime) -> Result<(), Fail> {
-    let cases = [
-        (
-            "profile,2,,\nlamp,feed,green,\nadmitted,1,,\nexpected,1,,\n",
-            "line 4, entry 3: expected,1,,: WrongPlate: the plate isn't the one that the entry has to name, since entry 2 admitted plate 1\n",
-        ),
-        (
-            "profile,2,,\nlamp,feed,green,\nadmitted,1,,\ndeclared,feed,silent,\nquarantined,1,feed_in,\nexpected,1,,\nexpected,1,,\n",
-            "line 7, entry 6: expected,1,,: PlateExpected: a plate is expected back, since entry 5 expected plate 1 back\n",
-        ),
-        (
-            "profile,2,,\nreinstated,1,,\n",
-            "line 2, entry 1: reinstated,1,,: WrongPlate: the plate isn't the one that the entry has to name, from the start on\n",
-        ),
-    ];
-    are_explained(&rt, rt.alloc(), 1, &cases)
-}
-
-#[test]
-fn a_record_that_cannot_be_read_is_told_by_its_field(rt: HostRuntime) -> Result<(), Fail> {
-    let cases = [
-        (
-            "",
-            "line 1: the first record is profile,1,, or profile,2,,\n",
-        ),
-        (
-            "\n\nprofile,3,,\n",
-            "line 3: the first record is profile,1,, or profile,2,,\n",
-        ),
-        (
-            "profile,1,,\nconveyed,feed_belt,1,tabel\n",
-            "line 2, entry 1: conveyed,feed_belt,1,tabel: field 4: one of feed_in, feed_end, table, arm1, arm2, press1, press2, dep_in, dep_end\n",
-        ),
-        (
-            "profile,1,,\nlamp,fed,green,\n",
-            "line 2, entry 1: lamp,fed,green,: field 2: one of feed, deposit\n",
-        ),
-        (
-            "profile,1,,\nadmitted,0,,\n",
-            "line 2, entry 1: admitted,0,,: field 2: a number from 1 to 100000\n",
-        ),
-        (
-            "profile,1,,\nclaimed,feed,z6,\n",
-            "line 2, entry 1: claimed,feed,z6,: field 3: one of z1, z2, z3, z4, z5\n",
-        ),
-        (
-            "profile,1,,\nadmitted,1,,x\n",
-            "line 2, entry 1: admitted,1,,x: field 4: nothing\n",
-        ),
-        (
-            "profile,1,,\nexpected,1,,\n",
-            "line 2, entry 1: expected,1,,: field 1: one of lamp, admitted, claimed, yielded, started, arrived, conveyed, forged, gripped, dropped, delivered, declared, stop_asked, quarantined, repaired\n",
-        ),
-        (
-            "profile,1,,\n\nlamp,feed,green,\r\n\r\n1,2,3,4,5,6\n",
-            "line 5, entry 2: six fields, and not four\n",
-        ),
-        (
-            "profile,1,,\nlamp",
-            "line 2, entry 1: one field, and not four\n",
-        ),
-        (
-            "\u{feff}profile,2,,\n\"lamp\",feed,\"gre\nen\",\n",
-            "line 2, entry 1: \"lamp\",feed,\"gre.en\",: field 3: one of red, green\n",
-        ),
-        (
-            "profile,2,,\nlamp,feed,\"green,\nadmitted,1,,\n",
-            "line 2, entry 1: lamp,feed,\"green,.admitted,1,,.: a quote isn't closed\n",
-        ),
-        (
-            "profile,2,,\nlamp,\u{1b}[31mfeed0123456789012345678901234567890123456789012345678901234567890123456789,green,\n",
-            "line 2, entry 1: lamp,.[31mfeed012345678901234567890123456789012345678901234567890123456789012345...: field 2: one of feed, deposit\n",
-        ),
-    ];
-    are_explained(&rt, rt.alloc(), 1, &cases)
+fn a_journal_is_explained(rt: HostRuntime) {
+    check_texts(&rt, Kind::Journal, 0, &LEGAL);
+    check_texts(&rt, Kind::Journal, 1, &REFUSED);
+    check_texts(&rt, Kind::Journal, 1, &NOT_EXPECTED);
+    check_texts(&rt, Kind::Journal, 1, &UNREADABLE);
 }
 
 #[test]
@@ -175,6 +154,6 @@ fn a_writer_that_fails_is_told_of(rt: HostRuntime) {
         let mut room = [0; 60];
         let mut writer = &mut room[..len];
         let answer = explain_journal(rt.alloc(), text, &mut writer);
-        check_same(&rt, &len, &answer, &Err(WriteFault));
+        assert!(rt; answer == Err(WriteFault), "{len} bytes: {answer:?}");
     }
 }

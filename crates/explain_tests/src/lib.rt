@@ -10,8 +10,6 @@ mod readings;
 #[cfg(test)]
 mod said;
 #[cfg(test)]
-mod same;
-#[cfg(test)]
 mod scripts;
 #[cfg(test)]
 mod sentences;

@@ -1,77 +1,70 @@
 //! What is read of journals' texts: the answer, and the entries before the place that it names.
-use crate::same::check_same;
-use cell_audit::{AuditError, Reading, read_journal};
+use cell_audit::{AuditError, read_journal};
 use cell_samples::{FailingReader, entry_of};
 use cell_types::{Belt, Totals};
 use plate_book::Refusal;
-use std::alloc::{AllocError, Global};
+use std::io::Read;
 use std::process::Abort;
 
-// A text is read with this answer, and with so many entries. The last is that of this record.
-fn is_read(
-    rt: &impl Abort,
-    alloc: Global,
-    text: &str,
-    answer: Result<(u8, Totals), AuditError>,
-    count: u32,
-    last: &str,
-) -> Result<(), AllocError> {
-    let Reading {
-        book,
-        answer: found,
-    } = read_journal(alloc, text.as_bytes())?;
-    let entry = book.journal().get(count.saturating_sub(1));
-    check_same(rt, &text, &found, &answer);
-    check_same(rt, &text, &book.journal().len(), &count);
-    check_same(rt, &text, &entry, &entry_of(last));
-    Ok(())
+// A reading: its answer, how many entries its book has, and the record of the last.
+type Wanted = (Result<(u8, Totals), AuditError>, u32, &'static str);
+
+const NONE: Totals = Totals {
+    entries: 0,
+    admitted: 0,
+    forged: 0,
+    quarantined: 0,
+    delivered: 0,
+    reinstated: 0,
+};
+
+const ONE_ADMITTED: Totals = Totals {
+    entries: 2,
+    admitted: 1,
+    forged: 0,
+    quarantined: 0,
+    delivered: 0,
+    reinstated: 0,
+};
+
+// Legal journals, which are read whole, and others, which are read up to their last good entry.
+const CASES: [(&str, Wanted); 5] = [
+    (
+        "profile,1,,\nlamp,feed,green,\nadmitted,1,,\n",
+        (Ok((1, ONE_ADMITTED)), 2, "admitted,1,,"),
+    ),
+    ("profile,2,,\n", (Ok((2, NONE)), 0, "")),
+    (
+        "profile,1,,\nlamp,feed,green,\nlamp,feed,green,\nadmitted,1,,\n",
+        (
+            Err(AuditError::Refused(2, Refusal::LampAlready(Belt::Feed))),
+            1,
+            "lamp,feed,green,",
+        ),
+    ),
+    (
+        "profile,1,,\nlamp,feed,green,\nadmitted,1,,\nlamp,fe",
+        (Err(AuditError::Unreadable(3)), 2, "admitted,1,,"),
+    ),
+    ("", (Err(AuditError::Unreadable(0)), 0, "")),
+];
+
+fn is_read<R: Read + Drop, W: AllocGlobal + Abort>(rt: &W, text: R, what: &str, wanted: Wanted) {
+    let (answer, count, last) = wanted;
+    let read = read_journal(rt.alloc(), text).expect(rt, "memory");
+    let journal = read.book.journal();
+    let is_last = journal.get(count.saturating_sub(1)) == entry_of(last);
+    let holds = read.answer == answer && journal.len() == count && is_last;
+    assert!(rt; holds, "of {what}: {:?}", read.answer);
 }
 
-// The totals of a journal of so many entries, in which so many plates are admitted and none is forged.
-fn totals(entries: u32, admitted: u32) -> Totals {
-    Totals {
-        entries,
-        admitted,
-        forged: 0,
-        quarantined: 0,
-        delivered: 0,
-        reinstated: 0,
+#[test]
+fn a_journal_is_read_up_to_its_last_good_entry(rt: HostRuntime) {
+    for (text, wanted) in CASES {
+        is_read(&rt, text.as_bytes(), text, wanted);
     }
-}
-
-#[test]
-fn a_legal_journal_is_read_whole(rt: HostRuntime) -> Result<(), AllocError> {
-    let alloc = rt.alloc();
-    let text = "profile,1,,\nlamp,feed,green,\nadmitted,1,,\n";
-    is_read(&rt, alloc, text, Ok((1, totals(2, 1))), 2, "admitted,1,,")?;
-    is_read(&rt, alloc, "profile,2,,\n", Ok((2, totals(0, 0))), 0, "")
-}
-
-#[test]
-fn a_refused_journal_is_read_up_to_its_last_good_entry(rt: HostRuntime) -> Result<(), AllocError> {
-    let alloc = rt.alloc();
-    let text = "profile,1,,\nlamp,feed,green,\nlamp,feed,green,\nadmitted,1,,\n";
-    let why = AuditError::Refused(2, Refusal::LampAlready(Belt::Feed));
-    is_read(&rt, alloc, text, Err(why), 1, "lamp,feed,green,")
-}
-
-#[test]
-fn an_unreadable_journal_is_read_up_to_its_last_good_entry(
-    rt: HostRuntime,
-) -> Result<(), AllocError> {
-    let alloc = rt.alloc();
-    let text = "profile,1,,\nlamp,feed,green,\nadmitted,1,,\nlamp,fe";
-    let why = AuditError::Unreadable(3);
-    is_read(&rt, alloc, text, Err(why), 2, "admitted,1,,")?;
-    is_read(&rt, alloc, "", Err(AuditError::Unreadable(0)), 0, "")
-}
-
-#[test]
-fn a_journal_is_read_up_to_where_its_reader_fails(rt: HostRuntime) -> Result<(), AllocError> {
     let text = b"profile,1,,\nlamp,feed,green,\n".as_slice();
     let reader = FailingReader::new(text, text.len());
-    let Reading { book, answer } = read_journal(rt.alloc(), reader)?;
-    check_same(&rt, &"the answer", &answer, &Err(AuditError::ReadFault));
-    check_same(&rt, &"entries", &book.journal().len(), &1);
-    Ok(())
+    let wanted = (Err(AuditError::ReadFault), 1, "lamp,feed,green,");
+    is_read(&rt, reader, "a reader that fails", wanted);
 }

@@ -1,9 +1,6 @@
 //! What is said of a text.
-use crate::same::check_same;
 use cell_explain::{explain_faults, explain_journal, explain_operator, explain_settings};
-use std::alloc::Global;
 use std::process::Abort;
-use std::test::Fail;
 
 /// What a text is.
 #[derive(Clone, Copy)]
@@ -14,25 +11,34 @@ pub(crate) enum Kind {
     Operator,
 }
 
-/// Checks that this is said of a text, with this status.
-pub(crate) fn check_said(
-    rt: &impl Abort,
-    alloc: Global,
-    kind: Kind,
-    text: &str,
-    status: u8,
-    wanted: &str,
-) -> Result<(), Fail> {
-    let mut written = Vec::new(alloc);
-    let bytes = text.as_bytes();
-    let answer = match kind {
-        Kind::Journal => explain_journal(alloc, bytes, &mut written),
-        Kind::Settings => explain_settings(alloc, bytes, &mut written),
-        Kind::Faults => explain_faults(alloc, bytes, &mut written),
-        Kind::Operator => explain_operator(alloc, bytes, &mut written),
+/// Checks what is said of something. What is wanted is the whole, or ends with `…`, and what follows isn't looked at.
+pub(crate) fn check_said<W: AllocGlobal + Abort>(rt: &W, what: &str, said: &[u8], wanted: &str) {
+    let is_said = match wanted.strip_suffix('…') {
+        Some(start) => said.starts_with(start.as_bytes()),
+        None => said == wanted.as_bytes(),
     };
-    let said = String::from_utf8_lossy(alloc, written.as_slice())?;
-    check_same(rt, &"what is said", &said.as_str(), &wanted);
-    check_same(rt, &wanted, &answer, &Ok(status));
-    Ok(())
+    let said = String::from_utf8_lossy(rt.alloc(), said).expect(rt, "memory");
+    assert!(rt; is_said, "of {what}: {said}, and not: {wanted}");
+}
+
+/// Checks of each of these texts what is said of it, and this status.
+pub(crate) fn check_texts<W: AllocGlobal + Abort>(
+    rt: &W,
+    kind: Kind,
+    status: u8,
+    cases: &[(&str, &str)],
+) {
+    let alloc = rt.alloc();
+    for (text, wanted) in cases {
+        let mut written = Vec::new(alloc);
+        let bytes = text.as_bytes();
+        let answer = match kind {
+            Kind::Journal => explain_journal(alloc, bytes, &mut written),
+            Kind::Settings => explain_settings(alloc, bytes, &mut written),
+            Kind::Faults => explain_faults(alloc, bytes, &mut written),
+            Kind::Operator => explain_operator(alloc, bytes, &mut written),
+        };
+        check_said(rt, text, written.as_slice(), wanted);
+        assert!(rt; answer == Ok(status), "the status of {text}");
+    }
 }

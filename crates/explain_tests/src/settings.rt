@@ -1,78 +1,61 @@
 //! What is said of settings.
-use crate::said::{Kind, check_said};
-use crate::same::check_same;
-use cell_explain::explain_settings;
-use std::alloc::Global;
-use std::process::Abort;
-use std::test::Fail;
+use crate::said::{Kind, check_texts};
+
+const GOOD: [(&str, &str); 1] = [("plates = 5\n", "settings ok\n")];
+
+const BAD: [(&str, &str); 5] = [
+    (
+        "plates = 5\n\n[watch.press_one]\nlimit = 2000\n",
+        "settings OutOfRange watch.press_one.limit\nline 4: watch.press_one.limit: a whole number above leave, to 1000\n",
+    ),
+    (
+        "turns = 5\n",
+        "settings Missing plates\nplates: a whole number from 1 to 100000\n",
+    ),
+    (
+        "plates = 5\nwatch.press_on.leave = 3\n",
+        "settings UnknownKey watch.press_on\nline 2: watch.press_on: no such axis, but feed_belt, table_lift, table_turn, robot_turn, arm_one, arm_two, press_one, press_two and deposit_belt\n",
+    ),
+    (
+        "# few\nplats = 5\n",
+        "settings UnknownKey plats\nline 2: plats: no such key, but plates, journal_limit, turns and watch\n",
+    ),
+    (
+        "plates = \"5\"\n",
+        "settings NotNumber plates\nline 1: plates: a whole number from 1 to 100000\n",
+    ),
+];
+
+// A key that isn't known is shown in one line.
+const SHOWN: [(&str, &str); 4] = [
+    (
+        "plates = 5\n\"x\\ny\" = 1\n",
+        "settings UnknownKey x\\u000Ay\nx\\u000Ay: no such key, but plates, journal_limit, turns and watch\n",
+    ),
+    (
+        "plates = 5\n\"\\t\\u0007\\u007F\" = 1\n",
+        "settings UnknownKey \\u0009\\u0007\\u007F\n\\u0009\\u0007\\u007F: no such key, but plates, journal_limit, turns and watch\n",
+    ),
+    (
+        "plates = 5\n\"caf\u{e9}\" = 1\n",
+        "settings UnknownKey caf\u{e9}\ncaf\u{e9}: no such key, but plates, journal_limit, turns and watch\n",
+    ),
+    (
+        "plates = 5\n'a\\nb' = 1\n",
+        "settings UnknownKey a\\nb\na\\nb: no such key, but plates, journal_limit, turns and watch\n",
+    ),
+];
+
+// A text that is no TOML is told by its place, and then by what toml says.
+const NO_TOML: [(&str, &str); 1] = [(
+    "plates = 5\nturns = = 3\n",
+    "settings NotToml\nline 2, column 9: …",
+)];
 
 #[test]
-fn settings_are_explained(rt: HostRuntime) -> Result<(), Fail> {
-    for (text, status, wanted) in [
-        ("plates = 5\n", 0, "settings ok\n"),
-        (
-            "plates = 5\n\n[watch.press_one]\nlimit = 2000\n",
-            1,
-            "settings OutOfRange watch.press_one.limit\nline 4: watch.press_one.limit: a whole number above leave, to 1000\n",
-        ),
-        (
-            "turns = 5\n",
-            1,
-            "settings Missing plates\nplates: a whole number from 1 to 100000\n",
-        ),
-        (
-            "plates = 5\nwatch.press_on.leave = 3\n",
-            1,
-            "settings UnknownKey watch.press_on\nline 2: watch.press_on: no such axis, but feed_belt, table_lift, table_turn, robot_turn, arm_one, arm_two, press_one, press_two and deposit_belt\n",
-        ),
-        (
-            "# few\nplats = 5\n",
-            1,
-            "settings UnknownKey plats\nline 2: plats: no such key, but plates, journal_limit, turns and watch\n",
-        ),
-        (
-            "plates = \"5\"\n",
-            1,
-            "settings NotNumber plates\nline 1: plates: a whole number from 1 to 100000\n",
-        ),
-    ] {
-        check_said(&rt, rt.alloc(), Kind::Settings, text, status, wanted)?;
-    }
-    Ok(())
-}
-
-// A key that isn't known is shown so.
-fn check_shown(rt: &impl Abort, alloc: Global, key: &str, shown: &str) -> Result<(), Fail> {
-    let text = format!(in alloc; "plates = 5\n{key} = 1\n")?;
-    let wanted = format!(in alloc;
-        "settings UnknownKey {shown}\n{shown}: no such key, but plates, journal_limit, turns and watch\n"
-    )?;
-    check_said(rt, alloc, Kind::Settings, text.as_str(), 1, wanted.as_str())
-}
-
-#[test]
-fn a_path_is_printed_in_one_line(rt: HostRuntime) -> Result<(), Fail> {
-    for (key, shown) in [
-        ("\"x\\ny\"", "x\\u000Ay"),
-        ("\"\\t\\u0007\\u007F\"", "\\u0009\\u0007\\u007F"),
-        ("\"caf\u{e9}\"", "caf\u{e9}"),
-        ("'a\\nb'", "a\\nb"),
-    ] {
-        check_shown(&rt, rt.alloc(), key, shown)?;
-    }
-    Ok(())
-}
-
-#[test]
-fn a_text_that_is_no_toml_is_told_by_its_place(rt: HostRuntime) -> Result<(), Fail> {
-    let mut written = Vec::new(rt.alloc());
-    let answer = explain_settings(rt.alloc(), b"plates = 5\nturns = = 3\n", &mut written);
-    let said = String::from_utf8_lossy(rt.alloc(), written.as_slice())?;
-    assert!(rt;
-        said.as_str()
-            .starts_with("settings NotToml\nline 2, column 9: "),
-        "{said}"
-    );
-    check_same(&rt, &"the answer", &answer, &Ok(1));
-    Ok(())
+fn settings_are_explained(rt: HostRuntime) {
+    check_texts(&rt, Kind::Settings, 0, &GOOD);
+    check_texts(&rt, Kind::Settings, 1, &BAD);
+    check_texts(&rt, Kind::Settings, 1, &SHOWN);
+    check_texts(&rt, Kind::Settings, 1, &NO_TOML);
 }
