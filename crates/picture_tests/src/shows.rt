@@ -65,110 +65,120 @@ feed belt: plate 1 is admitted
   z5    deposit, robot  -            +---------------------+
 ";
 
-// What is shown for a journal's text in this form, with this answer.
-fn shown(
-    rt: &impl Abort,
-    alloc: Global,
-    text: &str,
-    (form, entry): (Form, Option<u32>),
-    wanted: Result<u8, ShowError>,
-) -> String {
+// A case: a journal's text, the form, the entry after which it is shown, the answer, and with which words that which is
+// shown begins and ends. In the form of text it is these words alone.
+type Case = (
+    &'static str,
+    Form,
+    Option<u32>,
+    Result<u8, ShowError>,
+    &'static str,
+    &'static str,
+);
+
+// A legal journal is shown after each entry, and in each form.
+const LEGAL_CASES: [Case; 8] = [
+    (LEGAL, Form::Text, None, Ok(0), ADMITTED, ""),
+    (LEGAL, Form::Text, Some(2), Ok(0), ADMITTED, ""),
+    (LEGAL, Form::Text, Some(1), Ok(0), LIT, ""),
+    (LEGAL, Form::Text, Some(0), Ok(0), OPENING, ""),
+    (LEGAL, Form::Picture, None, Ok(0), "<svg xmlns=", "</svg>\n"),
+    (
+        LEGAL,
+        Form::Page,
+        None,
+        Ok(0),
+        "<!DOCTYPE html>\n",
+        "</html>\n",
+    ),
+    (LEGAL, Form::Unicode, None, Ok(0), "After 2 entries", "┘\n"),
+    (
+        LEGAL,
+        Form::Text,
+        Some(3),
+        Err(ShowError::NoSuchEntry(2)),
+        "",
+        "",
+    ),
+];
+
+// The last good entry is shown with the answer below, and nothing past it.
+const OTHER_CASES: [Case; 5] = [
+    (
+        REFUSED,
+        Form::Text,
+        None,
+        Ok(1),
+        LIT,
+        "refused 2 LampAlready feed\n",
+    ),
+    (UNREADABLE, Form::Text, None, Ok(1), LIT, "unreadable 2\n"),
+    ("", Form::Text, None, Ok(1), OPENING, "unreadable 0\n"),
+    (
+        REFUSED,
+        Form::Text,
+        Some(3),
+        Err(ShowError::NoSuchEntry(1)),
+        "",
+        "",
+    ),
+    (
+        "",
+        Form::Text,
+        Some(3),
+        Err(ShowError::NoSuchEntry(0)),
+        "",
+        "",
+    ),
+];
+
+// A journal is shown as a case says.
+fn is_shown(rt: &impl Abort, alloc: Global, case: Case) {
+    let (text, form, entry, answer, first, last) = case;
     let mut written = Vec::new(alloc);
-    let answer = show_journal(alloc, text.as_bytes(), form, entry, &mut written);
-    assert_eq!(rt; answer, wanted);
-    String::from_utf8_lossy(alloc, written.as_slice()).expect(rt, "memory")
-}
-
-// A journal's text is shown as this picture with this line below, with this status.
-fn is_shown(
-    rt: &impl Abort,
-    alloc: Global,
-    text: &str,
-    entry: Option<u32>,
-    status: u8,
-    picture: &str,
-    line: &str,
-) {
-    let shown = shown(rt, alloc, text, (Form::Text, entry), Ok(status));
-    assert_eq!(rt; shown.as_str().strip_suffix(line), Some(picture));
-}
-
-// A legal journal is shown in this form with these first and last words.
-fn is_framed(rt: &impl Abort, alloc: Global, form: Form, first: &str, last: &str) {
-    let shown = shown(rt, alloc, LEGAL, (form, None), Ok(0));
-    assert!(rt; shown.as_str().starts_with(first), "{first}");
-    assert!(rt; shown.as_str().ends_with(last), "{last}");
+    let answered = show_journal(alloc, text.as_bytes(), form, entry, &mut written);
+    assert!(rt; answered == answer, "{form:?} {entry:?} of {text}");
+    let shown = String::from_utf8_lossy(alloc, written.as_slice()).expect(rt, "memory");
+    let shown = shown.as_str();
+    assert!(rt; shown.starts_with(first), "{form:?} {entry:?} of {text}");
+    assert!(rt; shown.ends_with(last), "{form:?} {entry:?} of {text}");
+    let length = first.len().saturating_add(last.len());
+    assert!(rt;
+        form != Form::Text || shown.len() == length,
+        "{form:?} {entry:?} of {text}"
+    );
 }
 
 #[test]
-fn shows_a_legal_journal_after_each_entry(rt: HostRuntime) {
-    let alloc = rt.alloc();
-    is_shown(&rt, alloc, LEGAL, None, 0, ADMITTED, "");
-    is_shown(&rt, alloc, LEGAL, Some(2), 0, ADMITTED, "");
-    is_shown(&rt, alloc, LEGAL, Some(1), 0, LIT, "");
-    is_shown(&rt, alloc, LEGAL, Some(0), 0, OPENING, "");
-}
-
-#[test]
-fn shows_the_last_good_entry_with_the_answer_below(rt: HostRuntime) {
-    let alloc = rt.alloc();
-    let line = "refused 2 LampAlready feed\n";
-    is_shown(&rt, alloc, REFUSED, None, 1, LIT, line);
-    is_shown(&rt, alloc, UNREADABLE, None, 1, LIT, "unreadable 2\n");
-    is_shown(&rt, alloc, "", None, 1, OPENING, "unreadable 0\n");
-}
-
-#[test]
-fn shows_the_forms_of_a_journal(rt: HostRuntime) {
-    let alloc = rt.alloc();
-    is_framed(&rt, alloc, Form::Picture, "<svg xmlns=", "</svg>\n");
-    is_framed(&rt, alloc, Form::Page, "<!DOCTYPE html>\n", "</html>\n");
-    is_framed(&rt, alloc, Form::Unicode, "After 2 entries", "┘\n");
-}
-
-// Nothing is shown of a text of so many entries after its third one.
-fn has_no_third_entry(rt: &impl Abort, alloc: Global, text: &str, entries: u32) {
-    let wanted = Err(ShowError::NoSuchEntry(entries));
-    let shown = shown(rt, alloc, text, (Form::Text, Some(3)), wanted);
-    assert!(rt; shown.is_empty(), "of {entries} entries");
-}
-
-#[test]
-fn shows_nothing_past_the_last_entry(rt: HostRuntime) {
-    for (text, entries) in [(LEGAL, 2), (REFUSED, 1), ("", 0)] {
-        has_no_third_entry(&rt, rt.alloc(), text, entries);
+fn shows_journals_in_each_form(rt: HostRuntime) {
+    for case in LEGAL_CASES {
+        is_shown(&rt, rt.alloc(), case);
     }
-}
-
-// Nothing is shown where the reader fails after so many bytes.
-fn shows_nothing_after(rt: &impl Abort, alloc: Global, left: usize) {
-    let reader = FailingReader::new(LEGAL.as_bytes(), left);
-    let mut written = Vec::new(alloc);
-    let answer = show_journal(alloc, reader, Form::Text, None, &mut written);
-    assert_eq!(rt; answer, Ok(3), "after {left} bytes");
-    assert!(rt; written.is_empty(), "after {left} bytes");
+    for case in OTHER_CASES {
+        is_shown(&rt, rt.alloc(), case);
+    }
 }
 
 #[test]
 fn shows_nothing_where_the_reader_fails(rt: HostRuntime) {
     for left in [0, 1, 20, LEGAL.len()] {
-        shows_nothing_after(&rt, rt.alloc(), left);
+        let reader = FailingReader::new(LEGAL.as_bytes(), left);
+        let mut written = Vec::new(rt.alloc());
+        let answer = show_journal(rt.alloc(), reader, Form::Text, None, &mut written);
+        assert!(rt; answer == Ok(3), "after {left} bytes");
+        assert!(rt; written.is_empty(), "after {left} bytes");
     }
 }
 
 // The writer fails after so many bytes, and these are written.
-fn fails_after(rt: &impl Abort, alloc: Global, form: Form, left: usize) {
-    let mut writer = FailingWriter::new(Vec::new(alloc), left);
-    let answer = show_journal(alloc, LEGAL.as_bytes(), form, None, &mut writer);
-    assert_eq!(rt; answer, Err(ShowError::WriteFault), "after {left} bytes");
-    assert_eq!(rt; writer.inner().len(), left);
-}
-
 #[test]
 fn tells_that_the_writer_failed(rt: HostRuntime) {
     for form in [Form::Text, Form::Unicode, Form::Picture, Form::Page] {
         for left in [0, 1, 500] {
-            fails_after(&rt, rt.alloc(), form, left);
+            let mut writer = FailingWriter::new(Vec::new(rt.alloc()), left);
+            let answer = show_journal(rt.alloc(), LEGAL.as_bytes(), form, None, &mut writer);
+            assert!(rt; answer == Err(ShowError::WriteFault), "after {left} bytes");
+            assert!(rt; writer.inner().len() == left, "after {left} bytes");
         }
     }
 }

@@ -1,10 +1,13 @@
-//! The states that are drawn.
+//! The states that are drawn, and writers that fail while they are.
 use cell_audit::AuditError;
-use cell_picture::{Facts, Scene, ShownPlate, facts_after};
-use cell_samples::book_all;
+use cell_journal::Snapshot;
+use cell_picture::{Facts, Scene, ShownPlate, draw_picture, draw_text, facts_after, facts_of};
+use cell_samples::{FailingWriter, book_all};
+use cell_show::Form;
 use cell_types::{AxisState, Cause, Colour, Entry, Machine, PlateId, Pose, Totals};
 use plate_book::{Book, Refusal};
 use std::alloc::Global;
+use std::io::Write;
 use std::process::Abort;
 
 /// Plate 1 is forged in the first press, and plate 2 lies on the table.
@@ -79,11 +82,41 @@ pub const FAILED_PRESS: [&str; 14] = [
     "declared,press1,silent,",
 ];
 
-/// What is drawn after all of these records, and the last of their entries.
-pub fn drawn_after(rt: &impl Abort, alloc: Global, records: &[&str]) -> (Facts, Option<Entry>) {
+// Draws a scene as text, or as an SVG file. Whether that was done.
+fn draws<W: Write>(writer: &mut W, scene: &Scene, form: Form) -> bool {
+    match form {
+        Form::Text => draw_text(writer, scene, false).is_ok(),
+        Form::Unicode => draw_text(writer, scene, true).is_ok(),
+        Form::Picture | Form::Page => draw_picture(writer, scene).is_ok(),
+    }
+}
+
+/// A scene as it is drawn.
+pub fn drawn(rt: &impl Abort, alloc: Global, scene: &Scene, form: Form) -> String {
+    let mut bytes = Vec::new(alloc);
+    assert!(rt; draws(&mut bytes, scene, form), "{form:?}");
+    String::from_utf8_lossy(alloc, bytes.as_slice()).expect(rt, "memory")
+}
+
+/// The state after all of these records, with the last of their entries and this answer, as it is drawn.
+pub fn drawn_after(
+    rt: &impl Abort,
+    alloc: Global,
+    records: &[&str],
+    answer: Option<AuditError>,
+    form: Form,
+) -> String {
     let mut book = Book::new(alloc, 100, 100).ok().expect(rt, "a book");
     book_all(&mut book, records).expect(rt, "a record that is allowed");
-    facts_after(&book, book.journal().len())
+    let entries = book.journal().len();
+    let (facts, last) = facts_after(&book, entries);
+    let scene = Scene {
+        facts: &facts,
+        entries,
+        last,
+        answer,
+    };
+    drawn(rt, alloc, &scene, form)
 }
 
 /// What is drawn with the longest words and the largest numbers.
@@ -137,4 +170,26 @@ pub fn longest(facts: &Facts) -> Scene<'_> {
         }),
         answer: Some(AuditError::Refused(1_000_006, Refusal::MachineFailed(Machine::Deposit))),
     }
+}
+
+// A writer that fails after so many bytes has taken a first part of a scene's file.
+fn is_cut(rt: &impl Abort, alloc: Global, scene: &Scene, form: Form) {
+    let file = drawn(rt, alloc, scene, form);
+    let whole = file.as_bytes();
+    let length = whole.len();
+    for left in [0, 1, 500, 1000, length.saturating_sub(1), length] {
+        let mut writer = FailingWriter::new(Vec::new(alloc), left);
+        let is_whole = draws(&mut writer, scene, form);
+        assert!(rt; is_whole == (left == length), "after {left} bytes");
+        let part = &whole[..left.min(length)];
+        assert!(rt; writer.inner().as_slice() == part, "after {left} bytes");
+    }
+}
+
+#[test]
+fn a_writer_that_fails_is_told(rt: HostRuntime) {
+    let opening = facts_of(&Snapshot::opening());
+    is_cut(&rt, rt.alloc(), &longest(&opening), Form::Text);
+    let facts = largest();
+    is_cut(&rt, rt.alloc(), &longest(&facts), Form::Picture);
 }

@@ -1,12 +1,10 @@
 //! The pictures as text.
-use crate::states::{FAILED_PRESS, TWO_PLATES, drawn_after, largest, longest};
+use crate::states::{FAILED_PRESS, TWO_PLATES, drawn, drawn_after, largest, longest};
 use cell_audit::AuditError;
 use cell_journal::Snapshot;
-use cell_picture::{Scene, draw_text, facts_of};
-use cell_samples::FailingWriter;
+use cell_picture::{Scene, facts_of};
+use cell_show::Form;
 use plate_book::Refusal;
-use std::alloc::Global;
-use std::process::Abort;
 
 // The opening.
 pub(crate) const OPENING: &str = "\
@@ -118,21 +116,8 @@ moves
 refused 1000006 MachineFailed deposit
 ";
 
-// A scene as text.
-fn text_of(rt: &impl Abort, alloc: Global, scene: &Scene, unicode: bool) -> String {
-    let mut text = Vec::new(alloc);
-    draw_text(&mut text, scene, unicode).expect(rt, "a text");
-    String::from_utf8_lossy(alloc, text.as_slice()).expect(rt, "memory")
-}
-
-// A scene is drawn as this text.
-fn is_drawn(rt: &impl Abort, alloc: Global, scene: &Scene, wanted: &str) {
-    let text = text_of(rt, alloc, scene, false);
-    assert_eq!(rt; text.as_str(), wanted);
-}
-
 #[test]
-fn draws_the_opening(rt: HostRuntime) {
+fn draws_the_opening_and_what_records_lead_to(rt: HostRuntime) {
     let facts = facts_of(&Snapshot::opening());
     let scene = Scene {
         facts: &facts,
@@ -140,70 +125,28 @@ fn draws_the_opening(rt: HostRuntime) {
         last: None,
         answer: None,
     };
-    is_drawn(&rt, rt.alloc(), &scene, OPENING);
-}
-
-#[test]
-fn draws_two_plates(rt: HostRuntime) {
-    let (facts, last) = drawn_after(&rt, rt.alloc(), &TWO_PLATES);
-    let scene = Scene {
-        facts: &facts,
-        entries: 50,
-        last,
-        answer: None,
-    };
-    is_drawn(&rt, rt.alloc(), &scene, WITH_TWO_PLATES);
-}
-
-#[test]
-fn draws_a_failed_press_and_an_answer(rt: HostRuntime) {
-    let (facts, last) = drawn_after(&rt, rt.alloc(), &FAILED_PRESS);
-    let scene = Scene {
-        facts: &facts,
-        entries: 14,
-        last,
-        answer: Some(AuditError::Refused(15, Refusal::PlateExpected)),
-    };
-    is_drawn(&rt, rt.alloc(), &scene, WITH_A_FAILED_PRESS);
-}
-
-// A text has 24 lines of 78 letters at most.
-fn fits_a_window(rt: &impl Abort, text: &str) {
-    let mut lines = 0u32;
-    for line in text.lines() {
-        assert!(rt; line.chars().count() <= 78, "{line}");
-        lines = lines.saturating_add(1);
+    let opening = drawn(&rt, rt.alloc(), &scene, Form::Text);
+    assert_eq!(rt; opening.as_str(), OPENING);
+    let refused = AuditError::Refused(15, Refusal::PlateExpected);
+    for (records, answer, wanted) in [
+        (TWO_PLATES.as_slice(), None, WITH_TWO_PLATES),
+        (FAILED_PRESS.as_slice(), Some(refused), WITH_A_FAILED_PRESS),
+    ] {
+        let text = drawn_after(&rt, rt.alloc(), records, answer, Form::Text);
+        assert_eq!(rt; text.as_str(), wanted);
     }
-    assert_eq!(rt; lines, 24);
 }
 
+// It fits a window of 24 lines of 78 letters.
 #[test]
 fn draws_the_longest_words(rt: HostRuntime) {
     let facts = largest();
-    let text = text_of(&rt, rt.alloc(), &longest(&facts), true);
+    let text = drawn(&rt, rt.alloc(), &longest(&facts), Form::Unicode);
     assert_eq!(rt; text.as_str(), WITH_THE_LONGEST_WORDS);
-    fits_a_window(&rt, text.as_str());
-}
-
-// A writer that fails after so many bytes has taken a first part of a scene's text.
-fn part_is_drawn(rt: &impl Abort, alloc: Global, scene: &Scene, whole: &[u8], left: usize) {
-    let mut writer = FailingWriter::new(Vec::new(alloc), left);
-    let drawn = draw_text(&mut writer, scene, false);
-    assert!(rt;
-        drawn.is_err() == (left < whole.len()),
-        "after {left} bytes"
-    );
-    let part = &whole[..left.min(whole.len())];
-    assert_eq!(rt; writer.inner().as_slice(), part);
-}
-
-#[test]
-fn tells_that_the_writer_failed(rt: HostRuntime) {
-    let facts = facts_of(&Snapshot::opening());
-    let scene = longest(&facts);
-    let whole = text_of(&rt, rt.alloc(), &scene, false);
-    let length = whole.len();
-    for left in [0, 1, 500, length.saturating_sub(1), length] {
-        part_is_drawn(&rt, rt.alloc(), &scene, whole.as_bytes(), left);
+    let mut lines = 0u32;
+    for line in text.as_str().lines() {
+        assert!(rt; line.chars().count() <= 78, "{line}");
+        lines = lines.saturating_add(1);
     }
+    assert!(rt; lines == 24, "{lines} lines");
 }
