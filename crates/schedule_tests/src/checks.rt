@@ -1,116 +1,82 @@
-//! What has to hold after each schedule.
+//! What has to hold after each schedule. An error says what doesn't.
 use cell_audit::{audit, write_journal};
 use cell_journal::Journal;
 use cell_samples::is_list_of;
 use cell_turns::{Ran, Six};
-use cell_types::{Actor, Entry, Machine};
+use cell_types::{Actor, Machine};
 use plate_book::Book;
 use port_samples::{TellingHands, TellingPort, did, was_sent};
-use std::process::Abort;
+use std::alloc::Global;
 
-/// Checks that a book's journal, written as a text, is legal with the book's totals, and that it keeps the book's limits.
-pub(crate) fn check_journal<R: AllocGlobal + Abort>(
-    rt: &R,
+/// Whether a book's journal, written as a text, is legal with the book's totals, and keeps the book's limits.
+pub(crate) fn is_lawful(
+    alloc: Global,
     book: &Book,
     entries: u32,
     plates: u32,
-) {
-    let alloc = rt.alloc();
-    let mut text = Vec::new(alloc);
-    assert_eq!(rt; write_journal(alloc, book.journal(), &mut text), Ok(()));
+) -> Result<(), &'static str> {
     let totals = book.totals();
-    assert_eq!(rt; audit(alloc, text.as_slice()), Ok((2, totals)));
-    assert_eq!(rt; book.journal().len(), totals.entries);
-    assert!(rt; totals.entries <= entries.saturating_add(6));
-    assert!(rt; totals.admitted <= plates);
-}
-
-/// Checks that two journals have the same entries.
-pub(crate) fn check_same(rt: &impl Abort, some: &Journal, other: &Journal) {
-    assert_eq!(rt; some.len(), other.len());
-    for place in 0..some.len() {
-        assert_eq!(rt; some.get(place), other.get(place), "at place {place}");
+    let mut text = Vec::new(alloc);
+    let is_written = write_journal(alloc, book.journal(), &mut text) == Ok(());
+    let is_legal = is_written && audit(alloc, text.as_slice()) == Ok((2, totals));
+    let is_counted = book.journal().len() == totals.entries;
+    let is_short = totals.entries <= entries.saturating_add(6) && totals.admitted <= plates;
+    if is_legal && is_counted && is_short {
+        Ok(())
+    } else {
+        Err("the journal isn't legal, or isn't within its limits")
     }
 }
 
-fn check_list(rt: &impl Abort, journal: &Journal, actor: Actor, list: &[Entry]) {
-    assert!(rt; is_list_of(journal, actor, list), "the list of {actor:?}");
+/// Whether two journals have the same entries.
+pub(crate) fn are_same(some: &Journal, other: &Journal) -> Result<(), &'static str> {
+    if some.len() != other.len() {
+        return Err("the journals are of different lengths");
+    }
+    for place in 0..some.len() {
+        if some.get(place) != other.get(place) {
+            return Err("the journals have different entries");
+        }
+    }
+    Ok(())
 }
 
-/// Checks that the seven lists of a schedule are a journal's entries by their actors.
-pub(crate) fn check_lists(rt: &impl Abort, journal: &Journal, ran: &Ran) {
-    let Ran {
-        machines,
-        operator,
-        ..
-    } = ran;
-    let machine = Actor::Machine;
-    check_list(
-        rt,
-        journal,
-        machine(Machine::Feed),
-        machines.feed.as_slice(),
-    );
-    check_list(
-        rt,
-        journal,
-        machine(Machine::Table),
-        machines.table.as_slice(),
-    );
-    check_list(
-        rt,
-        journal,
-        machine(Machine::Robot),
-        machines.robot.as_slice(),
-    );
-    check_list(
-        rt,
-        journal,
-        machine(Machine::Press1),
-        machines.press1.as_slice(),
-    );
-    check_list(
-        rt,
-        journal,
-        machine(Machine::Press2),
-        machines.press2.as_slice(),
-    );
-    check_list(
-        rt,
-        journal,
-        machine(Machine::Deposit),
-        machines.deposit.as_slice(),
-    );
-    check_list(rt, journal, Actor::Operator, operator.as_slice());
+/// Whether the seven lists of a schedule are a journal's entries by their actors.
+pub(crate) fn are_lists(journal: &Journal, ran: &Ran) -> Result<(), &'static str> {
+    let lists = &ran.machines;
+    for (actor, list) in [
+        (Actor::Machine(Machine::Feed), &lists.feed),
+        (Actor::Machine(Machine::Table), &lists.table),
+        (Actor::Machine(Machine::Robot), &lists.robot),
+        (Actor::Machine(Machine::Press1), &lists.press1),
+        (Actor::Machine(Machine::Press2), &lists.press2),
+        (Actor::Machine(Machine::Deposit), &lists.deposit),
+        (Actor::Operator, &ran.operator),
+    ] {
+        if !is_list_of(journal, actor, list.as_slice()) {
+            return Err("a list isn't its actor's entries");
+        }
+    }
+    Ok(())
 }
 
-fn check_port<P>(rt: &impl Abort, machine: Machine, list: &[Entry], port: &TellingPort<P>) {
-    assert_eq!(rt;
-        was_sent(list, None, port),
-        Ok(()),
-        "the port of {machine:?}"
-    );
-}
-
-/// Checks that each port was sent the commands of its machine's list but for what failed, and that the hands did the acts of
-/// the operator's.
-pub(crate) fn check_devices<P, O>(
-    rt: &impl Abort,
+/// Whether each port was sent the commands of its machine's list but for what failed, and the hands did the acts of the
+/// operator's.
+pub(crate) fn were_told<P, O>(
     ran: &Ran,
     ports: &Six<TellingPort<P>>,
     hands: &TellingHands<O>,
-) {
+) -> Result<(), &'static str> {
     let lists = &ran.machines;
-    check_port(rt, Machine::Feed, lists.feed.as_slice(), &ports.feed);
-    check_port(rt, Machine::Table, lists.table.as_slice(), &ports.table);
-    check_port(rt, Machine::Robot, lists.robot.as_slice(), &ports.robot);
-    check_port(rt, Machine::Press1, lists.press1.as_slice(), &ports.press1);
-    check_port(rt, Machine::Press2, lists.press2.as_slice(), &ports.press2);
-    check_port(
-        rt,
-        Machine::Deposit,
-        lists.deposit.as_slice(),
-        &ports.deposit,
-    );
-    assert_eq!(rt; did(ran.operator.as_slice(), hands), Ok(()));
+    for (list, port) in [
+        (&lists.feed, &ports.feed),
+        (&lists.table, &ports.table),
+        (&lists.robot, &ports.robot),
+        (&lists.press1, &ports.press1),
+        (&lists.press2, &ports.press2),
+        (&lists.deposit, &ports.deposit),
+    ] {
+        was_sent(list.as_slice(), None, port)?;
+    }
+    did(ran.operator.as_slice(), hands)
 }

@@ -4,11 +4,11 @@ use crate::settings::Habits;
 use cell_diagnosis::Reading;
 use cell_samples::{ONE_PLATE, entry_of};
 use cell_turns::{Port, Six, Step};
-use cell_types::{Cause, Entry, MACHINES, Machine, PlateId, STATIONS, Station, machine_of_station};
+use cell_types::{Cause, Entry, MACHINES, Machine, PlateId, STATIONS, machine_of_station};
 use plate_book::Book;
 
 /// What the steps of a schedule are drawn from.
-#[derive(Clone, Copy, Debug)]
+#[derive(Clone, Copy)]
 pub(crate) struct Drawing {
     pub(crate) random: Random,
     pub(crate) habits: Habits,
@@ -19,8 +19,8 @@ pub(crate) struct Drawing {
 }
 
 impl Drawing {
-    /// The next step. A turn is of the machine whose turn it is in order, or of any, at what its port shows, or at something
-    /// else. Disturbed turns come some at a time.
+    /// The next step. A turn is of the machine whose turn it is in order, or of any, at what its port shows, or at
+    /// something else.
     pub(crate) fn next_step<P: Port>(&mut self, book: &Book, ports: &mut Six<P>) -> Step {
         let place = self.steps % 6;
         self.steps = self.steps.saturating_add(1);
@@ -35,57 +35,64 @@ impl Drawing {
         };
         let machine = MACHINES[place];
         let shown = ports.pick(machine).read();
-        if self.is_disturbed() {
-            Step::Turn(machine, disturbed(&mut self.random, self.way, shown))
-        } else {
-            Step::Turn(machine, shown)
-        }
+        Step::Turn(machine, self.disturb(shown))
     }
 
-    fn is_disturbed(&mut self) -> bool {
+    // What is read where a port shows this. Disturbed turns come some at a time, in one of six ways: none, that reading
+    // with another bit, one that shows one switch of each axis, one of any bits, or one of these ways at random.
+    fn disturb(&mut self, shown: Option<Reading>) -> Option<Reading> {
         if self.disturbed > 0 {
             self.disturbed -= 1;
-            return true;
-        }
-        let begins = self.random.chance(self.habits.noise);
-        if begins {
+        } else if self.random.chance(self.habits.noise) {
             self.disturbed = self.random.below(16);
             self.way = self.random.below(6);
+        } else {
+            return shown;
         }
-        begins
-    }
-}
-
-// A reading in place of another one, in one of six ways: none, that one with another bit, one that shows one switch of each axis,
-// one of any bits, or one of these ways at random.
-fn disturbed(random: &mut Random, way: usize, shown: Option<Reading>) -> Option<Reading> {
-    let way = if way == 5 { random.below(5) } else { way };
-    match (way, shown) {
-        (0, _) | (1 | 2, None) => None,
-        (1, Some(reading)) => Some(Reading {
-            presence: reading.presence ^ (1 << random.below(3)),
-            ..reading
-        }),
-        (2, Some(reading)) => {
-            let mut switches = reading.switches;
-            switches[random.below(3)] ^= 1 << random.below(6);
-            Some(Reading {
-                switches,
+        let random = &mut self.random;
+        let way = if self.way == 5 {
+            random.below(5)
+        } else {
+            self.way
+        };
+        match (way, shown) {
+            (0, _) | (1 | 2, None) => None,
+            (1, Some(reading)) => Some(Reading {
+                presence: reading.presence ^ (1 << random.below(3)),
                 ..reading
-            })
+            }),
+            (2, Some(reading)) => {
+                let mut switches = reading.switches;
+                switches[random.below(3)] ^= 1 << random.below(6);
+                Some(Reading {
+                    switches,
+                    ..reading
+                })
+            }
+            (3, _) => {
+                let presence = match shown {
+                    Some(reading) => reading.presence,
+                    None => 0,
+                };
+                Some(Reading {
+                    switches: [1 << random.below(6); 3],
+                    presence,
+                })
+            }
+            _ => Some(Reading {
+                switches: [
+                    random.below(256) as u8,
+                    random.below(256) as u8,
+                    random.below(256) as u8,
+                ],
+                presence: random.below(256) as u8,
+            }),
         }
-        (3, _) => Some(Reading {
-            switches: [1 << random.below(6); 3],
-            presence: shown.map_or(0, |reading| reading.presence),
-        }),
-        _ => Some(Reading {
-            switches: [random.byte(), random.byte(), random.byte()],
-            presence: random.byte(),
-        }),
     }
 }
 
-// An entry by hand: one that mends a failed machine, or any of the operator's, or one that isn't his.
+// An entry by hand: one that mends a failed machine, or any of the operator's, or one that isn't his. A plate is
+// cleared from any station: the one that is there, or else any.
 fn draw_hand(random: &mut Random, mending_rate: u32, book: &Book) -> Entry {
     let machine = MACHINES[random.below(6)];
     if random.chance(mending_rate) {
@@ -94,7 +101,12 @@ fn draw_hand(random: &mut Random, mending_rate: u32, book: &Book) -> Entry {
     match random.below(9) {
         0 => Entry::StopAsked { machine },
         1 | 2 => Entry::Repaired { machine },
-        3 | 4 => draw_clearing(random, book),
+        3 | 4 => {
+            let src = STATIONS[random.below(9)];
+            let any = PlateId::new(random.below(10) as u32 + 1);
+            let plate = book.plate_at(src).or(any).unwrap_or_default();
+            Entry::Quarantined { plate, src }
+        }
         5 => Entry::Declared {
             machine,
             cause: Cause::Silent,
@@ -104,18 +116,15 @@ fn draw_hand(random: &mut Random, mending_rate: u32, book: &Book) -> Entry {
     }
 }
 
-// What would mend a failed machine, of the first one from any on: a plate that is in it is cleared, and then it is repaired.
-// Where none has failed, a plate that was cleared is expected; and where none was cleared either, a stop may be asked of that
-// machine.
+// What would mend a failed machine, of the first one from any on: a plate that is in it is cleared, and then it is
+// repaired. Where none has failed, a plate that was cleared is expected; and where none was cleared either, a stop may
+// be asked of that machine.
 fn mending(random: &mut Random, book: &Book) -> Option<Entry> {
     let first = random.below(6);
     for step in 0..6 {
         let machine = MACHINES[(first + step) % 6];
         if book.failed(machine) {
-            return Some(match plate_in(book, machine) {
-                Some((src, plate)) => Entry::Quarantined { plate, src },
-                None => Entry::Repaired { machine },
-            });
+            return Some(clearing_of(book, machine).unwrap_or(Entry::Repaired { machine }));
         }
     }
     if !book.quarantine().is_empty() {
@@ -130,6 +139,18 @@ fn mending(random: &mut Random, book: &Book) -> Option<Entry> {
     }
 }
 
+// The plate is cleared that is in the first station of a machine that has one.
+fn clearing_of(book: &Book, machine: Machine) -> Option<Entry> {
+    for src in STATIONS {
+        if machine_of_station(src) == machine {
+            if let Some(plate) = book.plate_at(src) {
+                return Some(Entry::Quarantined { plate, src });
+            }
+        }
+    }
+    None
+}
+
 // Any plate is expected, or one of those in quarantine.
 fn draw_expected(random: &mut Random, book: &Book) -> Entry {
     let mut plate = PlateId::new(random.below(10) as u32 + 1).unwrap_or_default();
@@ -142,27 +163,4 @@ fn draw_expected(random: &mut Random, book: &Book) -> Entry {
         }
     }
     Entry::Expected { plate }
-}
-
-// The first station of a machine that has a plate, and the plate.
-fn plate_in(book: &Book, machine: Machine) -> Option<(Station, PlateId)> {
-    for station in STATIONS {
-        if machine_of_station(station) == machine {
-            if let Some(plate) = book.plate_at(station) {
-                return Some((station, plate));
-            }
-        }
-    }
-    None
-}
-
-// Any plate is cleared from any station, or the one that is there.
-fn draw_clearing(random: &mut Random, book: &Book) -> Entry {
-    let src = STATIONS[random.below(9)];
-    let number = random.below(10) as u32 + 1;
-    let plate = book.plate_at(src).or(PlateId::new(number));
-    Entry::Quarantined {
-        plate: plate.unwrap_or_default(),
-        src,
-    }
 }

@@ -5,17 +5,16 @@ ghost use Rattle.cell_turns.specs.Six.{at};
 ghost use Rattle.cell_turns.specs.Minds.{machine_of_watch};
 ghost use Rattle.cell_ledger.specs.New.{AreBlank};
 
-use crate::checks::check_journal;
-use crate::stage::Stage;
+use crate::checks::is_lawful;
+use crate::stage::{Devices, Stage};
 use cell_diagnosis::Limits;
 use cell_ledger::{Blanks, Run};
-use cell_sim::{FaultScript, SimOperator, SimPort, World};
+use cell_sim::{FaultScript, SimOperator, World};
 use cell_turns::{OperatorPort, Plan, Port, Step};
 use cell_types::{MACHINES, Machine};
 use cell_workers::{End, end_at_rest, is_idle};
 use plate_book::Book;
-use port_samples::{Failing, TellingHands, sim_ports, telling_ports};
-use std::alloc::Global;
+use port_samples::{Failing, sim_ports};
 use std::marker::Brand;
 use std::process::Abort;
 use std::sync::{Mutex, Wait};
@@ -29,39 +28,17 @@ const ROUNDS: usize = 5_000;
 /// For how many rounds a machine is left out: with five turns each they are 1,000 steps.
 const LEFT_OUT: usize = 200;
 
-fn plan_of_ten(rt: &impl Abort) -> Plan {
-    let limits = Limits::new(3, 20).expect(rt, "the limits are in range");
-    Plan {
-        plates: 10,
-        journal_limit: ROOM,
-        turns: 1_000,
-        limits: [limits; 9],
-    }
-}
+/// Devices that never fail. They keep as much as the journal takes.
+const DEVICES: Devices = Devices {
+    failing: [Failing::Never; 6],
+    removing: Failing::Never,
+    homing: Failing::Never,
+    room: ROOM as usize,
+};
 
-// A turn of each machine but one that is left out, in their order, at what its port shows.
-fn take_round<R: Run, P: Port + Drop, O: OperatorPort + Drop>(
-    rt: &impl Abort,
-    alloc: Global,
-    stage: &mut Stage<R, P, O>,
-    plan: &Plan,
-    left_out: Option<Machine>,
-)
-    requires { (m : MachineValue) → machine_of_watch (at stage.old.watches m) ≡ m }
-    ensures { (m : MachineValue) → machine_of_watch (at stage.new.watches m) ≡ m }
-{
-    for machine in MACHINES {
-        if left_out != Some(machine) {
-            let reading = stage.ports.pick(machine).read();
-            let ran = stage.take(rt, alloc, &[Step::Turn(machine, reading)], plan);
-            assert_eq!(rt; ran.refused, 0);
-        }
-    }
-}
-
-fn take_rounds<R: Run, P: Port + Drop, O: OperatorPort + Drop>(
-    rt: &impl Abort,
-    alloc: Global,
+// So many rounds of turns of all machines but one that is left out, in their order, at what their ports show.
+fn take_rounds<R: Run, P: Port + Drop, O: OperatorPort + Drop, W: AllocGlobal + Abort>(
+    rt: &W,
     stage: &mut Stage<R, P, O>,
     plan: &Plan,
     left_out: Option<Machine>,
@@ -70,8 +47,13 @@ fn take_rounds<R: Run, P: Port + Drop, O: OperatorPort + Drop>(
     requires { (m : MachineValue) → machine_of_watch (at stage.old.watches m) ≡ m }
     ensures { (m : MachineValue) → machine_of_watch (at stage.new.watches m) ≡ m }
 {
-    for _ in 0..rounds {
-        take_round(rt, alloc, stage, plan, left_out);
+    for turn in 0..rounds.saturating_mul(6) {
+        let machine = MACHINES[turn % 6];
+        if left_out != Some(machine) {
+            let reading = stage.ports.pick(machine).read();
+            let ran = stage.take(rt, &[Step::Turn(machine, reading)], plan);
+            assert!(rt; ran.refused == 0, "a turn of {machine:?} is refused");
+        }
     }
 }
 
@@ -90,9 +72,8 @@ fn are_idle<R: Run, P: Port + Drop, O: OperatorPort + Drop>(
 }
 
 // Rounds in which all machines take part, until they are idle; and how the run ends then.
-fn finish<R: Run, P: Port + Drop, O: OperatorPort + Drop>(
-    rt: &impl Abort,
-    alloc: Global,
+fn finish<R: Run, P: Port + Drop, O: OperatorPort + Drop, W: AllocGlobal + Abort>(
+    rt: &W,
     stage: &mut Stage<R, P, O>,
     plan: &Plan,
 ) -> Option<End>
@@ -100,7 +81,7 @@ fn finish<R: Run, P: Port + Drop, O: OperatorPort + Drop>(
 {
     for _ in 0..ROUNDS {
         let before = stage.kept.book().journal().len();
-        take_round(rt, alloc, stage, plan, None);
+        take_rounds(rt, stage, plan, None, 1);
         let is_still = stage.kept.book().journal().len() == before;
         if is_still && are_idle(stage, plan) {
             return Some(end_at_rest(stage.kept.book(), plan));
@@ -109,64 +90,46 @@ fn finish<R: Run, P: Port + Drop, O: OperatorPort + Drop>(
     None
 }
 
-// A book of ten plates over a simulated cell, before its first turn.
-fn ten_plates<'a, R: Run, W: AllocGlobal + Abort + Wait>(
-    rt: &'a W,
-    world: &'a Mutex<World>,
-    faults: &'a FaultScript,
-    book: Book,
-    blanks: Blanks,
-) -> Stage<R, SimPort<'a, W>, SimOperator<'a, W>>
-    requires parts { 0 < R.parts }
-    requires limits { book.limits ≡ R.limits }
-    requires ledgers { AreBlank R.Run blanks }
-    ensures machines { (m : MachineValue) → machine_of_watch (at result.watches m) ≡ m }
-{
-    let alloc = rt.alloc();
-    let never = [Failing::Never; 6];
-    let ports = telling_ports(alloc, sim_ports(rt, world, faults), never, ROOM as usize);
-    let operator = SimOperator::new(rt, world);
-    let hands = TellingHands::new(alloc, operator, Failing::Never, Failing::Never, 0);
-    Stage::new(
-        book,
-        blanks,
-        ports.expect(rt, "memory"),
-        hands.expect(rt, "memory"),
-    )
-}
-
 // The journal is legal, and no machines met.
-fn check_cell<R: Run, P, O, W: AllocGlobal + Abort + Wait>(
-    rt: &W,
-    stage: &Stage<R, P, O>,
-    world: &Mutex<World>,
-) {
-    check_journal(rt, stage.kept.book(), ROOM, 10);
-    assert_eq!(rt; world.lock(rt).collisions(), 0);
+fn check_cell<W: AllocGlobal + Abort + Wait>(rt: &W, book: &Book, world: &Mutex<World>) {
+    let answer = is_lawful(rt.alloc(), book, ROOM, 10);
+    let collisions = world.lock(rt).collisions();
+    assert!(rt;
+        answer.is_ok() && collisions == 0,
+        "{answer:?}, {collisions} collisions"
+    );
 }
 
-// Rounds without each of these machines in turn: 1,000 steps each.
-fn leave_out<R: Run, P: Port + Drop, O: OperatorPort + Drop, W: AllocGlobal + Abort + Wait>(
+// A run of ten plates: so many rounds with all machines, then 1,000 steps without each of these in turn, and then
+// rounds with all until the end. The run finishes, its journal is legal in each part that was looked at, and no
+// machines meet.
+fn go_on<R: Run, P: Port + Drop, O: OperatorPort + Drop, W: AllocGlobal + Abort + Wait>(
     rt: &W,
     stage: &mut Stage<R, P, O>,
     plan: &Plan,
     world: &Mutex<World>,
+    rounds: usize,
     left_out: &[Machine],
 )
     requires { (m : MachineValue) → machine_of_watch (at stage.old.watches m) ≡ m }
-    ensures { (m : MachineValue) → machine_of_watch (at stage.new.watches m) ≡ m }
 {
+    take_rounds(rt, stage, plan, None, rounds);
     for machine in left_out {
-        take_rounds(rt, rt.alloc(), stage, plan, Some(*machine), LEFT_OUT);
-        check_cell(rt, stage, world);
+        take_rounds(rt, stage, plan, Some(*machine), LEFT_OUT);
+        check_cell(rt, stage.kept.book(), world);
     }
+    let end = finish(rt, stage, plan);
+    let delivered = stage.kept.book().totals().delivered;
+    assert!(rt;
+        end == Some(End::Finished) && delivered == 10,
+        "without {left_out:?} after {rounds} rounds: {end:?}, {delivered} delivered"
+    );
+    check_cell(rt, stage.kept.book(), world);
 }
 
-// A run of ten plates: so many rounds with all machines, then 1,000 steps without each of these in turn, and then rounds with
-// all until the end. The run finishes, its journal is legal in each part that was looked at, and no machines meet.
+// That run over a simulated cell, of an empty book.
 fn play_over<R: Run, W: AllocGlobal + Abort + Wait>(
     rt: &W,
-    plan: &Plan,
     rounds: usize,
     left_out: &[Machine],
     book: Book,
@@ -176,38 +139,33 @@ fn play_over<R: Run, W: AllocGlobal + Abort + Wait>(
     requires limits { book.limits ≡ R.limits }
     requires ledgers { AreBlank R.Run blanks }
 {
+    let limits = Limits::new(3, 20).expect(rt, "the limits are in range");
+    let plan = Plan {
+        plates: 10,
+        journal_limit: ROOM,
+        turns: 1_000,
+        limits: [limits; 9],
+    };
     let world = Mutex::new(World::new(plan.plates));
     let faults = FaultScript::read(rt.alloc(), b"").expect(rt, "no faults are readable");
-    let mut stage = ten_plates::<R, W>(rt, &world, &faults, book, blanks);
-    take_rounds(rt, rt.alloc(), &mut stage, plan, None, rounds);
-    leave_out(rt, &mut stage, plan, &world, left_out);
-    let end = finish(rt, rt.alloc(), &mut stage, plan);
-    assert_eq!(rt;
-        end,
-        Some(End::Finished),
-        "without {left_out:?} after {rounds} rounds"
-    );
-    assert_eq!(rt; stage.kept.book().totals().delivered, 10);
-    check_cell(rt, &stage, &world);
+    let ports = sim_ports(rt, &world, &faults);
+    let hands = SimOperator::new(rt, &world);
+    let mut stage = Stage::<R, _, _>::new(rt, &DEVICES, ports, hands, book, blanks);
+    go_on(rt, &mut stage, &plan, &world, rounds, left_out);
 }
 
 fn play<W: AllocGlobal + Abort + Wait>(rt: &W, rounds: usize, left_out: &[Machine]) {
     let book = Book::new(rt.alloc(), ROOM, 10).ok().expect(rt, "a book");
-    let plan = plan_of_ten(rt);
-    play_over::<Brand, W>(rt, &plan, rounds, left_out, book, Blanks::new(1));
+    play_over::<Brand, W>(rt, rounds, left_out, book, Blanks::new(1));
 }
 
 #[test]
-fn a_run_finishes_though_a_machine_was_left_out(rt: HostRuntime) {
+fn a_run_finishes_though_machines_were_left_out(rt: HostRuntime) {
     for machine in MACHINES {
         for rounds in [0, 5, 17, 38, 60, 90, 150, 333] {
             play(&rt, rounds, &[machine]);
         }
     }
-}
-
-#[test]
-fn a_run_finishes_though_each_machine_was_left_out_in_turn(rt: HostRuntime) {
     for rounds in [0, 20, 47, 111] {
         play(&rt, rounds, &MACHINES);
     }

@@ -1,14 +1,14 @@
 //! What a seed determines of a schedule, beside its steps.
 use crate::random::Random;
+use crate::stage::Devices;
 use cell_diagnosis::Limits;
 use cell_turns::Plan;
 use plate_book::Book;
 use port_samples::Failing;
-use std::alloc::Global;
 use std::process::Abort;
 
 /// How a schedule goes on. Rates are so many times in 1,024.
-#[derive(Clone, Copy, Debug)]
+#[derive(Clone, Copy)]
 pub(crate) struct Habits {
     /// How many steps there are.
     pub(crate) steps: usize,
@@ -23,29 +23,47 @@ pub(crate) struct Habits {
 }
 
 /// What a schedule stands on.
-#[derive(Clone, Copy, Debug)]
+#[derive(Clone, Copy)]
 pub(crate) struct Setting {
+    /// The seed that determines it.
+    pub(crate) seed: u64,
     pub(crate) plan: Plan,
     /// How many entries the book takes, and how many plates.
     pub(crate) entries: u32,
     pub(crate) plates: u32,
-    /// At which of its commands each port fails.
-    pub(crate) failing: [Failing; 6],
-    /// At which of its acts each kind of act by hand fails.
-    pub(crate) removing: Failing,
-    pub(crate) homing: Failing,
+    pub(crate) devices: Devices,
     /// The faults of the simulated cell's motions. None is that of a refused command: those are the ports' own.
     pub(crate) faults: &'static str,
     pub(crate) habits: Habits,
 }
 
+/// More answers, commands and acts than a schedule has steps.
+const ROOM: usize = 2_000;
+
 const ENTRIES: [u32; 8] = [1, 3, 9, 40, 150, 1_000, 10_000, 10_000];
 
 const PLATES: [u32; 6] = [1, 2, 3, 5, 8, 100_000];
 
-const STEPS: [usize; 6] = [60, 250, 600, 900, 1_300, 1_900];
+/// The readings that a motion may take: the fewest, more, and those of the settings.
+const LIMITS: [(u16, u16); 4] = [(2, 3), (5, 60), (3, 20), (3, 20)];
 
-const NOISE: [u32; 6] = [0, 2, 6, 15, 60, 1_024];
+/// At which of its calls a device fails: one in two never does.
+const FAILING: [Failing; 14] = [
+    Failing::Always,
+    Failing::At(1),
+    Failing::At(7),
+    Failing::At(23),
+    Failing::Each(2),
+    Failing::Each(5),
+    Failing::Each(17),
+    Failing::Never,
+    Failing::Never,
+    Failing::Never,
+    Failing::Never,
+    Failing::Never,
+    Failing::Never,
+    Failing::Never,
+];
 
 const FAULTS: [&str; 5] = [
     "",
@@ -55,17 +73,41 @@ const FAULTS: [&str; 5] = [
     "arm_one,4,lose_plate,\ndeposit_belt,1,keeps_old,\n",
 ];
 
-// At which of its calls a device fails: one in two never does.
-fn draw_failing(random: &mut Random) -> Failing {
-    match random.below(14) {
-        0 => Failing::Always,
-        1 => Failing::At(1),
-        2 => Failing::At(7),
-        3 => Failing::At(23),
-        4 => Failing::Each(2),
-        5 => Failing::Each(5),
-        6 => Failing::Each(17),
-        _ => Failing::Never,
+/// What habits are drawn from, each as likely as often as it is here.
+struct Choices {
+    steps: [usize; 6],
+    disorder: [u32; 4],
+    noise: [u32; 12],
+    hands: [u32; 4],
+    mending: [u32; 4],
+}
+
+/// For a schedule that gets somewhere: nearly all readings are what the ports show, and what fails is mended.
+const CALM: Choices = Choices {
+    steps: [900, 1_300, 1_900, 900, 1_300, 1_900],
+    disorder: [0, 0, 100, 512],
+    noise: [0, 0, 1, 2, 0, 0, 1, 2, 0, 0, 1, 2],
+    hands: [0, 30, 60, 120],
+    mending: [1_000, 1_024, 1_000, 1_024],
+};
+
+const WILD: Choices = Choices {
+    steps: [60, 250, 600, 900, 1_300, 1_900],
+    disorder: [0, 100, 512, 1_024],
+    noise: [0, 2, 6, 15, 60, 1_024, 0, 2, 6, 15, 60, 1_024],
+    hands: [0, 4, 30, 120],
+    mending: [0, 700, 1_000, 1_024],
+};
+
+impl Habits {
+    fn draw(random: &mut Random, choices: &Choices) -> Habits {
+        Habits {
+            steps: choices.steps[random.below(6)],
+            disorder: choices.disorder[random.below(4)],
+            noise: choices.noise[random.below(12)],
+            hands: choices.hands[random.below(4)],
+            mending: choices.mending[random.below(4)],
+        }
     }
 }
 
@@ -75,50 +117,28 @@ fn draw_ports(random: &mut Random) -> [Failing; 6] {
     match random.below(8) {
         0 => {
             for machine in 0..6 {
-                failing[machine] = draw_failing(random);
+                failing[machine] = FAILING[random.below(14)];
             }
         }
-        1..=4 => failing[random.below(6)] = draw_failing(random),
+        1..=4 => {
+            let drawn = FAILING[random.below(14)];
+            failing[random.below(6)] = drawn;
+        }
         _ => {}
     }
     failing
 }
 
-// Habits of a schedule that gets somewhere: nearly all readings are what the ports show, and what fails is mended.
-fn draw_calm(random: &mut Random) -> Habits {
-    Habits {
-        steps: STEPS[random.below(3) + 3],
-        disorder: [0, 0, 100, 512][random.below(4)],
-        noise: [0, 0, 1, 2][random.below(4)],
-        hands: [0, 30, 60, 120][random.below(4)],
-        mending: [1_000, 1_024][random.below(2)],
-    }
-}
-
-fn draw_wild(random: &mut Random) -> Habits {
-    Habits {
-        steps: STEPS[random.below(6)],
-        disorder: [0, 100, 512, 1_024][random.below(4)],
-        noise: NOISE[random.below(6)],
-        hands: [0, 4, 30, 120][random.below(4)],
-        mending: [0, 700, 1_000, 1_024][random.below(4)],
-    }
-}
-
-// The readings that a motion may take: those of the settings, the fewest, and more.
 fn draw_limits(rt: &impl Abort, random: &mut Random) -> Limits {
-    let limits = match random.below(4) {
-        0 => Limits::new(2, 3),
-        1 => Limits::new(5, 60),
-        _ => Limits::new(3, 20),
-    };
-    limits.expect(rt, "the limits are in range")
+    let (leave, limit) = LIMITS[random.below(4)];
+    Limits::new(leave, limit).expect(rt, "the limits are in range")
 }
 
 fn draw_plan(rt: &impl Abort, random: &mut Random, journal_limit: u32) -> Plan {
     let plates = PLATES[random.below(6)];
     let mut limits = [draw_limits(rt, random); 9];
-    limits[random.below(9)] = draw_limits(rt, random);
+    let other = draw_limits(rt, random);
+    limits[random.below(9)] = other;
     assert!(rt; 1 <= plates && plates <= 100_000);
     assert!(rt; 1 <= journal_limit && journal_limit <= 1_000_000);
     Plan {
@@ -130,9 +150,9 @@ fn draw_plan(rt: &impl Abort, random: &mut Random, journal_limit: u32) -> Plan {
 }
 
 impl Setting {
-    /// The setting of a seed. Half of the schedules are to get somewhere: of these the journal is ample, no port fails, and
-    /// most of their cells have no faults.
-    pub(crate) fn draw(rt: &impl Abort, random: &mut Random) -> Setting {
+    /// The setting of a seed, whose next numbers these are. Half of the schedules are to get somewhere: of these the
+    /// journal is ample, no port fails, and most of their cells have no faults.
+    pub(crate) fn draw(rt: &impl Abort, seed: u64, random: &mut Random) -> Setting {
         let is_calm = random.chance(512);
         let entries = if is_calm {
             10_000
@@ -143,34 +163,31 @@ impl Setting {
         let few = plan.plates.min(1_000);
         let plates = [few, few, 1_000, 1_000, 1_000, 2, 1, 1][random.below(8)];
         let faults = FAULTS[random.below(5)];
-        Setting {
-            plan,
-            entries,
-            plates,
+        let devices = Devices {
             failing: if is_calm {
                 [Failing::Never; 6]
             } else {
                 draw_ports(random)
             },
-            removing: draw_failing(random),
-            homing: draw_failing(random),
-            faults: if is_calm && random.chance(700) {
-                ""
-            } else {
-                faults
-            },
-            habits: if is_calm {
-                draw_calm(random)
-            } else {
-                draw_wild(random)
-            },
+            removing: FAILING[random.below(14)],
+            homing: FAILING[random.below(14)],
+            room: ROOM,
+        };
+        let is_sound = is_calm && random.chance(700);
+        Setting {
+            seed,
+            plan,
+            entries,
+            plates,
+            devices,
+            faults: if is_sound { "" } else { faults },
+            habits: Habits::draw(random, if is_calm { &CALM } else { &WILD }),
         }
     }
 
     /// An empty book with the setting's limits.
-    pub(crate) fn book(&self, rt: &impl Abort, alloc: Global) -> Book {
-        Book::new(alloc, self.entries, self.plates)
-            .ok()
-            .expect(rt, "a book")
+    pub(crate) fn book<W: AllocGlobal + Abort>(&self, rt: &W) -> Book {
+        let book = Book::new(rt.alloc(), self.entries, self.plates);
+        book.ok().expect(rt, "a book")
     }
 }

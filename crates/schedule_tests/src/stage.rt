@@ -5,14 +5,24 @@ ghost use Rattle.cell_turns.specs.Six.{at};
 ghost use Rattle.cell_turns.specs.Minds.{machine_of_watch};
 ghost use Rattle.cell_ledger.specs.New.{AreBlank};
 
-use crate::habits::Drawing;
 use cell_ledger::{Blanks, Kept, Run, Shares};
 use cell_turns::{OperatorPort, Plan, Port, Ran, Six, Step, Watch, Watches, run_schedule};
 use cell_types::Machine;
 use plate_book::Book;
-use port_samples::{TellingHands, TellingPort};
-use std::alloc::Global;
+use port_samples::{Failing, TellingHands, TellingPort, telling_ports};
 use std::process::Abort;
+
+/// How the devices fail, and what they keep.
+#[derive(Clone, Copy)]
+pub(crate) struct Devices {
+    /// At which of its commands each port fails.
+    pub(crate) failing: [Failing; 6],
+    /// At which of its acts each kind of act by hand fails.
+    pub(crate) removing: Failing,
+    pub(crate) homing: Failing,
+    /// How many answers and commands a port keeps, and how many acts the hands keep: more than there are steps.
+    pub(crate) room: usize,
+}
 
 /// What schedules go on over.
 #[derive(Drop)]
@@ -25,18 +35,25 @@ pub(crate) struct Stage<R: Run, P, O> {
 }
 
 impl<R: Run, P: Port + Drop, O: OperatorPort + Drop> Stage<R, P, O> {
-    /// A book with these ports and hands, before its first turn.
-    pub(crate) fn new(
+    /// A book with these ports and hands, which fail so, before its first turn.
+    pub(crate) fn new<W: AllocGlobal + Abort>(
+        rt: &W,
+        devices: &Devices,
+        ports: Six<P>,
+        hands: O,
         book: Book,
         blanks: Blanks,
-        ports: Six<TellingPort<P>>,
-        hands: TellingHands<O>,
     ) -> Stage<R, P, O>
         requires parts { 0 < R.parts }
         requires limits { book.limits ≡ R.limits }
         requires ledgers { AreBlank R.Run blanks }
         ensures machines { (m : MachineValue) → machine_of_watch (at result.watches m) ≡ m }
     {
+        let alloc = rt.alloc();
+        let ports = telling_ports(alloc, ports, devices.failing, devices.room);
+        let ports = ports.expect(rt, "memory");
+        let hands = TellingHands::new(alloc, hands, devices.removing, devices.homing, devices.room);
+        let hands = hands.expect(rt, "memory");
         let watches = Watches::start(&book);
         let (kept, shares) = Kept::<R>::new(book, blanks);
         Stage {
@@ -61,20 +78,10 @@ impl<R: Run, P: Port + Drop, O: OperatorPort + Drop> Stage<R, P, O> {
         }
     }
 
-    /// The next step that is drawn for the book as it is and for what the ports show.
-    pub(crate) fn draw(&mut self, drawing: &mut Drawing) -> Step
-        requires { (m : MachineValue) → machine_of_watch (at self.old.watches m) ≡ m }
-        ensures machines { (m : MachineValue) → machine_of_watch (at self.new.watches m) ≡ m }
-    {
-        let Stage { kept, ports, .. } = self;
-        drawing.next_step(kept.book(), ports)
-    }
-
     /// Takes steps, for which there is memory.
-    pub(crate) fn take(
+    pub(crate) fn take<W: AllocGlobal + Abort>(
         &mut self,
-        rt: &impl Abort,
-        alloc: Global,
+        rt: &W,
         steps: &[Step],
         plan: &Plan,
     ) -> Ran
@@ -82,7 +89,7 @@ impl<R: Run, P: Port + Drop, O: OperatorPort + Drop> Stage<R, P, O> {
         ensures machines { (m : MachineValue) → machine_of_watch (at self.new.watches m) ≡ m }
     {
         let ran = run_schedule(
-            alloc,
+            rt.alloc(),
             steps,
             &mut self.ports,
             &mut self.hands,

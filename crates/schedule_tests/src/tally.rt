@@ -1,6 +1,8 @@
 //! What many schedules made, counted together.
-use cell_types::{Cause, Entry, Kind};
-use std::process::Abort;
+use crate::stage::Stage;
+use cell_journal::Journal;
+use cell_ledger::Run;
+use cell_types::{Entry, Kind};
 
 /// How many entries of each kind, and what else came, in some schedules.
 #[derive(Clone, Copy, Debug, Default)]
@@ -23,8 +25,8 @@ pub(crate) struct Tally {
     pub(crate) delivering: u32,
 }
 
-/// The kind of an entry.
-pub(crate) fn kind_of(entry: &Entry) -> Kind {
+// The kind of an entry.
+fn kind_of(entry: &Entry) -> Kind {
     match entry {
         Entry::Lamp { .. } => Kind::Lamp,
         Entry::Admitted { .. } => Kind::Admitted,
@@ -46,36 +48,61 @@ pub(crate) fn kind_of(entry: &Entry) -> Kind {
     }
 }
 
-fn count(place: &mut u32, more: u32) {
-    *place = place.saturating_add(more);
-}
-
 impl Tally {
-    /// Counts the entries of a journal.
-    pub(crate) fn count_entries(&mut self, entries: &[Entry]) {
-        for entry in entries {
-            count(&mut self.kinds[kind_of(entry) as usize], 1);
-            if let Entry::Declared { cause, .. } = *entry {
-                count(&mut self.causes[cause as usize], 1);
+    // Counts the entries of a journal.
+    fn count_entries(&mut self, journal: &Journal) {
+        for place in 0..journal.len() {
+            let Some(entry) = journal.get(place) else {
+                return;
+            };
+            let kind = kind_of(&entry) as usize;
+            self.kinds[kind] = self.kinds[kind].saturating_add(1);
+            if let Entry::Declared { cause, .. } = entry {
+                let cause = cause as usize;
+                self.causes[cause] = self.causes[cause].saturating_add(1);
             }
         }
     }
 
-    /// Counts what another tally counts.
-    pub(crate) fn add(&mut self, other: &Tally) {
-        for kind in 0..17 {
-            count(&mut self.kinds[kind], other.kinds[kind]);
+    /// Counts a schedule of so many steps, by what is left of it, beside what is counted on its way.
+    pub(crate) fn count_schedule<R: Run, P, O>(&mut self, steps: usize, stage: &Stage<R, P, O>) {
+        let book = stage.kept.book();
+        let ports = &stage.ports;
+        self.schedules = self.schedules.saturating_add(1);
+        self.steps = self.steps.saturating_add(steps as u64);
+        self.count_entries(book.journal());
+        if book.totals().delivered > 0 {
+            self.delivering = self.delivering.saturating_add(1);
         }
-        for cause in 0..11 {
-            count(&mut self.causes[cause], other.causes[cause]);
+        self.acts_failed = self.acts_failed.saturating_add(stage.hands.failures());
+        for port in [
+            &ports.feed,
+            &ports.table,
+            &ports.robot,
+            &ports.press1,
+            &ports.press2,
+            &ports.deposit,
+        ] {
+            self.commands_failed = self.commands_failed.saturating_add(port.failures());
         }
-        self.steps = self.steps.saturating_add(other.steps);
-        count(&mut self.schedules, other.schedules);
-        count(&mut self.full, other.full);
-        count(&mut self.past_plates, other.past_plates);
-        count(&mut self.commands_failed, other.commands_failed);
-        count(&mut self.acts_failed, other.acts_failed);
-        count(&mut self.spared, other.spared);
-        count(&mut self.delivering, other.delivering);
+    }
+
+    /// Whether all that can come came in a thousand schedules: many entries of every kind, and many faults of each
+    /// cause but stray positions, which are rare; turns were refused for either reason, ports and hands failed, and in
+    /// many schedules plates got through the cell.
+    pub(crate) fn has_all(&self) -> bool {
+        let mut common = 0u32;
+        for made in self.causes {
+            common = common.saturating_add(u32::from(made >= 50));
+        }
+        for made in self.kinds {
+            if made < 100 {
+                return false;
+            }
+        }
+        let refused = self.full.min(self.past_plates).min(self.spared);
+        let failed = self.commands_failed.min(self.acts_failed);
+        let is_whole = self.schedules == 1_000 && common >= 10;
+        is_whole && refused >= 1_000 && failed >= 100 && self.delivering >= 200
     }
 }

@@ -4,5 +4,5 @@ use Rattle.cell_turns.specs.Six.{at}
 use Rattle.cell_turns.specs.Minds.{machine_of_watch}
 use Rattle.schedule_tests.proofs.left_out.take_rounds.Given as goal
 
-abbrev pub invariant-loop : goal.invariant-loop
-invariant-loop g l = (m : Machine) → machine_of_watch (at l.stage.watches m) ≡ m
+abbrev pub invariant-loop-turn : goal.invariant-loop-turn
+invariant-loop-turn g l = (m : Machine) → machine_of_watch (at l.stage.watches m) ≡ m
