@@ -59,7 +59,14 @@ fn plate_of(entry: Entry) -> Option<PlateId> {
         | Entry::Quarantined { plate, .. }
         | Entry::Expected { plate }
         | Entry::Reinstated { plate } => Some(plate),
-        _ => None,
+        Entry::Lamp { .. }
+        | Entry::Claimed { .. }
+        | Entry::Yielded { .. }
+        | Entry::Started { .. }
+        | Entry::Arrived { .. }
+        | Entry::Declared { .. }
+        | Entry::StopAsked { .. }
+        | Entry::Repaired { .. } => None,
     }
 }
 
