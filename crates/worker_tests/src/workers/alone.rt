@@ -1,6 +1,7 @@
 //! A machine's worker, alone on the thread of its test.
 use crate::same::check_same;
-use crate::workers::cell::{ample_plan, faults_of, plan_of};
+use crate::sim::steps::faults_of;
+use crate::workers::cell::{ample_plan, plan_of};
 use crate::workers::rooms::{
     ALL, NONE, Play, begin_hall, check_hall, check_length, check_worked, play_in_room, set_end,
 };

@@ -1,6 +1,7 @@
 //! Ports and hands that fail under workers on threads.
 use crate::same::check_same;
-use crate::workers::cell::{ample_plan, faults_of, run_over, script_of};
+use crate::sim::steps::faults_of;
+use crate::workers::cell::{ample_plan, run_over, script_of};
 use crate::workers::reports::check_end;
 use crate::workers::telling::check_sent;
 use cell_samples::{CLEARED_PRESS, STUCK_PRESS, entry_of};

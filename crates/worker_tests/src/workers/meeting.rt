@@ -1,5 +1,6 @@
 //! Two ports that wait for each other.
-use crate::workers::cell::{ample_plan, faults_of, run_over, script_of};
+use crate::sim::steps::faults_of;
+use crate::workers::cell::{ample_plan, run_over, script_of};
 use crate::workers::reports::check_end;
 use cell_diagnosis::Reading;
 use cell_sim::{SimOperator, SimPort, World};

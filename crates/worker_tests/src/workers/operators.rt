@@ -1,6 +1,7 @@
 //! The operator's worker, alone on the thread of its test.
 use crate::same::check_same;
-use crate::workers::cell::{ample_plan, faults_of, plan_of, script_of};
+use crate::sim::steps::faults_of;
+use crate::workers::cell::{ample_plan, plan_of, script_of};
 use crate::workers::rooms::{
     ALL, NONE, OPERATOR, Play, all_but, begin_hall, check_hall, check_length, check_list,
     check_worked, play_in_room, set_hall,

@@ -1,6 +1,7 @@
 //! Workers and a whole run that may be refused memory, at any allocation: they end for want of memory, or as they do with
 //! ample memory. Each test marks one call, to which a library below the program can refuse memory (docs/HOSTILE.md).
-use crate::workers::cell::{ample_plan, faults_of, script_of};
+use crate::sim::steps::faults_of;
+use crate::workers::cell::{ample_plan, script_of};
 use crate::workers::reports::{check_end, check_report};
 use crate::workers::rooms::{
     NONE, OPERATOR, Play, all_but, check_hall, check_length, check_worked, play_in_room, set_hall,
