@@ -11,8 +11,8 @@ const SECOND: Option<FaultError> = Some(FaultError::Unreadable(2));
 
 const TOO_MANY: Option<FaultError> = Some(FaultError::TooManyLines);
 
-// A case: how many records there are for the second press's first motions, one for each; what follows them; and how the text
-// is refused, if it is.
+// A case: how many records there are for the second press's first motions, one for each; what follows them; and how the
+// text is refused, if it is.
 const CASES: [(usize, &[u8], Option<FaultError>); 29] = [
     // The words of faults.
     (0, b"", None),

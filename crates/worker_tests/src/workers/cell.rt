@@ -10,6 +10,9 @@ use std::process::Abort;
 use std::sync::{Mutex, Wait};
 use std::thread::Threads;
 
+/// As many entries or turns as any run of a test has room for.
+pub(crate) const AMPLE: u32 = 100_000;
+
 /// A plan with the settings' own limits for each axis.
 pub(crate) fn plan_of(rt: &impl Abort, plates: u32, journal_limit: u32, turns: u32) -> Plan {
     assert!(rt; 1 <= plates && plates <= 100_000);
@@ -24,12 +27,8 @@ pub(crate) fn plan_of(rt: &impl Abort, plates: u32, journal_limit: u32, turns: u
     }
 }
 
-/// A plan for so many plates, with room and turns for any run of a test.
-pub(crate) fn ample_plan(rt: &impl Abort, plates: u32) -> Plan {
-    plan_of(rt, plates, 100_000, 100_000)
-}
-
-/// The operator's script of a text. In a run that refuses one allocation it may be refused here, and not when it is read again.
+/// The operator's script of a text. In a run that refuses one allocation it may be refused here, and not when it is read
+/// again.
 pub(crate) fn script_of<R: AllocGlobal + Abort>(rt: &R, text: &str) -> Script {
     let bytes = text.as_bytes();
     let script = Script::read(rt.alloc(), bytes);
