@@ -6,4 +6,4 @@ mod plates;
 mod ports;
 mod returns;
 mod script;
-mod steps;
+pub(crate) mod steps;

@@ -1,114 +1,132 @@
-//! Steps in a simulated cell, and what they have to show.
+//! Ways in a simulated cell, step by step, as texts.
 use cell_diagnosis::Reading;
+use cell_samples::entry_of;
 use cell_sim::{FaultScript, SimOperator, SimPort, World};
-use cell_turns::{OperatorPort, Port, PortFault};
-use cell_types::{Command, Machine, Station};
-use std::alloc::Global;
+use cell_turns::{OperatorPort, Port};
+use cell_types::texts::{read_axis, read_machine, read_station};
+use cell_types::{Command, Machine, command_of};
 use std::process::Abort;
 use std::sync::{Mutex, Wait};
 
-/// One step in a world, or what is wanted of it.
-#[derive(Clone, Copy, Debug)]
-pub(crate) enum Step {
-    /// The command is carried out.
-    Send(Command),
-    /// The command fails.
-    Refused(Command),
-    /// The machine's next reading: its switches and its presence bits.
-    Shows(Machine, [u8; 3], u8),
-    /// The machine's next reading is missing.
-    Missing(Machine),
-    /// So many readings of the machine, whatever they are.
-    Read(Machine, u32),
-    /// The operator takes out what is at the station.
-    Remove(Station),
-    /// The operator puts the machine's axes at home.
-    Home(Machine),
-    /// So many collisions were counted.
-    Collisions(u32),
+/// A way in a new world: how many plates are laid in it at most, the script of its faults, and the way's parts. A part is
+/// a text of steps, parted by a semicolon and a blank:
+///
+/// ```text
+/// started,press_one,top      the command of this entry is carried out; blank fields at its end are left out
+/// off press_one              the axis is switched off
+/// stop press1                all of the machine is switched off
+/// refused off press_one      the command fails
+/// press1 2 0 0 1             the machine's next reading shows these switches of three axes, and these presence bits
+/// press1 missing             the machine's next reading is missing
+/// press1 any 3               three readings of the machine, whatever they are
+/// remove feed_in             the operator takes out what is at the station
+/// home press1                the operator puts the machine's axes at home
+/// collisions 2               so many collisions were counted
+/// ```
+pub(crate) type Way = (u32, &'static str, &'static [&'static str]);
+
+/// The faults of a text. In a run that refuses one allocation it may be refused here, and not when it is read again.
+pub(crate) fn faults_of<R: AllocGlobal + Abort>(rt: &R, text: &str) -> FaultScript {
+    let bytes = text.as_bytes();
+    let faults = FaultScript::read(rt.alloc(), bytes);
+    let Ok(faults) = faults.or_else(|_| FaultScript::read(rt.alloc(), bytes)) else {
+        panic!(rt; "the faults are readable: {text}");
+    };
+    faults
 }
 
-/// A script of faults.
-pub(crate) fn script(rt: &impl Abort, alloc: Global, text: &str) -> FaultScript {
-    match FaultScript::read(alloc, text.as_bytes()) {
-        Ok(faults) => faults,
-        Err(error) => panic!(rt; "{text}: {error:?}"),
+// The number at a place of a text.
+fn number(rt: &impl Abort, text: &str, place: usize) -> u8 {
+    let word = text.split(' ').nth(place).unwrap_or("");
+    word.parse::<u8>().ok().expect(rt, text)
+}
+
+fn command_in(rt: &impl Abort, step: &str) -> Command {
+    let (word, name) = step.split_once(' ').unwrap_or((step, ""));
+    let command = match word {
+        "off" => read_axis(name.as_bytes()).map(Command::Off),
+        "stop" => read_machine(name.as_bytes()).map(Command::AllOff),
+        _ => entry_of(step).and_then(command_of),
+    };
+    command.expect(rt, step)
+}
+
+// Whether a machine's port shows what is wanted.
+fn is_shown<P: Port>(rt: &impl Abort, port: &mut P, wanted: &str) -> bool {
+    if wanted == "missing" {
+        return port.read().is_none();
     }
-}
-
-fn reading<R: Wait>(
-    rt: &R,
-    world: &Mutex<World>,
-    faults: &FaultScript,
-    machine: Machine,
-) -> Option<Reading> {
-    SimPort::new(rt, world, machine, faults).read()
-}
-
-// A command names its own part of the cell, so any port takes it.
-fn send<R: Wait>(
-    rt: &R,
-    world: &Mutex<World>,
-    faults: &FaultScript,
-    command: Command,
-) -> Result<(), PortFault> {
-    SimPort::new(rt, world, Machine::Feed, faults).command(command)
-}
-
-fn read_on<R: Wait>(
-    rt: &R,
-    world: &Mutex<World>,
-    faults: &FaultScript,
-    machine: Machine,
-    readings: u32,
-) {
-    for _ in 0..readings {
-        let _ = reading(rt, world, faults, machine);
-    }
-}
-
-fn is_met<R: Wait>(rt: &R, world: &Mutex<World>, faults: &FaultScript, step: Step) -> bool {
-    match step {
-        Step::Send(command) => send(rt, world, faults, command).is_ok(),
-        Step::Refused(command) => send(rt, world, faults, command).is_err(),
-        Step::Shows(machine, switches, presence) => {
-            reading(rt, world, faults, machine) == Some(Reading { switches, presence })
+    if let Some(times) = wanted.strip_prefix("any ") {
+        for _ in 0..number(rt, times, 0) {
+            let _ = port.read();
         }
-        Step::Missing(machine) => reading(rt, world, faults, machine).is_none(),
-        Step::Read(machine, readings) => {
-            read_on(rt, world, faults, machine, readings);
-            true
-        }
-        Step::Remove(station) => SimOperator::new(rt, world).remove(station).is_ok(),
-        Step::Home(machine) => SimOperator::new(rt, world).home(machine).is_ok(),
-        Step::Collisions(count) => world.lock(rt).collisions() == count,
+        return true;
     }
+    let switches = [
+        number(rt, wanted, 0),
+        number(rt, wanted, 1),
+        number(rt, wanted, 2),
+    ];
+    let presence = number(rt, wanted, 3);
+    port.read() == Some(Reading { switches, presence })
 }
 
-// Takes steps, each of which has to be met.
-fn follow<R: Abort + Wait>(rt: &R, world: &Mutex<World>, faults: &FaultScript, steps: &[Step]) {
-    for place in 0..steps.len() {
-        let step = steps[place];
-        assert!(rt; is_met(rt, world, faults, step), "step {place}: {step:?}");
-    }
-}
-
-/// Takes the parts of a way in a new world, in which up to `plates` plates are laid, under a script of faults.
-pub(crate) fn run_parts<R: Abort + Wait>(
+/// Takes a step by a port and the operator's hands in a world, and says whether it is met. A command names its own part of
+/// the cell, so that any port takes it.
+pub(crate) fn is_met<P: Port, O: OperatorPort, R: Abort + Wait>(
     rt: &R,
-    alloc: Global,
-    plates: u32,
-    text: &str,
-    parts: &[&[Step]],
-) {
-    let faults = script(rt, alloc, text);
+    world: &Mutex<World>,
+    port: &mut P,
+    hands: &mut O,
+    step: &str,
+) -> bool {
+    let (word, rest) = step.split_once(' ').unwrap_or((step, ""));
+    match word {
+        "refused" => port.command(command_in(rt, rest)).is_err(),
+        "remove" => hands
+            .remove(read_station(rest.as_bytes()).expect(rt, step))
+            .is_ok(),
+        "home" => hands
+            .home(read_machine(rest.as_bytes()).expect(rt, step))
+            .is_ok(),
+        "collisions" => world.lock(rt).collisions() == u32::from(number(rt, rest, 0)),
+        _ if read_machine(word.as_bytes()).is_some() => is_shown(rt, port, rest),
+        _ => port.command(command_in(rt, step)).is_ok(),
+    }
+}
+
+// Takes a step, by the port of the machine that it begins with or by any, and says whether it is met.
+fn is_met_in<R: Abort + Wait>(
+    rt: &R,
+    world: &Mutex<World>,
+    faults: &FaultScript,
+    step: &str,
+) -> bool {
+    let word = step.split(' ').next().unwrap_or("");
+    let machine = read_machine(word.as_bytes()).unwrap_or(Machine::Feed);
+    let mut port = SimPort::new(rt, world, machine, faults);
+    let mut hands = SimOperator::new(rt, world);
+    is_met(rt, world, &mut port, &mut hands, step)
+}
+
+// Goes a way.
+fn run<R: AllocGlobal + Abort + Wait>(rt: &R, way: &Way) {
+    let (plates, faults, parts) = *way;
+    let faults = faults_of(rt, faults);
     let world = Mutex::new(World::new(plates));
-    for steps in parts {
-        follow(rt, &world, &faults, steps);
+    for part in parts {
+        for (place, step) in part.split("; ").enumerate() {
+            assert!(rt;
+                is_met_in(rt, &world, &faults, step),
+                "step {place}, {step}, of {part}"
+            );
+        }
     }
 }
 
-/// The same where the way is one part.
-pub(crate) fn run<R: Abort + Wait>(rt: &R, alloc: Global, plates: u32, text: &str, steps: &[Step]) {
-    run_parts(rt, alloc, plates, text, &[steps]);
+/// Goes these ways, each step of which has to be met.
+pub(crate) fn run_all<R: AllocGlobal + Abort + Wait>(rt: &R, ways: &[Way]) {
+    for way in ways {
+        run(rt, way);
+    }
 }

@@ -1,13 +1,17 @@
 //! A simulated cell of a test's own, and its workers on threads.
+use crate::sim::steps::faults_of;
 use crate::workers::reports::check_report;
 use cell_diagnosis::Limits;
-use cell_sim::{FaultScript, SimOperator, World};
+use cell_sim::{SimOperator, World};
 use cell_workers::{OperatorPort, Plan, Port, Report, Six, run_cell};
 use operator_desk::Script;
 use port_samples::sim_ports;
 use std::process::Abort;
 use std::sync::{Mutex, Wait};
 use std::thread::Threads;
+
+/// As many entries or turns as any run of a test has room for.
+pub(crate) const AMPLE: u32 = 100_000;
 
 /// A plan with the settings' own limits for each axis.
 pub(crate) fn plan_of(rt: &impl Abort, plates: u32, journal_limit: u32, turns: u32) -> Plan {
@@ -23,22 +27,8 @@ pub(crate) fn plan_of(rt: &impl Abort, plates: u32, journal_limit: u32, turns: u
     }
 }
 
-/// A plan for so many plates, with room and turns for any run of a test.
-pub(crate) fn ample_plan(rt: &impl Abort, plates: u32) -> Plan {
-    plan_of(rt, plates, 100_000, 100_000)
-}
-
-/// The faults of a text. In a run that refuses one allocation it may be refused here, and not when it is read again.
-pub(crate) fn faults_of<R: AllocGlobal + Abort>(rt: &R, text: &str) -> FaultScript {
-    let bytes = text.as_bytes();
-    let faults = FaultScript::read(rt.alloc(), bytes);
-    let Ok(faults) = faults.or_else(|_| FaultScript::read(rt.alloc(), bytes)) else {
-        panic!(rt; "the faults are readable");
-    };
-    faults
-}
-
-/// The operator's script of a text, in the same way.
+/// The operator's script of a text. In a run that refuses one allocation it may be refused here, and not when it is read
+/// again.
 pub(crate) fn script_of<R: AllocGlobal + Abort>(rt: &R, text: &str) -> Script {
     let bytes = text.as_bytes();
     let script = Script::read(rt.alloc(), bytes);

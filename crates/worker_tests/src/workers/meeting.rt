@@ -1,11 +1,11 @@
 //! Two ports that wait for each other.
-use crate::workers::cell::{ample_plan, faults_of, run_over, script_of};
+use crate::sim::steps::faults_of;
+use crate::workers::cell::{AMPLE, plan_of, run_over, script_of};
 use crate::workers::reports::check_end;
 use cell_diagnosis::Reading;
-use cell_sim::{SimOperator, SimPort, World};
+use cell_sim::{FaultScript, SimOperator, SimPort, World};
 use cell_types::{Command, Machine};
 use cell_workers::{End, Port, PortFault, Six};
-use port_samples::sim_ports;
 use std::process::Abort;
 use std::sync::atomic::{AtomicBool, Ordering};
 use std::sync::{Mutex, Wait};
@@ -69,12 +69,13 @@ impl<R: Wait + Clock> Port for MeetingPort<'_, R> {
 
 fn meeting_port<'a, R: Wait + Clock>(
     rt: &'a R,
-    port: SimPort<'a, R>,
+    world: &'a Mutex<World>,
+    faults: &'a FaultScript,
     machine: Machine,
     meeting: &'a Meeting,
 ) -> MeetingPort<'a, R> {
     MeetingPort {
-        port,
+        port: SimPort::new(rt, world, machine, faults),
         rt,
         machine,
         meeting,
@@ -82,35 +83,19 @@ fn meeting_port<'a, R: Wait + Clock>(
     }
 }
 
-fn meeting_ports<'a, R: Wait + Clock>(
-    rt: &'a R,
-    ports: Six<SimPort<'a, R>>,
-    meeting: &'a Meeting,
-) -> Six<MeetingPort<'a, R>> {
-    let Six {
-        feed,
-        table,
-        robot,
-        press1,
-        press2,
-        deposit,
-    } = ports;
-    Six {
-        feed: meeting_port(rt, feed, Machine::Feed, meeting),
-        table: meeting_port(rt, table, Machine::Table, meeting),
-        robot: meeting_port(rt, robot, Machine::Robot, meeting),
-        press1: meeting_port(rt, press1, Machine::Press1, meeting),
-        press2: meeting_port(rt, press2, Machine::Press2, meeting),
-        deposit: meeting_port(rt, deposit, Machine::Deposit, meeting),
-    }
-}
-
 // Five plates, with ports that meet: they finish, and no machines collide.
 fn run_meeting<R: AllocGlobal + Abort + Threads + Wait + Clock + Sync>(rt: &R, meeting: &Meeting) {
     let faults = faults_of(rt, "");
-    let plan = ample_plan(rt, 5);
+    let plan = plan_of(rt, 5, AMPLE, AMPLE);
     let world = Mutex::new(World::new(plan.plates));
-    let mut ports = meeting_ports(rt, sim_ports(rt, &world, &faults), meeting);
+    let mut ports = Six {
+        feed: meeting_port(rt, &world, &faults, Machine::Feed, meeting),
+        table: meeting_port(rt, &world, &faults, Machine::Table, meeting),
+        robot: meeting_port(rt, &world, &faults, Machine::Robot, meeting),
+        press1: meeting_port(rt, &world, &faults, Machine::Press1, meeting),
+        press2: meeting_port(rt, &world, &faults, Machine::Press2, meeting),
+        deposit: meeting_port(rt, &world, &faults, Machine::Deposit, meeting),
+    };
     let mut hands = SimOperator::new(rt, &world);
     let report = run_over(rt, &mut ports, &mut hands, script_of(rt, ""), &plan);
     check_end(rt, &report, End::Finished, [5, 5, 0, 5]);

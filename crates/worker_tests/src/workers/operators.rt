@@ -1,46 +1,211 @@
 //! The operator's worker, alone on the thread of its test.
 use crate::same::check_same;
-use crate::workers::cell::{ample_plan, faults_of, plan_of, script_of};
-use crate::workers::rooms::{
-    ALL, NONE, OPERATOR, Play, all_but, begin_hall, check_hall, check_length, check_list,
-    check_worked, play_in_room, set_hall,
-};
+use crate::workers::alone::Serving;
+use crate::workers::cell::{AMPLE, script_of};
+use crate::workers::rooms::{ALL, ALL_BUT_OPERATOR, NONE, Scene, Who, Work, play_in_room};
 use cell_ledger::{Run, Shares};
-use cell_sim::{SimPort, World};
+use cell_samples::{call_begins, call_ends};
 use cell_types::{Entry, Machine, Station};
-use cell_workers::{
-    Act, End, Ended, OperatorPort, Plan, PortFault, Room, run_operator, run_worker,
-};
+use cell_workers::{Act, End, Ended, OperatorPort, Plan, PortFault, Room, Worked, run_operator};
+use port_samples::Failing;
 use std::process::Abort;
-use std::sync::{Mutex, Wait};
+use std::sync::Wait;
 
-const PRESS2: usize = 4;
+const ALL_BUT_PRESS2: [bool; 7] = [true, true, true, true, false, true, true];
 
-// Hands that keep the last act and count all, and fail at each where they are to.
-#[derive(Drop)]
-struct CountingHands {
-    last: Option<Act>,
-    acts: u32,
-    fails: bool,
+/// What the hands book by themselves at each act.
+#[derive(Clone, Copy)]
+pub(crate) enum Meddling {
+    Stop(Machine),
+    Repair(Machine),
 }
 
-fn hands(fails: bool) -> CountingHands {
-    CountingHands {
+/// How the operator's worker is tried.
+#[derive(Clone, Copy)]
+pub(crate) struct Operating<'a> {
+    pub script: &'a str,
+    /// Whether each act by hand fails, and what is booked at each.
+    pub fails: bool,
+    pub meddling: Option<Meddling>,
+    /// The last act by hand, where there was any, and how many there were.
+    pub last: Option<Act>,
+    pub acts: u32,
+}
+
+/// A stop wants no act by hand. The operator is the last that isn't idle once it is booked.
+pub(crate) const STOPS: Work<'static> = Work {
+    name: "stops a press and the robot",
+    who: Who::Operator(Operating {
+        script: "always,,stop,press1\nalways,,stop,robot\n",
+        fails: true,
+        meddling: None,
         last: None,
         acts: 0,
-        fails,
-    }
+    }),
+    may_be_refused: false,
+    before: (None, NONE, ALL_BUT_OPERATOR),
+    ended: Ended::Told,
+    booked: &["stop_asked,press1,,", "stop_asked,robot,,"],
+    after: (Some(End::Stalled), ALL, ALL_BUT_OPERATOR),
+    length: 2,
+};
+
+// The end is set before the operator begins.
+const IS_TOLD: Work<'static> = Work {
+    name: "is told",
+    who: Who::Operator(Operating {
+        script: "always,,stop,press1\n",
+        fails: false,
+        meddling: None,
+        last: None,
+        acts: 0,
+    }),
+    before: (Some(End::TurnLimit), NONE, NONE),
+    booked: &[],
+    after: (Some(End::TurnLimit), NONE, NONE),
+    length: 0,
+    ..STOPS
+};
+
+// The operator asks the second press to stop.
+const ASKS_STOP: Work<'static> = Work {
+    name: "asks the second press to stop",
+    who: Who::Operator(Operating {
+        script: "always,,stop,press2\n",
+        fails: false,
+        meddling: None,
+        last: None,
+        acts: 0,
+    }),
+    booked: &["stop_asked,press2,,"],
+    length: 1,
+    ..STOPS
+};
+
+// The second press's worker declares that stop.
+const DECLARES_STOP: Work<'static> = Work {
+    name: "declares the stop",
+    who: Who::Machine(Serving {
+        machine: Machine::Press2,
+        failing: Failing::Never,
+        ending: None,
+        sent: None,
+        answers: None,
+    }),
+    before: (None, NONE, ALL_BUT_PRESS2),
+    booked: &["declared,press2,operator_stop,"],
+    after: (Some(End::Stalled), ALL, ALL_BUT_PRESS2),
+    ..STOPS
+};
+
+const REPAIRING: Operating<'static> = Operating {
+    script: "failed,press2,repair,press2\n",
+    fails: false,
+    meddling: None,
+    last: Some(Act::Home(Machine::Press2)),
+    acts: 1,
+};
+
+// The press is put at home once it has failed, and is repaired then.
+const REPAIRS: Work<'static> = Work {
+    name: "repairs the press",
+    who: Who::Operator(REPAIRING),
+    before: (None, ALL_BUT_OPERATOR, ALL_BUT_OPERATOR),
+    booked: &["repaired,press2,,"],
+    length: 3,
+    ..STOPS
+};
+
+// Where that fails nothing is booked, and the operator is lost as the last of all.
+const CANNOT_REPAIR: Work<'static> = Work {
+    name: "can't repair the press",
+    who: Who::Operator(Operating {
+        fails: true,
+        ..REPAIRING
+    }),
+    ended: Ended::PortLost,
+    booked: &[],
+    after: (Some(End::Stalled), ALL, ALL),
+    length: 2,
+    ..REPAIRS
+};
+
+// The repair is allowed when the operator chooses it and refused when he books it: another entry filled the journal, or the
+// press was repaired before. He ends then, and his act by hand isn't booked.
+const FINDS_NO_ROOM: Work<'static> = Work {
+    name: "finds no room for the repair",
+    who: Who::Operator(Operating {
+        meddling: Some(Meddling::Stop(Machine::Feed)),
+        ..REPAIRING
+    }),
+    ended: Ended::Full,
+    booked: &[],
+    after: (Some(End::Full), ALL_BUT_OPERATOR, ALL_BUT_OPERATOR),
+    ..REPAIRS
+};
+
+const FINDS_IT_REPAIRED: Work<'static> = Work {
+    name: "finds the press repaired",
+    who: Who::Operator(Operating {
+        meddling: Some(Meddling::Repair(Machine::Press2)),
+        ..REPAIRING
+    }),
+    ended: Ended::PortLost,
+    booked: &[],
+    after: (Some(End::Stalled), ALL, ALL),
+    ..REPAIRS
+};
+
+const SCENES: [Scene; 6] = [
+    (AMPLE, AMPLE, &[STOPS]),
+    (AMPLE, AMPLE, &[IS_TOLD]),
+    (AMPLE, AMPLE, &[ASKS_STOP, DECLARES_STOP, REPAIRS]),
+    (AMPLE, AMPLE, &[ASKS_STOP, DECLARES_STOP, CANNOT_REPAIR]),
+    (3, 100, &[ASKS_STOP, DECLARES_STOP, FINDS_NO_ROOM]),
+    (AMPLE, AMPLE, &[ASKS_STOP, DECLARES_STOP, FINDS_IT_REPAIRED]),
+];
+
+/// Hands that keep the last act and count all. At each they book an entry of their own or fail, where they are to.
+#[derive(Drop)]
+pub(crate) struct Hands<'a, R: Run, W: Abort + Wait> {
+    rt: &'a W,
+    room: &'a Room<R>,
+    shares: Shares<R>,
+    fails: bool,
+    meddling: Option<Meddling>,
+    last: Option<Act>,
+    acts: u32,
 }
 
-impl CountingHands {
+impl<'a, R: Run, W: Abort + Wait> Hands<'a, R, W> {
+    pub(crate) fn new(rt: &'a W, room: &'a Room<R>, shares: Shares<R>) -> Hands<'a, R, W> {
+        Hands {
+            rt,
+            room,
+            shares,
+            fails: false,
+            meddling: None,
+            last: None,
+            acts: 0,
+        }
+    }
+
     fn act(&mut self, act: Act) -> Result<(), PortFault> {
         self.last = Some(act);
         self.acts = self.acts.saturating_add(1);
+        if let Some(meddling) = self.meddling {
+            let entry = match meddling {
+                Meddling::Stop(machine) => Entry::StopAsked { machine },
+                Meddling::Repair(machine) => Entry::Repaired { machine },
+            };
+            let answer = self.room.hall.lock(self.rt).book(&mut self.shares, entry);
+            check_same(self.rt, &entry, &answer, &Ok(()));
+        }
         if self.fails { Err(PortFault) } else { Ok(()) }
     }
 }
 
-impl OperatorPort for CountingHands {
+impl<R: Run, W: Abort + Wait> OperatorPort for Hands<'_, R, W> {
     fn remove(&mut self, station: Station) -> Result<(), PortFault> {
         self.act(Act::Remove(station))
     }
@@ -50,233 +215,31 @@ impl OperatorPort for CountingHands {
     }
 }
 
-// What the operator's worker begins with, alone in a room, and what has to come of it without any act by hand.
-#[derive(Clone, Copy)]
-struct Alone<'a> {
-    fails: bool,
-    script: &'a str,
-    // Who is lost before it works, and the end that is set then.
-    lost: [bool; 7],
-    end: Option<End>,
-    // The records of what it books, how the run ends, who is idle then, and how many entries the journal has.
-    booked: &'a [&'a str],
-    end_after: End,
-    idle_after: [bool; 7],
-    length: u32,
-}
-
-impl Play for Alone<'_> {
-    fn play<R: Run, W: AllocGlobal + Abort + Wait>(
-        &self,
-        rt: &W,
-        room: &Room<R>,
-        first: Shares<R>,
-        _second: Shares<R>,
-        plan: &Plan,
-    ) {
-        let mut hands = hands(self.fails);
-        let script = script_of(rt, self.script);
-        begin_hall(rt, room, NONE, self.lost, self.end);
-        let worked = run_operator(rt, rt.alloc(), &mut hands, script, room, first, plan);
-        check_worked(rt, &worked, Ended::Told, self.booked);
-        assert!(rt; hands.acts == 0 && hands.last.is_none());
-        check_hall(rt, room, Some(self.end_after), self.idle_after, self.lost);
-        check_length(rt, room, self.length);
-    }
-}
-
-// A stop wants no act by hand. The operator is the last that isn't idle once it is booked.
-#[test]
-fn a_stop_wants_no_act(rt: HostRuntime) {
-    let stops = Alone {
-        fails: true,
-        script: "always,,stop,press1\nalways,,stop,robot\n",
-        lost: all_but(OPERATOR),
-        end: None,
-        booked: &["stop_asked,press1,,", "stop_asked,robot,,"],
-        end_after: End::Stalled,
-        idle_after: ALL,
-        length: 2,
-    };
-    play_in_room(&rt, &stops, &ample_plan(&rt, 1));
-}
-
-// The end is set before the operator begins.
-#[test]
-fn the_operator_ends_where_an_end_is_set(rt: HostRuntime) {
-    let is_told = Alone {
-        fails: false,
-        script: "always,,stop,press1\n",
-        lost: NONE,
-        end: Some(End::TurnLimit),
-        booked: &[],
-        end_after: End::TurnLimit,
-        idle_after: NONE,
-        length: 0,
-    };
-    play_in_room(&rt, &is_told, &ample_plan(&rt, 1));
-}
-
-/// The operator repairs the second press once it has failed.
-const REPAIR: &str = "failed,press2,repair,press2\n";
-
-// The operator asks the second press to stop.
-fn ask_stop<R: Run, W: AllocGlobal + Abort + Wait>(
+/// The operator's worker works, and his hands do what is wanted. The call is marked, so that it can be refused memory.
+pub(crate) fn operate<R: Run, W: AllocGlobal + Abort + Wait>(
     rt: &W,
     room: &Room<R>,
     shares: Shares<R>,
+    hands: &mut Hands<'_, R, W>,
+    name: &str,
+    operating: &Operating,
     plan: &Plan,
-) -> Shares<R> {
-    let mut hands = hands(false);
-    let script = script_of(rt, "always,,stop,press2\n");
-    set_hall(rt, room, NONE, all_but(OPERATOR));
-    let asked = run_operator(rt, rt.alloc(), &mut hands, script, room, shares, plan);
-    check_worked(rt, &asked, Ended::Told, &["stop_asked,press2,,"]);
-    asked.shares
-}
-
-// The second press's worker declares that stop.
-fn declare_stop<R: Run, W: AllocGlobal + Abort + Wait>(
-    rt: &W,
-    room: &Room<R>,
-    shares: Shares<R>,
-    plan: &Plan,
-) -> Shares<R> {
-    let press = Machine::Press2;
-    let world = Mutex::new(World::new(1));
-    let faults = faults_of(rt, "");
-    let mut port = SimPort::new(rt, &world, press, &faults);
-    set_hall(rt, room, NONE, all_but(PRESS2));
-    let failed = run_worker(rt, rt.alloc(), press, &mut port, room, shares, plan);
-    let booked = ["declared,press2,operator_stop,"];
-    check_worked(rt, &failed, Ended::Told, &booked);
-    check_hall(rt, room, Some(End::Stalled), ALL, all_but(PRESS2));
-    failed.shares
-}
-
-// The operator asks the second press to stop, which its worker declares. Their shares come back.
-fn fail_press<R: Run, W: AllocGlobal + Abort + Wait>(
-    rt: &W,
-    room: &Room<R>,
-    first: Shares<R>,
-    second: Shares<R>,
-    plan: &Plan,
-) -> (Shares<R>, Shares<R>) {
-    let first = ask_stop(rt, room, first, plan);
-    let second = declare_stop(rt, room, second, plan);
-    set_hall(rt, room, all_but(OPERATOR), all_but(OPERATOR));
-    (first, second)
-}
-
-// The press is put at home once it has failed, and is repaired then. Where that fails nothing is booked, and the operator is
-// lost as the last of all.
-struct Repairs {
-    fails: bool,
-}
-
-impl Play for Repairs {
-    fn play<R: Run, W: AllocGlobal + Abort + Wait>(
-        &self,
-        rt: &W,
-        room: &Room<R>,
-        first: Shares<R>,
-        second: Shares<R>,
-        plan: &Plan,
-    ) {
-        let (shares, _) = fail_press(rt, room, first, second, plan);
-        let mut hands = hands(self.fails);
-        let script = script_of(rt, REPAIR);
-        let worked = run_operator(rt, rt.alloc(), &mut hands, script, room, shares, plan);
-        let home = Some(Act::Home(Machine::Press2));
-        check_same(rt, &"the last act", &hands.last, &home);
-        check_same(rt, &"how many acts", &hands.acts, &1);
-        let (ended, booked, lost, length): (Ended, &[&str], [bool; 7], u32) = if self.fails {
-            (Ended::PortLost, &[], ALL, 2)
-        } else {
-            (Ended::Told, &["repaired,press2,,"], all_but(OPERATOR), 3)
-        };
-        check_list(rt, &worked, ended, booked);
-        check_hall(rt, room, Some(End::Stalled), ALL, lost);
-        check_length(rt, room, length);
-    }
+) -> Worked<R> {
+    hands.fails = operating.fails;
+    hands.meddling = operating.meddling;
+    let script = script_of(rt, operating.script);
+    let alloc = rt.alloc();
+    call_begins(alloc);
+    let worked = run_operator(rt, alloc, hands, script, room, shares, plan);
+    call_ends(alloc, worked.ended == Ended::Memory);
+    let (found, wanted) = ((hands.last, hands.acts), (operating.last, operating.acts));
+    check_same(rt, &name, &found, &wanted);
+    worked
 }
 
 #[test]
-fn a_repair_is_booked_after_its_act(rt: HostRuntime) {
-    let plan = ample_plan(&rt, 1);
-    play_in_room(&rt, &Repairs { fails: false }, &plan);
-    play_in_room(&rt, &Repairs { fails: true }, &plan);
-}
-
-// Hands that book an entry of their own while they put a machine at home: a stop of the feed belt, or the machine's repair.
-#[derive(Drop)]
-struct MeddlingHands<'a, R: Run, W: Abort + Wait> {
-    rt: &'a W,
-    room: &'a Room<R>,
-    shares: Shares<R>,
-    repairs: bool,
-    acts: u32,
-}
-
-impl<R: Run, W: Abort + Wait> OperatorPort for MeddlingHands<'_, R, W> {
-    fn remove(&mut self, _station: Station) -> Result<(), PortFault> {
-        Err(PortFault)
+fn an_act_by_hand_comes_before_its_entry(rt: HostRuntime) {
+    for scene in SCENES {
+        play_in_room(&rt, scene);
     }
-
-    fn home(&mut self, machine: Machine) -> Result<(), PortFault> {
-        self.acts = self.acts.saturating_add(1);
-        let entry = if self.repairs {
-            Entry::Repaired { machine }
-        } else {
-            let machine = Machine::Feed;
-            Entry::StopAsked { machine }
-        };
-        let answer = self.room.hall.lock(self.rt).book(&mut self.shares, entry);
-        check_same(self.rt, &entry, &answer, &Ok(()));
-        Ok(())
-    }
-}
-
-// The repair is allowed when the operator chooses it and refused when he books it: another entry filled the journal, or the
-// press was repaired before. He ends then, and his act by hand isn't booked.
-struct IsRefused {
-    repairs: bool,
-}
-
-impl Play for IsRefused {
-    fn play<R: Run, W: AllocGlobal + Abort + Wait>(
-        &self,
-        rt: &W,
-        room: &Room<R>,
-        first: Shares<R>,
-        second: Shares<R>,
-        plan: &Plan,
-    ) {
-        let (first, second) = fail_press(rt, room, first, second, plan);
-        let mut hands = MeddlingHands {
-            rt,
-            room,
-            shares: second,
-            repairs: self.repairs,
-            acts: 0,
-        };
-        let script = script_of(rt, REPAIR);
-        let worked = run_operator(rt, rt.alloc(), &mut hands, script, room, first, plan);
-        check_same(rt, &"how many acts", &hands.acts, &1);
-        let (ended, end, idle) = if self.repairs {
-            (Ended::PortLost, End::Stalled, ALL)
-        } else {
-            (Ended::Full, End::Full, all_but(OPERATOR))
-        };
-        check_list(rt, &worked, ended, &[]);
-        check_hall(rt, room, Some(end), idle, idle);
-        check_length(rt, room, 3);
-    }
-}
-
-#[test]
-fn a_refused_booking_ends_the_operator(rt: HostRuntime) {
-    let plan = plan_of(&rt, 1, 3, 100);
-    play_in_room(&rt, &IsRefused { repairs: false }, &plan);
-    play_in_room(&rt, &IsRefused { repairs: true }, &ample_plan(&rt, 1));
 }

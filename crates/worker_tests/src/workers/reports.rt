@@ -2,7 +2,7 @@
 use crate::same::check_same;
 use cell_audit::{audit, write_journal};
 use cell_samples::is_list_of;
-use cell_types::{Actor, Entry, Machine, Totals};
+use cell_types::{Actor, Machine, Totals};
 use cell_views::count_of;
 use cell_workers::{End, Plan, Report};
 use std::process::Abort;
@@ -18,8 +18,8 @@ const ACTORS: [Actor; 7] = [
     Actor::Operator,
 ];
 
-// Adds up the counts of two workers.
-fn sum_of(some: Totals, others: Totals) -> Totals {
+/// Adds up the counts of two workers.
+pub(crate) fn sum_of(some: Totals, others: Totals) -> Totals {
     Totals {
         entries: some.entries.saturating_add(others.entries),
         admitted: some.admitted.saturating_add(others.admitted),
@@ -30,19 +30,18 @@ fn sum_of(some: Totals, others: Totals) -> Totals {
     }
 }
 
-// Checks that a list is an actor's entries of the journal, and has these counts.
-fn check_list(rt: &impl Abort, report: &Report, actor: Actor, list: &[Entry], counts: Totals) {
-    let is_his = is_list_of(&report.journal, actor, list);
-    check_same(rt, &actor, &is_his, &true);
-    check_same(rt, &actor, &count_of(list), &counts);
-}
-
-/// Checks that each worker's list is its actor's entries of the journal, its counts are those of its list, and the counts of
-/// all add up to the totals.
-pub(crate) fn check_lists(rt: &impl Abort, report: &Report) {
+// Checks that each worker's list is its actor's entries of the journal, its counts are those of its list, and the counts of
+// all add up to the totals.
+fn check_lists(rt: &impl Abort, report: &Report) {
     let mut all = count_of(&[]);
     for ((list, counts), actor) in report.workers.iter().zip(ACTORS.iter()) {
-        check_list(rt, report, *actor, list.as_slice(), *counts);
+        let is_his = is_list_of(&report.journal, *actor, list.as_slice());
+        check_same(
+            rt,
+            actor,
+            &(is_his, count_of(list.as_slice())),
+            &(true, *counts),
+        );
         all = sum_of(all, *counts);
     }
     check_same(rt, &"the totals", &all, &report.totals);

@@ -1,5 +1,5 @@
 //! Worked runs of the simulated cell on threads.
-use crate::workers::cell::{ample_plan, plan_of, run_world};
+use crate::workers::cell::{AMPLE, plan_of, run_world};
 use crate::workers::reports::check_end;
 use cell_samples::{CLEARED_PRESS, STUCK_PRESS};
 use cell_workers::End;
@@ -7,60 +7,49 @@ use std::process::Abort;
 use std::sync::Wait;
 use std::thread::Threads;
 
-// A run of five plates with no fault, which all are forged and delivered.
-fn check_five<R: AllocGlobal + Abort + Threads + Wait + Sync>(rt: &R) {
-    let report = run_world(rt, &ample_plan(rt, 5), "", "");
-    check_end(rt, &report, End::Finished, [5, 5, 0, 5]);
-}
+// A run: how many plates there are, how many turns each worker has, the scripts of faults and of the operator, how the run
+// ends, and what it counts: admitted, forged, quarantined, delivered.
+type Row = (u32, u32, &'static str, &'static str, End, [u32; 4]);
 
-// A run of six plates of which one stays in the second press, and is cleared.
-fn check_cleared<R: AllocGlobal + Abort + Threads + Wait + Sync>(rt: &R) {
-    let report = run_world(rt, &ample_plan(rt, 6), STUCK_PRESS, CLEARED_PRESS);
-    check_end(rt, &report, End::Finished, [6, 5, 1, 5]);
-}
+// Five plates are all forged and delivered. Of six one stays in the second press, and is cleared or left there.
+const ROWS: [Row; 3] = [
+    (5, AMPLE, "", "", End::Finished, [5, 5, 0, 5]),
+    (
+        6,
+        AMPLE,
+        STUCK_PRESS,
+        CLEARED_PRESS,
+        End::Finished,
+        [6, 5, 1, 5],
+    ),
+    (6, AMPLE, STUCK_PRESS, "", End::Stalled, [6, 5, 0, 5]),
+];
 
-// The same run with no operator: the plate is left in the press.
-fn check_not_cleared<R: AllocGlobal + Abort + Threads + Wait + Sync>(rt: &R) {
-    let report = run_world(rt, &ample_plan(rt, 6), STUCK_PRESS, "");
-    check_end(rt, &report, End::Stalled, [6, 5, 0, 5]);
-}
+// One turn each is too few.
+const SHORT: Row = (5, 1, "", "", End::TurnLimit, [0, 0, 0, 0]);
 
-#[test]
-fn five_plates_are_delivered(rt: HostRuntime) {
-    check_five(&rt);
-}
-
-#[test]
-fn a_stuck_press_is_cleared(rt: HostRuntime) {
-    check_cleared(&rt);
-}
-
-#[test]
-fn a_stuck_press_that_is_left_stalls_the_run(rt: HostRuntime) {
-    check_not_cleared(&rt);
-}
-
-#[test]
-fn a_full_journal_ends_the_run(rt: HostRuntime) {
-    for limit in 1..101u32 {
-        let report = run_world(&rt, &plan_of(&rt, 5, limit, 100_000), "", "");
-        assert_eq!(rt; report.end, End::Full, "with room for {limit} entries");
-        assert!(rt; limit <= report.journal.len());
-    }
-}
-
-#[test]
-fn one_turn_each_is_too_few(rt: HostRuntime) {
-    let report = run_world(&rt, &plan_of(&rt, 5, 100_000, 1), "", "");
-    check_end(&rt, &report, End::TurnLimit, [0, 0, 0, 0]);
+fn check_row<R: AllocGlobal + Abort + Threads + Wait + Sync>(rt: &R, row: Row) {
+    let (plates, turns, faults, operator, end, totals) = row;
+    let report = run_world(rt, &plan_of(rt, plates, AMPLE, turns), faults, operator);
+    check_end(rt, &report, end, totals);
 }
 
 // The same runs again and again: no schedule of the threads may change how they end.
 #[test]
 fn every_schedule_ends_in_the_same_way(rt: HostRuntime) {
-    for _ in 0..40u32 {
-        check_five(&rt);
-        check_cleared(&rt);
-        check_not_cleared(&rt);
+    check_row(&rt, SHORT);
+    for _ in 0..41u32 {
+        for row in ROWS {
+            check_row(&rt, row);
+        }
+    }
+}
+
+#[test]
+fn a_full_journal_ends_the_run(rt: HostRuntime) {
+    for limit in 1..101u32 {
+        let report = run_world(&rt, &plan_of(&rt, 5, limit, AMPLE), "", "");
+        assert_eq!(rt; report.end, End::Full, "with room for {limit} entries");
+        assert!(rt; limit <= report.journal.len());
     }
 }
