@@ -1,5 +1,5 @@
 //! The migration of texts from profile 1, whole, cut and from readers that fail, and to writers that fail.
-use crate::audit::{answer_for, due_for_a_cut_text};
+use crate::audit::{CARRIED, FOUR_ENTRIES, due_for_a_cut_text, judges};
 use cell_audit::{AuditError, MigrateError, migrate};
 use cell_lines::{WriteFault, migrate_lines};
 use cell_samples::{
@@ -12,47 +12,149 @@ use cell_views::{
 };
 use plate_book::Refusal;
 use std::alloc::Global;
-use std::io::{Read, Write};
+use std::io::Read;
 use std::process::Abort;
 
-// What a reader hands out is migrated to a writer, or refused. The number of its bytes is told where that is wrong.
-fn migrates<R: Read + Drop, W: Write>(
+// What a migration answers: the totals, or why the text isn't migrated.
+type Answer = Result<Totals, MigrateError>;
+
+const FIRST_ENTRIES: &[u8] =
+    b"profile,1,,\nlamp,feed,green,\nadmitted,1,,\nstarted,feed_belt,to_end,\nconveyed,feed_belt,1,feed_end\n";
+
+const FIRST_ENTRIES_MIGRATED: &[u8] =
+    b"profile,2,,\nlamp,feed,green,\nadmitted,1,,\nstarted,feed_belt,to_end,\nconveyed,feed_belt,1,feed_end\n";
+
+// Texts, the answers, and what is written: nothing of a text that is refused.
+const TEXTS: [(&[u8], Answer, &[u8]); 9] = [
+    (FIRST_ENTRIES, Ok(FOUR_ENTRIES), FIRST_ENTRIES_MIGRATED),
+    (
+        FIRST_ENTRIES_MIGRATED,
+        Err(MigrateError::Unreadable(0)),
+        b"",
+    ),
+    (b"", Err(MigrateError::Unreadable(0)), b""),
+    (b"profile,2,,\n", Err(MigrateError::Unreadable(0)), b""),
+    (b"profile,3,,\n", Err(MigrateError::Unreadable(0)), b""),
+    (b"lamp,feed,green,\n", Err(MigrateError::Unreadable(0)), b""),
+    (
+        b"profile,1,,\nadmitted,1,,\n",
+        Err(MigrateError::Refused(1, Refusal::LampRed(Belt::Feed))),
+        b"",
+    ),
+    (
+        b"profile,1,,\nlamp,feed,green,\nadmitted,1,,\nadmitted,2,,\n",
+        Err(MigrateError::Refused(3, Refusal::LampRed(Belt::Feed))),
+        b"",
+    ),
+    (
+        b"profile,1,,\nlamp,feed,green,\nprofile,1,,\n",
+        Err(MigrateError::Unreadable(2)),
+        b"",
+    ),
+];
+
+// Texts, the statuses, and what is written to the writer and to that of the errors.
+const PRINTED: [(&[u8], u8, &str, &str); 4] = [
+    (
+        b"profile,1,,\nlamp,feed,green,\n",
+        0,
+        "profile,2,,\nlamp,feed,green,\n",
+        "",
+    ),
+    (
+        b"profile,1,,\nadmitted,1,,\n",
+        1,
+        "",
+        "refused 1 LampRed feed\n",
+    ),
+    (b"profile,1,,\nlamp,feed,green\n", 1, "", "unreadable 1\n"),
+    (b"profile,2,,\n", 1, "", "unreadable 0\n"),
+];
+
+// What a reader hands out is migrated to this text, or refused. The number of its bytes is told where that is wrong.
+fn migrates<R: Read + Drop>(
     rt: &impl Abort,
     alloc: Global,
     (reader, length): (R, usize),
-    writer: &mut W,
-    wanted: Result<Totals, MigrateError>,
+    wanted: Answer,
+    text: &[u8],
 ) {
-    let answer = migrate(alloc, reader, writer);
+    let mut written = Vec::new(alloc);
+    let answer = migrate(alloc, reader, &mut written);
     assert_eq!(rt; answer, wanted, "{length} bytes");
+    assert!(rt; written.as_slice() == text, "{length} bytes");
 }
 
-// A text is migrated to this one, with these totals, at once and byte by byte, and where reads and writes are interrupted.
-fn is_migrated(rt: &impl Abort, alloc: Global, text: &[u8], totals: Totals, wanted: &[u8]) {
-    let mut written = Vec::new(alloc);
-    migrates(rt, alloc, (text, text.len()), &mut written, Ok(totals));
-    assert_eq!(rt; written.as_slice(), wanted);
+// The same for a text at once and byte by byte, and where reads and writes are interrupted.
+fn is_migrated(rt: &impl Abort, alloc: Global, text: &[u8], wanted: Answer, migrated: &[u8]) {
+    migrates(rt, alloc, (text, text.len()), wanted, migrated);
     let slow = Interrupted::new(Pieces::new(text, 1));
     let mut writer = Interrupted::new(Pieces::new(Vec::new(alloc), 1));
-    migrates(rt, alloc, (slow, text.len()), &mut writer, Ok(totals));
-    assert_eq!(rt; writer.inner().inner().as_slice(), wanted);
+    let answer = migrate(alloc, slow, &mut writer);
+    assert!(rt; answer == wanted, "{} bytes, slowly", text.len());
+    assert!(rt;
+        writer.inner().inner().as_slice() == migrated,
+        "{} bytes, slowly",
+        text.len()
+    );
 }
 
-// What a reader hands out is refused so, and nothing is written.
-fn is_refused<R: Read + Drop>(
-    rt: &impl Abort,
-    alloc: Global,
-    source: (R, usize),
-    wanted: MigrateError,
-) {
-    let mut written = Vec::new(alloc);
-    migrates(rt, alloc, source, &mut written, Err(wanted));
-    assert!(rt; written.is_empty());
+#[test]
+fn migrates_texts_of_profile_1_and_writes_nothing_of_others(rt: HostRuntime) {
+    let alloc = rt.alloc();
+    for (text, wanted, migrated) in TEXTS {
+        is_migrated(&rt, alloc, text, wanted, migrated);
+    }
+    let due = Ok((2, FOUR_ENTRIES));
+    judges(&rt, alloc, FIRST_ENTRIES_MIGRATED, due, ("migrated", 4));
+    let laid_back = text_of(alloc, 1, &LAID_BACK).expect(&rt, "memory");
+    let wanted = Err(MigrateError::Unreadable(11));
+    is_migrated(&rt, alloc, laid_back.as_slice(), wanted, b"");
 }
 
-// A text is refused so, and nothing is written.
-fn text_is_refused(rt: &impl Abort, alloc: Global, text: &[u8], wanted: MigrateError) {
-    is_refused(rt, alloc, (text, text.len()), wanted);
+// The first bytes of the text of one plate's journal are migrated, or refused, as is due.
+fn cut_is_migrated(rt: &impl Abort, alloc: Global, text: &[u8], rest: &[u8]) {
+    match due_for_a_cut_text(1, text, rest) {
+        Ok((_, totals)) => {
+            let records = &ONE_PLATE[..(totals.entries as usize).min(ONE_PLATE.len())];
+            let wanted = text_of(alloc, 2, records).expect(rt, "memory");
+            is_migrated(rt, alloc, text, Ok(totals), wanted.as_slice());
+        }
+        Err(AuditError::Unreadable(place)) => {
+            is_migrated(rt, alloc, text, Err(MigrateError::Unreadable(place)), b"");
+        }
+        Err(_) => panic!(rt; "a part of a legal text is refused"),
+    }
+}
+
+// A writer that fails after so many bytes has taken the first part of what is written for the text of one plate's
+// journal.
+fn part_is_written(rt: &impl Abort, alloc: Global, text: &[u8], whole: &[u8], left: usize) {
+    let mut writer = FailingWriter::new(Vec::new(alloc), left);
+    let answer = migrate(alloc, text, &mut writer);
+    let wanted = if left < whole.len() {
+        Err(MigrateError::WriteFault)
+    } else {
+        Ok(CARRIED)
+    };
+    assert_eq!(rt; answer, wanted, "after {left} bytes");
+    let part = &whole[..left.min(whole.len())];
+    assert!(rt; writer.inner().as_slice() == part, "after {left} bytes");
+}
+
+#[test]
+fn tells_what_is_due_where_the_text_is_cut_or_its_reader_or_writer_fails(rt: HostRuntime) {
+    let carried = one_plate_text(rt.alloc(), 1).expect(&rt, "memory");
+    let migrated = one_plate_text(rt.alloc(), 2).expect(&rt, "memory");
+    let whole = carried.as_slice();
+    for left in 0..whole.len() + 1 {
+        let (text, rest) = whole.split_at(left);
+        cut_is_migrated(&rt, rt.alloc(), text, rest);
+        let failing = FailingReader::new(whole, left);
+        let fault = Err(MigrateError::ReadFault);
+        migrates(&rt, rt.alloc(), (failing, left), fault, b"");
+        part_is_written(&rt, rt.alloc(), whole, migrated.as_slice(), left);
+    }
 }
 
 // The entries of a text of one record a line.
@@ -67,257 +169,95 @@ fn entries_in(rt: &impl Abort, alloc: Global, text: &[u8]) -> Vec<Entry> {
     entries
 }
 
-// The views tell the same of the first two plates and of each axis.
+// The views tell the same of the first two plates, of each axis and each light, and of the whole.
 fn place_the_same(rt: &impl Abort, old: &[Entry], new: &[Entry]) {
     for number in [1, 2] {
         let plate = plate(number).expect(rt, "a plate");
-        assert_eq!(rt; place_of(new, plate), place_of(old, plate));
+        assert!(rt;
+            place_of(new, plate) == place_of(old, plate),
+            "plate {number}"
+        );
     }
     for axis in AXES {
-        assert_eq!(rt; pose_of(new, axis), pose_of(old, axis));
+        assert!(rt; pose_of(new, axis) == pose_of(old, axis), "an axis");
     }
+    for belt in BELTS {
+        assert!(rt; lamp_of(new, belt) == lamp_of(old, belt), "a light");
+    }
+    assert!(rt; count_of(new) == count_of(old), "the totals");
+    assert!(rt;
+        expected_of(new) == expected_of(old),
+        "the plate that is expected"
+    );
 }
 
 // The views tell the same of each zone and each machine.
 fn hold_the_same(rt: &impl Abort, old: &[Entry], new: &[Entry]) {
     for zone in ZONES {
-        assert_eq!(rt; holder_of(new, zone), holder_of(old, zone));
+        assert!(rt; holder_of(new, zone) == holder_of(old, zone), "a zone");
     }
     for machine in MACHINES {
-        assert_eq!(rt; is_failed(new, machine), is_failed(old, machine));
-        assert_eq!(rt; is_asked(new, machine), is_asked(old, machine));
+        assert!(rt;
+            is_failed(new, machine) == is_failed(old, machine),
+            "a failure"
+        );
+        assert!(rt; is_asked(new, machine) == is_asked(old, machine), "a stop");
     }
-}
-
-// The views tell the same of two lists of entries.
-fn tell_the_same(rt: &impl Abort, old: &[Entry], new: &[Entry]) {
-    place_the_same(rt, old, new);
-    hold_the_same(rt, old, new);
-    for belt in BELTS {
-        assert_eq!(rt; lamp_of(new, belt), lamp_of(old, belt));
-    }
-    assert_eq!(rt; count_of(new), count_of(old));
-    assert_eq!(rt; expected_of(new), expected_of(old));
 }
 
 // A text of so many entries is migrated, and the views tell the same of both texts' entries.
 fn check_views(rt: &impl Abort, alloc: Global, text: &[u8], count: usize) {
     let mut written = Vec::new(alloc);
     let old = entries_in(rt, alloc, text);
-    let totals = count_of(old.as_slice());
-    migrates(rt, alloc, (text, text.len()), &mut written, Ok(totals));
+    let answer = migrate(alloc, text, &mut written);
+    assert_eq!(rt; answer, Ok(count_of(old.as_slice())), "{count} entries");
     let new = entries_in(rt, alloc, written.as_slice());
-    assert_eq!(rt; old.len(), count);
-    assert_eq!(rt; new.len(), count);
-    tell_the_same(rt, old.as_slice(), new.as_slice());
-}
-
-// The text of a profile with no entries, and then this one.
-fn text_in_profile(rt: &impl Abort, alloc: Global, profile: u8, records: &[u8]) -> Vec<u8> {
-    let mut text = text_of(alloc, profile, &[]).expect(rt, "memory");
-    text.extend_from_slice(records).expect(rt, "memory");
-    text
-}
-
-#[test]
-fn migrates_the_first_entries_of_a_journal(rt: HostRuntime) {
-    let alloc = rt.alloc();
-    let totals = Totals {
-        entries: 4,
-        admitted: 1,
-        forged: 0,
-        quarantined: 0,
-        delivered: 0,
-        reinstated: 0,
-    };
-    let records =
-        b"lamp,feed,green,\nadmitted,1,,\nstarted,feed_belt,to_end,\nconveyed,feed_belt,1,feed_end\n";
-    let text = text_in_profile(&rt, alloc, 1, records);
-    let wanted = text_in_profile(&rt, alloc, 2, records);
-    is_migrated(&rt, alloc, text.as_slice(), totals, wanted.as_slice());
-    let answer = answer_for(alloc, wanted.as_slice());
-    assert_eq!(rt; answer, Ok((2, totals)));
-    text_is_refused(&rt, alloc, wanted.as_slice(), MigrateError::Unreadable(0));
-}
-
-#[test]
-fn refuses_texts_and_writes_nothing(rt: HostRuntime) {
-    let alloc = rt.alloc();
-    let red = Refusal::LampRed(Belt::Feed);
-    for (text, wanted) in [
-        (b"".as_slice(), MigrateError::Unreadable(0)),
-        (b"profile,2,,\n", MigrateError::Unreadable(0)),
-        (b"profile,3,,\n", MigrateError::Unreadable(0)),
-        (b"lamp,feed,green,\n", MigrateError::Unreadable(0)),
-        (
-            b"profile,1,,\nadmitted,1,,\n",
-            MigrateError::Refused(1, red),
-        ),
-        (
-            b"profile,1,,\nlamp,feed,green,\nadmitted,1,,\nadmitted,2,,\n",
-            MigrateError::Refused(3, red),
-        ),
-        (
-            b"profile,1,,\nlamp,feed,green,\nprofile,1,,\n",
-            MigrateError::Unreadable(2),
-        ),
-    ] {
-        text_is_refused(&rt, alloc, text, wanted);
-    }
-    let laid_back = text_of(alloc, 1, &LAID_BACK).expect(&rt, "memory");
-    let wanted = MigrateError::Unreadable(11);
-    text_is_refused(&rt, alloc, laid_back.as_slice(), wanted);
-}
-
-// The first bytes of the text of one plate's journal are migrated, or refused, as is due.
-fn cut_is_migrated(rt: &impl Abort, alloc: Global, text: &[u8], rest: &[u8]) {
-    match due_for_a_cut_text(text, rest) {
-        Ok((_, totals)) => {
-            let records = &ONE_PLATE[..(totals.entries as usize).min(ONE_PLATE.len())];
-            let wanted = text_of(alloc, 2, records).expect(rt, "memory");
-            is_migrated(rt, alloc, text, totals, wanted.as_slice());
-        }
-        Err(AuditError::Unreadable(place)) => {
-            text_is_refused(rt, alloc, text, MigrateError::Unreadable(place));
-        }
-        Err(_) => panic!(rt; "a part of a legal text is refused"),
-    }
-}
-
-#[test]
-fn migrates_a_text_that_is_cut_anywhere(rt: HostRuntime) {
-    let carried = one_plate_text(rt.alloc(), 1).expect(&rt, "memory");
-    let whole = carried.as_slice();
-    for cut in 0..whole.len() + 1 {
-        let (text, rest) = whole.split_at(cut);
-        cut_is_migrated(&rt, rt.alloc(), text, rest);
-    }
-}
-
-#[test]
-fn tells_that_the_reader_failed_and_writes_nothing(rt: HostRuntime) {
-    let carried = one_plate_text(rt.alloc(), 1).expect(&rt, "memory");
-    let text = carried.as_slice();
-    for left in 0..text.len() + 1 {
-        let reader = FailingReader::new(text, left);
-        is_refused(&rt, rt.alloc(), (reader, left), MigrateError::ReadFault);
-    }
-}
-
-// A writer that fails after so many bytes has taken the first part of what is written for a text of these totals.
-fn part_is_written(
-    rt: &impl Abort,
-    alloc: Global,
-    text: &[u8],
-    totals: Totals,
-    whole: &[u8],
-    left: usize,
-) {
-    let mut writer = FailingWriter::new(Vec::new(alloc), left);
-    let wanted = if left < whole.len() {
-        Err(MigrateError::WriteFault)
-    } else {
-        Ok(totals)
-    };
-    migrates(rt, alloc, (text, left), &mut writer, wanted);
-    let part = &whole[..left.min(whole.len())];
-    assert_eq!(rt; writer.inner().as_slice(), part, "after {left} bytes");
-}
-
-#[test]
-fn tells_that_the_writer_failed_after_any_number_of_bytes(rt: HostRuntime) {
-    let alloc = rt.alloc();
-    let totals = Totals {
-        entries: 62,
-        admitted: 1,
-        forged: 1,
-        quarantined: 0,
-        delivered: 1,
-        reinstated: 0,
-    };
-    let carried = one_plate_text(alloc, 1).expect(&rt, "memory");
-    let whole = one_plate_text(alloc, 2).expect(&rt, "memory");
-    for left in 0..whole.len() + 1 {
-        part_is_written(
-            &rt,
-            alloc,
-            carried.as_slice(),
-            totals,
-            whole.as_slice(),
-            left,
-        );
-    }
-}
-
-// The views tell the same of each first part of these records in both profiles.
-fn keeps_views(rt: &impl Abort, alloc: Global, records: &[&str]) {
-    for place in 0..records.len() + 1 {
-        let text = text_of(alloc, 1, &records[..place]).expect(rt, "memory");
-        check_views(rt, alloc, text.as_slice(), place);
-    }
+    assert!(rt; old.len() == count && new.len() == count, "{count} entries");
+    place_the_same(rt, old.as_slice(), new.as_slice());
+    hold_the_same(rt, old.as_slice(), new.as_slice());
 }
 
 #[test]
 fn keeps_what_the_views_tell(rt: HostRuntime) {
-    keeps_views(&rt, rt.alloc(), &ONE_PLATE);
-    keeps_views(&rt, rt.alloc(), &LAID_BACK[..10]);
-}
-
-// What a migration answers, writes and tells of a text.
-fn prints(rt: &impl Abort, alloc: Global, text: &[u8], status: u8, wanted: &[u8], line: &[u8]) {
-    let mut written = Vec::new(alloc);
-    let mut errors = Vec::new(alloc);
-    answers(rt, alloc, text, &mut written, &mut errors, Ok(status));
-    assert_eq!(rt; written.as_slice(), wanted);
-    assert_eq!(rt; errors.as_slice(), line);
-}
-
-// A reader's text is migrated with lines to a writer and to another for what is wrong, with this answer.
-fn answers<R: Read + Drop, W: Write, E: Write>(
-    rt: &impl Abort,
-    alloc: Global,
-    reader: R,
-    writer: &mut W,
-    errors: &mut E,
-    wanted: Result<u8, WriteFault>,
-) {
-    assert_eq!(rt; migrate_lines(alloc, reader, writer, errors), wanted);
-}
-
-#[test]
-fn prints_the_line_of_a_refusal_elsewhere(rt: HostRuntime) {
-    for (text, status, wanted, line) in [
-        (
-            b"profile,1,,\nlamp,feed,green,\n".as_slice(),
-            0,
-            b"profile,2,,\nlamp,feed,green,\n".as_slice(),
-            b"".as_slice(),
-        ),
-        (
-            b"profile,1,,\nadmitted,1,,\n",
-            1,
-            b"",
-            b"refused 1 LampRed feed\n",
-        ),
-        (b"profile,1,,\nlamp,feed,green\n", 1, b"", b"unreadable 1\n"),
-        (b"profile,2,,\n", 1, b"", b"unreadable 0\n"),
-    ] {
-        prints(&rt, rt.alloc(), text, status, wanted, line);
+    for records in [ONE_PLATE.as_slice(), &LAID_BACK[..10]] {
+        for place in 0..records.len() + 1 {
+            let text = text_of(rt.alloc(), 1, &records[..place]).expect(&rt, "memory");
+            check_views(&rt, rt.alloc(), text.as_slice(), place);
+        }
     }
 }
 
-#[test]
-fn ends_with_a_fault_of_its_reader_or_writers(rt: HostRuntime) {
-    let alloc = rt.alloc();
+// What a migration of a reader's text answers, writes and tells.
+fn prints<R: Read + Drop>(
+    rt: &impl Abort,
+    alloc: Global,
+    reader: R,
+    status: u8,
+    [migrated, line]: [&str; 2],
+) {
     let mut written = Vec::new(alloc);
     let mut errors = Vec::new(alloc);
+    let answer = migrate_lines(alloc, reader, &mut written, &mut errors);
+    assert_eq!(rt; answer, Ok(status), "{migrated}{line}");
+    assert_eq!(rt; written.as_slice(), migrated.as_bytes(), "{migrated}{line}");
+    assert_eq!(rt; errors.as_slice(), line.as_bytes(), "{migrated}{line}");
+}
+
+#[test]
+fn prints_the_line_of_a_refusal_elsewhere_and_ends_with_a_fault_of_its_reader_or_writers(
+    rt: HostRuntime,
+) {
+    for (text, status, migrated, line) in PRINTED {
+        prints(&rt, rt.alloc(), text, status, [migrated, line]);
+    }
     let text = b"profile,1,,\nlamp,feed,green,\n".as_slice();
     let failing = FailingReader::new(text, 20);
-    answers(&rt, alloc, failing, &mut written, &mut errors, Ok(3));
-    let fault = Err(WriteFault);
-    answers(&rt, alloc, text, &mut Unwilling, &mut errors, fault);
-    assert!(rt; errors.is_empty());
-    let other = b"profile,2,,\n".as_slice();
-    answers(&rt, alloc, other, &mut written, &mut Unwilling, fault);
-    assert!(rt; written.is_empty());
+    prints(&rt, rt.alloc(), failing, 3, ["", ""]);
+    let mut taken = Vec::new(rt.alloc());
+    let answer = migrate_lines(rt.alloc(), text, &mut Unwilling, &mut taken);
+    assert!(rt; answer == Err(WriteFault), "the text isn't taken");
+    let text = b"profile,2,,\n".as_slice();
+    let answer = migrate_lines(rt.alloc(), text, &mut taken, &mut Unwilling);
+    assert!(rt; answer == Err(WriteFault), "the line isn't taken");
+    assert!(rt; taken.is_empty());
 }

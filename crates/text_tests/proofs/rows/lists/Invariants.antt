@@ -1,5 +1,5 @@
 use Rattle.cell_rows.specs.Rows.{IsOpen}
-use Rattle.text_tests.proofs.rows.listed.Given as goal
+use Rattle.text_tests.proofs.rows.lists.Given as goal
 
 abbrev pub invariant-loop : goal.invariant-loop
 invariant-loop g l = IsOpen l.rows
