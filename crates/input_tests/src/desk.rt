@@ -93,8 +93,8 @@ const AFTER_STOPS: [(usize, &[u8], Refused); 9] = [
 // A story: how many entries of the journal of one plate are booked first, the script, and then steps, parted by bars.
 // These are the steps: `book` a record; `next` says by which record the script's next action is booked, and `nothing`
 // that there is none; `does` says the same as `next`, and the record is booked and the line done; `done` is the line
-// alone. `empty` asks whether no plate is at a station, `filled` whether the first plate is, `asked` and `sound` whether
-// a stop is asked of a machine and whether it isn't failed, and `expects` which plate is expected.
+// alone. `empty` asks whether no plate is at a station, `filled` whether the first plate is, `asked` and `sound`
+// whether a stop is asked of a machine and whether it isn't failed, and `expects` which plate is expected.
 const STORIES: [&str; 11] = [
     // A line waits for its trigger.
     "0|admitted,1,stop,feed\n|nothing|book lamp,feed,green,|book admitted,1,,|next stop_asked,feed,,|done|\

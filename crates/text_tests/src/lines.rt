@@ -177,8 +177,8 @@ const OF_OTHER_MAKERS: [Case; 19] = [
 ];
 
 // Texts that begin with the journal of a plate that is laid back. In profile 2 alone there is a sixth line, and in
-// profile 1 the record by which the plate is expected can't be read. The refusals that a plate laid back brings are told
-// by their names.
+// profile 1 the record by which the plate is expected can't be read. The refusals that a plate laid back brings are
+// told by their names.
 const OF_LAID_BACK: [(Begin, u8, &str); 9] = [
     (
         (2, 13, ""),
