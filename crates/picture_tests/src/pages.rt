@@ -27,22 +27,40 @@ fn write_first<W: Write>(
     write_page(writer, &book, answer)
 }
 
-// That page as text.
-fn first_page(rt: &impl Abort, alloc: Global, answer: Option<AuditError>) -> String {
+// That page has the rows between their beginning and their end, and these words of the answer.
+fn is_page(rt: &impl Abort, alloc: Global, answer: Option<AuditError>, words: &str) {
     let mut page = Vec::new(alloc);
-    assert_eq!(rt; write_first(rt, alloc, &mut page, answer), Ok(()));
-    String::from_utf8(page).ok().expect(rt, "the page is UTF-8")
+    assert!(rt;
+        write_first(rt, alloc, &mut page, answer) == Ok(()),
+        "{words}"
+    );
+    let page = String::from_utf8(page).ok().expect(rt, "the page is UTF-8");
+    let text = page.as_str();
+    assert!(rt;
+        text.starts_with("<!DOCTYPE html>\n<html lang=\"en\">\n"),
+        "{words}"
+    );
+    let (_, rest) = text.split_once("\"rows\":[\n").unwrap_or(("", ""));
+    let (rows, _) = rest.split_once("\n]}\n</script>\n").unwrap_or(("", ""));
+    assert!(rt; rows == ROWS, "{words}");
+    assert!(rt; text.contains(words), "{words}");
+    assert!(rt; text.ends_with("</script>\n</body>\n</html>\n"), "{words}");
 }
 
-// What stands in a page between the beginning of the rows and their end.
-fn rows_in(page: &str) -> Option<&str> {
-    let (_, rest) = page.split_once("\"rows\":[\n")?;
-    let (rows, _) = rest.split_once("\n]}\n</script>\n")?;
-    Some(rows)
+#[test]
+fn writes_a_row_for_each_state_and_the_answer(rt: HostRuntime) {
+    is_page(&rt, rt.alloc(), None, "");
+    let answer = AuditError::Refused(5, Refusal::LampRed(Belt::Feed));
+    is_page(&rt, rt.alloc(), Some(answer), "refused 5 LampRed feed");
 }
 
-// A book of so many entries, of which each switches the feed light.
-fn switching(rt: &impl Abort, alloc: Global, count: u32) -> Book {
+// Writes the page of a book of so many entries, of which each switches the feed light.
+fn write_switching(
+    rt: &impl Abort,
+    alloc: Global,
+    page: &mut Vec<u8>,
+    count: u32,
+) -> Result<(), PageError> {
     let mut book = Book::new(alloc, 100_000, 1).ok().expect(rt, "a book");
     for place in 0..count {
         let record = if place % 2 == 0 {
@@ -52,35 +70,7 @@ fn switching(rt: &impl Abort, alloc: Global, count: u32) -> Book {
         };
         assert!(rt; book_all(&mut book, &[record]).is_ok());
     }
-    book
-}
-
-// Writes the page of such a book.
-fn write_switching(
-    rt: &impl Abort,
-    alloc: Global,
-    page: &mut Vec<u8>,
-    count: u32,
-) -> Result<(), PageError> {
-    let book = switching(rt, alloc, count);
     write_page(page, &book, None)
-}
-
-#[test]
-fn writes_a_row_for_each_state(rt: HostRuntime) {
-    let page = first_page(&rt, rt.alloc(), None);
-    assert_eq!(rt; rows_in(page.as_str()), Some(ROWS));
-}
-
-#[test]
-fn writes_a_page_with_the_rows_and_the_answer(rt: HostRuntime) {
-    let answer = AuditError::Refused(5, Refusal::LampRed(Belt::Feed));
-    let page = first_page(&rt, rt.alloc(), Some(answer));
-    let text = page.as_str();
-    assert!(rt; text.starts_with("<!DOCTYPE html>\n<html lang=\"en\">\n"));
-    assert!(rt; text.contains(ROWS));
-    assert!(rt; text.contains("refused 5 LampRed feed"));
-    assert!(rt; text.ends_with("</script>\n</body>\n</html>\n"));
 }
 
 #[test]
@@ -95,16 +85,12 @@ fn refuses_a_journal_that_is_too_long(rt: HostRuntime) {
 }
 
 // A page isn't written whole into so many bytes.
-fn fails_after(rt: &impl Abort, alloc: Global, room: usize) {
-    let mut bytes = vec![in alloc; 0u8; room].expect(rt, "memory");
-    let mut rest = bytes.as_mut_slice();
-    let answer = write_first(rt, alloc, &mut rest, None);
-    assert_eq!(rt; answer, Err(PageError::WriteFault));
-}
-
 #[test]
 fn tells_that_the_writer_failed(rt: HostRuntime) {
     for room in [0, 1000, 30_000] {
-        fails_after(&rt, rt.alloc(), room);
+        let mut bytes = vec![in rt.alloc(); 0u8; room].expect(&rt, "memory");
+        let mut rest = bytes.as_mut_slice();
+        let answer = write_first(&rt, rt.alloc(), &mut rest, None);
+        assert!(rt; answer == Err(PageError::WriteFault), "in {room} bytes");
     }
 }
