@@ -28,14 +28,6 @@ pub(crate) fn shown(axis: Axis, to: Pose, reading: Reading) -> u8 {
     }
 }
 
-/// The last two readings, where both are there.
-fn last_two(sets: &[Option<u8>]) -> Option<(u8, u8)> {
-    match sets {
-        [.., Some(before), Some(last)] => Some((*before, *last)),
-        _ => None,
-    }
-}
-
 fn has_arrived(motion: &PlainMotion, sets: &[Option<u8>]) -> bool {
     match sets {
         [earlier @ .., Some(last)] => {
@@ -74,8 +66,8 @@ fn judged(motion: &PlainMotion, sets: &[Option<u8>]) -> Verdict {
     if has_arrived(motion, sets) {
         return Verdict::Arrived;
     }
-    if let Some((before, last)) = last_two(sets) {
-        if let Some(cause) = fault_of_two(motion, number, before, last) {
+    if let [.., Some(before), Some(last)] = sets {
+        if let Some(cause) = fault_of_two(motion, number, *before, *last) {
             return Verdict::Fault(cause);
         }
     }
@@ -105,20 +97,16 @@ pub(crate) fn plain_verdict(motion: &PlainMotion, sets: &[Option<u8>]) -> Verdic
 /// A reading of the table with its Expect.
 pub type Noted = (Expect, Option<Reading>);
 
-/// The set of the switch of a pose of the table.
-fn set_of(pose: Pose) -> u8 {
-    match pose {
-        Pose::Low | Pose::Belt => 1,
-        _ => 2,
-    }
-}
-
 /// What an axis of the table shows where it disagrees: the lift's number is 0, the turn's 1.
 fn wrong(noted: &Noted, axis: usize) -> Option<u8> {
     let (expect, reading) = *noted;
     let pose = expect.poses.get(axis).copied().flatten()?;
     let set = reading?.switches.get(axis).copied()? & 3;
-    if set == set_of(pose) { None } else { Some(set) }
+    let right = match pose {
+        Pose::Low | Pose::Belt => 1,
+        _ => 2,
+    };
+    if set == right { None } else { Some(set) }
 }
 
 /// Whether the table's presence bit, looked at, is clear and must be set; or is set and must be clear.

@@ -3,11 +3,155 @@ use cell_diagnosis::{AxisWatch, Expect, Limits, Motion, Reading, RestWatch, Verd
 use cell_types::{Axis, Cause, Machine, Pose};
 use std::process::Abort;
 
-const MIDDLE: u8 = 1;
+// A case: the motion with its two limits, or a press that is expected to rest in the middle, empty or full; the
+// readings at which the watch answers Pending; those that follow; and what it answers at each of these. A reading is
+// what it shows, joined by `+`: switches by their poses, and where a plate is: at the start of a belt, at its end, on
+// the table after it, or `plate` in the press. `none` shows nothing, and `missing` is no reading.
 
-const TOP: u8 = 2;
+const FOLLOWED: [&str; 18] = [
+    "press_one middle>top 3 5|middle none none|top|arrived",
+    "press_one middle>top 3 5|middle middle|middle|no_departure",
+    "press_one middle>top 3 5|middle+top|top|stuck_switch",
+    "press_one middle>top 3 5|middle none none none|none|missing_motion",
+    "press_one middle>top 3 20|middle top+bottom none|top|arrived",
+    "press_one middle>top 3 20|middle top+bottom|top+bottom|contradictory",
+    "press_one middle>top 3 20|middle bottom|bottom|stray_position",
+    "press_one middle>top 3 20|middle missing missing|missing|silent",
+    "press_one middle>top 2 3|missing top|top|missing_motion",
+    "feed_belt rest>to_end 3 20|start none|end|arrived",
+    "feed_belt rest>to_end 3 20|start start+end|start+end|stuck_switch",
+    "feed_belt rest>to_table 3 20|end none|start+table|arrived",
+    "deposit_belt rest>to_end 3 20|start none|end|arrived",
+    "robot_turn table1>p2_load 3 20|table1 none p1_load p1_unload|p2_load|arrived",
+    "robot_turn table1>p2_load 3 20|table1 p2_unload|p2_unload|stray_position",
+    "press_one top>bottom 3 20|top middle middle|bottom|arrived",
+    // A verdict stays.
+    "press_one middle>top 3 5|middle|top bottom bottom missing missing missing middle|arrived",
+    "press_one middle>top 3 5|middle+top|top bottom bottom missing missing missing middle|stuck_switch",
+];
 
-const BOTTOM: u8 = 4;
+const AT_REST: [&str; 8] = [
+    "press1 rests empty|top|top|lost_position",
+    "press1 rests empty|top middle|top|pending",
+    "press1 rests empty|middle+top|middle+top|contradictory",
+    "press1 rests empty|none|middle+top|lost_position",
+    "press1 rests full|middle|middle|plate_lost",
+    "press1 rests empty|middle+plate|middle+plate|strange_plate",
+    "press1 rests empty|missing missing|missing|silent",
+    // A verdict stays.
+    "press1 rests empty|missing missing|missing top bottom bottom missing missing missing middle|silent",
+];
+
+// Readings of a press that rests, what its watch answers, and whether the reading agreed.
+const AGREED: [(&str, &str, bool); 7] = [
+    ("middle", "pending", true),
+    ("missing", "pending", false),
+    ("top", "pending", false),
+    ("missing", "pending", false),
+    ("missing", "pending", false),
+    ("missing", "silent", false),
+    ("middle", "silent", true),
+];
+
+// Limits, and whether they are in their ranges.
+const RANGES: [(u16, u16, bool); 6] = [
+    (2, 3, true),
+    (999, 1000, true),
+    (1, 3, false),
+    (3, 3, false),
+    (3, 1001, false),
+    (1000, 1000, false),
+];
+
+const MOTIONS: [(&str, Axis, Pose, Pose, [u16; 2]); 8] = [
+    (
+        "press_one middle>top 3 5",
+        Axis::PressOne,
+        Pose::Middle,
+        Pose::Top,
+        [3, 5],
+    ),
+    (
+        "press_one middle>top 3 20",
+        Axis::PressOne,
+        Pose::Middle,
+        Pose::Top,
+        [3, 20],
+    ),
+    (
+        "press_one middle>top 2 3",
+        Axis::PressOne,
+        Pose::Middle,
+        Pose::Top,
+        [2, 3],
+    ),
+    (
+        "press_one top>bottom 3 20",
+        Axis::PressOne,
+        Pose::Top,
+        Pose::Bottom,
+        [3, 20],
+    ),
+    (
+        "feed_belt rest>to_end 3 20",
+        Axis::FeedBelt,
+        Pose::Rest,
+        Pose::ToEnd,
+        [3, 20],
+    ),
+    (
+        "feed_belt rest>to_table 3 20",
+        Axis::FeedBelt,
+        Pose::Rest,
+        Pose::ToTable,
+        [3, 20],
+    ),
+    (
+        "deposit_belt rest>to_end 3 20",
+        Axis::DepositBelt,
+        Pose::Rest,
+        Pose::ToEnd,
+        [3, 20],
+    ),
+    (
+        "robot_turn table1>p2_load 3 20",
+        Axis::RobotTurn,
+        Pose::Table1,
+        Pose::P2Load,
+        [3, 20],
+    ),
+];
+
+const VERDICTS: [(&str, Verdict); 11] = [
+    ("pending", Verdict::Pending),
+    ("arrived", Verdict::Arrived),
+    ("stuck_switch", Verdict::Fault(Cause::StuckSwitch)),
+    ("contradictory", Verdict::Fault(Cause::Contradictory)),
+    ("stray_position", Verdict::Fault(Cause::StrayPosition)),
+    ("no_departure", Verdict::Fault(Cause::NoDeparture)),
+    ("missing_motion", Verdict::Fault(Cause::MissingMotion)),
+    ("lost_position", Verdict::Fault(Cause::LostPosition)),
+    ("plate_lost", Verdict::Fault(Cause::PlateLost)),
+    ("strange_plate", Verdict::Fault(Cause::StrangePlate)),
+    ("silent", Verdict::Fault(Cause::Silent)),
+];
+
+// What a reading shows: the bit of the machine's first axis, and the presence bit.
+const SHOWN: [(&str, u8, u8); 13] = [
+    ("none", 0, 0),
+    ("middle", 1, 0),
+    ("top", 2, 0),
+    ("bottom", 4, 0),
+    ("table1", 1, 0),
+    ("p1_load", 2, 0),
+    ("p1_unload", 4, 0),
+    ("p2_load", 8, 0),
+    ("p2_unload", 16, 0),
+    ("start", 0, 1),
+    ("end", 0, 2),
+    ("table", 0, 4),
+    ("plate", 0, 1),
+];
 
 /// A press is expected to rest in the middle with no plate.
 const MIDDLE_EMPTY: Expect = Expect {
@@ -16,242 +160,104 @@ const MIDDLE_EMPTY: Expect = Expect {
     may: 0,
 };
 
-/// A reading with these switches of the machine's first axis and no plate.
-fn shows(switches: u8) -> Option<Reading> {
-    Some(Reading {
-        switches: [switches, 0, 0],
-        presence: 0,
-    })
+/// The same with a plate.
+const MIDDLE_FULL: Expect = Expect {
+    must: 1,
+    ..MIDDLE_EMPTY
+};
+
+/// A watch of a motion, or of a press that is expected to rest so.
+#[derive(Clone, Copy)]
+enum Watcher {
+    Moving(AxisWatch),
+    Resting(RestWatch, Expect),
 }
 
-/// A reading with these stations occupied.
-fn holds(presence: u8) -> Option<Reading> {
+fn part(case: &str, place: usize) -> &str {
+    case.split('|').nth(place).unwrap_or("")
+}
+
+fn reading_of(rt: &impl Abort, text: &str) -> Option<Reading> {
+    if text == "missing" {
+        return None;
+    }
+    let (mut switches, mut presence) = (0u8, 0u8);
+    for word in text.split('+') {
+        let mut is_known = false;
+        for (name, switch, station) in SHOWN {
+            if name == word {
+                is_known = true;
+                switches |= switch;
+                presence |= station;
+            }
+        }
+        assert!(rt; is_known, "{text}");
+    }
     Some(Reading {
-        switches: [0; 3],
+        switches: [switches, 0, 0],
         presence,
     })
 }
 
-fn limits(rt: &impl Abort, leave: u16, limit: u16) -> Limits {
-    Limits::new(leave, limit).expect(rt, "limits in range")
-}
-
-/// The reading of a place is noted with this verdict.
-fn is_noted(
-    rt: &impl Abort,
-    watch: &mut AxisWatch,
-    reading: Option<Reading>,
-    wanted: Verdict,
-    place: usize,
-) {
-    let verdict = watch.note(reading);
-    assert_eq!(rt; verdict, wanted, "reading {place}");
-}
-
-/// The reading of a place is noted at rest with this verdict.
-fn is_noted_at_rest(
-    rt: &impl Abort,
-    watch: &mut RestWatch,
-    expect: &Expect,
-    reading: Option<Reading>,
-    wanted: Verdict,
-    place: usize,
-) {
-    let verdict = watch.note(expect, reading);
-    assert_eq!(rt; verdict, wanted, "reading {place}");
-}
-
-/// Notes the readings: Pending at each but the last, and this verdict at the last.
-fn decides(rt: &impl Abort, mut watch: AxisWatch, readings: &[Option<Reading>], wanted: Verdict) {
-    let last = readings.len().saturating_sub(1);
-    for (place, reading) in readings.iter().enumerate() {
-        let expected = if place == last {
-            wanted
-        } else {
-            Verdict::Pending
-        };
-        is_noted(rt, &mut watch, *reading, expected, place);
+fn verdict_of(rt: &impl Abort, word: &str) -> Verdict {
+    for (name, verdict) in VERDICTS {
+        if name == word {
+            return verdict;
+        }
     }
+    panic!(rt; "{word}")
 }
 
-fn decides_at_rest(
-    rt: &impl Abort,
-    expect: &Expect,
-    readings: &[Option<Reading>],
-    wanted: Verdict,
-) {
-    let mut watch = RestWatch::start(Machine::Press1);
-    let last = readings.len().saturating_sub(1);
-    for (place, reading) in readings.iter().enumerate() {
-        let expected = if place == last {
-            wanted
-        } else {
-            Verdict::Pending
-        };
-        is_noted_at_rest(rt, &mut watch, expect, *reading, expected, place);
-    }
-}
-
-#[test]
-fn a_press_goes_from_middle_to_top(rt: HostRuntime) {
-    let m = shows(MIDDLE);
-    let t = shows(TOP);
-    let b = shows(BOTTOM);
-    let tb = shows(TOP | BOTTOM);
-    let none = shows(0);
-    let fault = Verdict::Fault;
-    for (leave, limit, readings, wanted) in [
-        (3, 5, &[m, none, none, t][..], Verdict::Arrived),
-        (3, 5, &[m, m, m][..], fault(Cause::NoDeparture)),
-        (
-            3,
-            5,
-            &[shows(MIDDLE | TOP), t][..],
-            fault(Cause::StuckSwitch),
-        ),
-        (
-            3,
-            5,
-            &[m, none, none, none, none][..],
-            fault(Cause::MissingMotion),
-        ),
-        (3, 20, &[m, tb, none, t][..], Verdict::Arrived),
-        (3, 20, &[m, tb, tb][..], fault(Cause::Contradictory)),
-        (3, 20, &[m, b, b][..], fault(Cause::StrayPosition)),
-        (3, 20, &[m, None, None, None][..], fault(Cause::Silent)),
-        (2, 3, &[None, t, t][..], fault(Cause::MissingMotion)),
-    ] {
-        let watch = AxisWatch::start(
-            Axis::PressOne,
-            Pose::Middle,
-            Pose::Top,
-            limits(&rt, leave, limit),
-        );
-        decides(&rt, watch, readings, wanted);
-    }
-}
-
-#[test]
-fn belts_carry_and_poses_are_passed(rt: HostRuntime) {
-    let fault = Verdict::Fault;
-    for (axis, from, to, readings, wanted) in [
-        (
-            Axis::FeedBelt,
-            Pose::Rest,
-            Pose::ToEnd,
-            &[holds(1), holds(0), holds(2)][..],
-            Verdict::Arrived,
-        ),
-        (
-            Axis::FeedBelt,
-            Pose::Rest,
-            Pose::ToEnd,
-            &[holds(1), holds(3), holds(3)][..],
-            fault(Cause::StuckSwitch),
-        ),
-        (
-            Axis::FeedBelt,
-            Pose::Rest,
-            Pose::ToTable,
-            &[holds(2), holds(0), holds(5)][..],
-            Verdict::Arrived,
-        ),
-        (
-            Axis::DepositBelt,
-            Pose::Rest,
-            Pose::ToEnd,
-            &[holds(1), holds(0), holds(2)][..],
-            Verdict::Arrived,
-        ),
-        (
-            Axis::RobotTurn,
-            Pose::Table1,
-            Pose::P2Load,
-            &[shows(1), shows(0), shows(2), shows(4), shows(8)][..],
-            Verdict::Arrived,
-        ),
-        (
-            Axis::RobotTurn,
-            Pose::Table1,
-            Pose::P2Load,
-            &[shows(1), shows(16), shows(16)][..],
-            fault(Cause::StrayPosition),
-        ),
-        (
-            Axis::PressOne,
-            Pose::Top,
-            Pose::Bottom,
-            &[shows(TOP), shows(MIDDLE), shows(MIDDLE), shows(BOTTOM)][..],
-            Verdict::Arrived,
-        ),
-    ] {
-        let limits = limits(&rt, 3, 20);
-        let watch = AxisWatch::start(axis, from, to, limits);
-        assert_eq!(rt;
-            watch.motion(),
-            Motion {
+/// The watch of a name.
+fn watcher_of(rt: &impl Abort, wanted: &str) -> Watcher {
+    for (name, axis, from, to, [leave, limit]) in MOTIONS {
+        if name == wanted {
+            let limits = Limits::new(leave, limit).expect(rt, name);
+            let watch = AxisWatch::start(axis, from, to, limits);
+            let motion = Motion {
                 axis,
                 from,
                 to,
-                limits
-            }
-        );
-        decides(&rt, watch, readings, wanted);
+                limits,
+            };
+            assert!(rt; watch.motion() == motion, "{name}");
+            return Watcher::Moving(watch);
+        }
+    }
+    let watch = RestWatch::start(Machine::Press1);
+    match wanted {
+        "press1 rests empty" => Watcher::Resting(watch, MIDDLE_EMPTY),
+        "press1 rests full" => Watcher::Resting(watch, MIDDLE_FULL),
+        _ => panic!(rt; "{wanted}"),
     }
 }
 
-#[test]
-fn a_verdict_stays(rt: HostRuntime) {
-    let mut arrived = AxisWatch::start(Axis::PressOne, Pose::Middle, Pose::Top, limits(&rt, 3, 5));
-    let mut stuck = arrived;
-    let mut silent = RestWatch::start(Machine::Press1);
-    arrived.note(shows(MIDDLE));
-    stuck.note(shows(MIDDLE | TOP));
-    silent.note(&MIDDLE_EMPTY, None);
-    silent.note(&MIDDLE_EMPTY, None);
-    let fault = Verdict::Fault(Cause::Silent);
-    is_noted_at_rest(&rt, &mut silent, &MIDDLE_EMPTY, None, fault, 2);
-    let readings = [
-        shows(TOP),
-        shows(BOTTOM),
-        shows(BOTTOM),
-        None,
-        None,
-        None,
-        shows(MIDDLE),
-    ];
-    for (place, reading) in readings.iter().enumerate() {
-        let stuck_switch = Verdict::Fault(Cause::StuckSwitch);
-        is_noted(&rt, &mut arrived, *reading, Verdict::Arrived, place);
-        is_noted(&rt, &mut stuck, *reading, stuck_switch, place);
-        is_noted_at_rest(&rt, &mut silent, &MIDDLE_EMPTY, *reading, fault, place);
-    }
-}
-
-#[test]
-fn a_press_rests_in_the_middle(rt: HostRuntime) {
-    let m = shows(MIDDLE);
-    let t = shows(TOP);
-    let mt = shows(MIDDLE | TOP);
-    let full = Some(Reading {
-        switches: [MIDDLE, 0, 0],
-        presence: 1,
-    });
-    let fault = Verdict::Fault;
-    for (must, readings, wanted) in [
-        (0, &[t, t][..], fault(Cause::LostPosition)),
-        (0, &[t, m, t][..], Verdict::Pending),
-        (0, &[mt, mt][..], fault(Cause::Contradictory)),
-        (0, &[shows(0), mt][..], fault(Cause::LostPosition)),
-        (1, &[m, m][..], fault(Cause::PlateLost)),
-        (0, &[full, full][..], fault(Cause::StrangePlate)),
-        (0, &[None, None, None][..], fault(Cause::Silent)),
-    ] {
-        let expect = Expect {
-            must,
-            ..MIDDLE_EMPTY
+/// Notes the readings of a line, each with this verdict.
+fn follow(rt: &impl Abort, watcher: &mut Watcher, readings: &str, wanted: &str, case: &str) {
+    let wanted = verdict_of(rt, wanted);
+    for text in readings.split(' ') {
+        let reading = reading_of(rt, text);
+        let verdict = match watcher {
+            Watcher::Moving(watch) => watch.note(reading),
+            Watcher::Resting(watch, expect) => watch.note(expect, reading),
         };
-        decides_at_rest(&rt, &expect, readings, wanted);
+        assert!(rt; verdict == wanted, "{case}: {text}");
+    }
+}
+
+fn check(rt: &impl Abort, case: &str) {
+    let mut watcher = watcher_of(rt, part(case, 0));
+    follow(rt, &mut watcher, part(case, 1), "pending", case);
+    follow(rt, &mut watcher, part(case, 2), part(case, 3), case);
+}
+
+#[test]
+fn readings_are_followed_to_their_verdict_which_stays(rt: HostRuntime) {
+    for case in FOLLOWED {
+        check(&rt, case);
+    }
+    for case in AT_REST {
+        check(&rt, case);
     }
 }
 
@@ -259,35 +265,20 @@ fn a_press_rests_in_the_middle(rt: HostRuntime) {
 fn a_rest_watch_tells_whether_the_last_reading_agreed(rt: HostRuntime) {
     let mut watch = RestWatch::start(Machine::Press2);
     assert!(rt; !watch.agreed());
-    let readings = [
-        (shows(MIDDLE), Verdict::Pending, true),
-        (None, Verdict::Pending, false),
-        (shows(TOP), Verdict::Pending, false),
-        (None, Verdict::Pending, false),
-        (None, Verdict::Pending, false),
-        (None, Verdict::Fault(Cause::Silent), false),
-        (shows(MIDDLE), Verdict::Fault(Cause::Silent), true),
-    ];
-    for (place, (reading, verdict, agreed)) in readings.iter().enumerate() {
-        is_noted_at_rest(&rt, &mut watch, &MIDDLE_EMPTY, *reading, *verdict, place);
-        assert_eq!(rt; watch.agreed(), *agreed, "reading {place}");
+    for (place, (text, wanted, agreed)) in AGREED.iter().enumerate() {
+        let verdict = watch.note(&MIDDLE_EMPTY, reading_of(&rt, text));
+        assert!(rt; verdict == verdict_of(&rt, wanted), "reading {place}");
+        assert!(rt; watch.agreed() == *agreed, "reading {place}");
     }
 }
 
 #[test]
 fn limits_have_ranges(rt: HostRuntime) {
-    for (leave, limit, wanted) in [
-        (2, 3, true),
-        (999, 1000, true),
-        (1, 3, false),
-        (3, 3, false),
-        (3, 1001, false),
-        (1000, 1000, false),
-    ] {
-        let limits = Limits::new(leave, limit);
-        assert_eq!(rt;
-            limits.map(|limits| (limits.leave(), limits.limit())),
-            wanted.then_some((leave, limit))
-        );
+    for (leave, limit, wanted) in RANGES {
+        let is_met = match Limits::new(leave, limit) {
+            Some(limits) => wanted && limits.leave() == leave && limits.limit() == limit,
+            None => !wanted,
+        };
+        assert!(rt; is_met, "{leave} {limit}");
     }
 }

@@ -1,6 +1,6 @@
 //! The watches beside the plain program, on all sequences of a few readings. Bits that belong to nothing are set in them.
 use crate::plain::{LEAVE, LIMIT, Noted, PlainMotion, plain_rest, plain_verdict, shown};
-use cell_diagnosis::{AxisWatch, Expect, Limits, Motion, Reading, RestWatch, Verdict};
+use cell_diagnosis::{AxisWatch, Expect, Limits, Motion, Reading, RestWatch};
 use cell_types::{Axis, Machine, Pose};
 use std::process::Abort;
 
@@ -13,18 +13,57 @@ const SEQUENCES: usize = 531_441;
 /// All sequences of five of 24 letters at rest: 24 to the power of 5.
 const REST_SEQUENCES: usize = 7_962_624;
 
-fn switches(first: u8) -> Option<Reading> {
-    Some(Reading {
-        switches: [first, 0xFF, 0xFF],
-        presence: 0xFF,
-    })
-}
+/// All sets of three switches or sensors.
+const SETS: [u8; 8] = [0xF8, 0xF9, 0xFA, 0xFB, 0xFC, 0xFD, 0xFE, 0xFF];
 
-fn presence(presence: u8) -> Option<Reading> {
-    Some(Reading {
-        switches: [0xFF; 3],
-        presence,
-    })
+/// Sets of the robot's switches: none, the ends of the turns, poses that are passed and poses beyond, and pairs.
+const TURNS: [u8; 8] = [0xC0, 0xC1, 0xC2, 0xC4, 0xC8, 0xD0, 0xC9, 0xE2];
+
+/// A motion, the sets of switches that stand for its poses (from, to, passing), and the sets that are read.
+type Followed = (Axis, Pose, Pose, [u8; 3], [u8; 8]);
+
+const PRESSES: [Followed; 2] = [
+    (Axis::PressOne, Pose::Middle, Pose::Top, [1, 2, 0], SETS),
+    (Axis::PressTwo, Pose::Top, Pose::Bottom, [2, 4, 1], SETS),
+];
+
+const ROBOT: [Followed; 2] = [
+    (
+        Axis::RobotTurn,
+        Pose::Table1,
+        Pose::P2Load,
+        [1, 8, 6],
+        TURNS,
+    ),
+    (
+        Axis::RobotTurn,
+        Pose::P2Load,
+        Pose::P1Load,
+        [8, 2, 4],
+        TURNS,
+    ),
+];
+
+const BELTS: [Followed; 2] = [
+    (Axis::FeedBelt, Pose::Rest, Pose::ToEnd, [1, 2, 0], SETS),
+    (Axis::FeedBelt, Pose::Rest, Pose::ToTable, [1, 2, 0], SETS),
+];
+
+/// A missing reading, and readings that show these sets of an axis: of the belt by its sensors.
+fn letters_of(axis: Axis, sets: [u8; 8]) -> Letters {
+    let mut letters = [None; 9];
+    for place in 0..8 {
+        let set = sets[place];
+        let (first, presence) = match axis {
+            Axis::FeedBelt => (0xFF, set),
+            _ => (set, 0xFF),
+        };
+        letters[place + 1] = Some(Reading {
+            switches: [first, 0xFF, 0xFF],
+            presence,
+        });
+    }
+    letters
 }
 
 /// One sequence, by its number.
@@ -37,149 +76,49 @@ fn follow(rt: &impl Abort, motion: &Motion, plain: &PlainMotion, letters: &Lette
         rest /= 9;
         sets[place] = letter.map(|reading| shown(motion.axis, motion.to, reading));
         let wanted = plain_verdict(plain, &sets[..=place]);
-        assert_eq!(rt;
-            watch.note(letter),
-            wanted,
-            "reading {place} of sequence {number}"
+        let verdict = watch.note(letter);
+        assert!(rt;
+            verdict == wanted,
+            "reading {place} of sequence {number} of {motion:?}"
         );
     }
 }
 
-fn follow_all(
-    rt: &impl Abort,
-    axis: Axis,
-    from: Pose,
-    to: Pose,
-    plain: PlainMotion,
-    letters: &Letters,
-) {
+/// All sequences of each motion.
+fn follow_all(rt: &impl Abort, motions: &[Followed]) {
     let limits = Limits::new(LEAVE, LIMIT).expect(rt, "limits in range");
-    let motion = Motion {
-        axis,
-        from,
-        to,
-        limits,
-    };
-    for number in 0..SEQUENCES {
-        follow(rt, &motion, &plain, letters, number);
+    for (axis, from, to, [plain_from, plain_to, passing], sets) in motions {
+        let motion = Motion {
+            axis: *axis,
+            from: *from,
+            to: *to,
+            limits,
+        };
+        let plain = PlainMotion {
+            from: *plain_from,
+            to: *plain_to,
+            passing: *passing,
+        };
+        let letters = letters_of(*axis, *sets);
+        for number in 0..SEQUENCES {
+            follow(rt, &motion, &plain, &letters, number);
+        }
     }
 }
 
 #[test]
 fn a_press_is_followed_as_the_plain_program_says(rt: HostRuntime) {
-    let letters = [
-        None,
-        switches(0xF8),
-        switches(0xF9),
-        switches(0xFA),
-        switches(0xFB),
-        switches(0xFC),
-        switches(0xFD),
-        switches(0xFE),
-        switches(0xFF),
-    ];
-    follow_all(
-        &rt,
-        Axis::PressOne,
-        Pose::Middle,
-        Pose::Top,
-        PlainMotion {
-            from: 1,
-            to: 2,
-            passing: 0,
-        },
-        &letters,
-    );
-    follow_all(
-        &rt,
-        Axis::PressTwo,
-        Pose::Top,
-        Pose::Bottom,
-        PlainMotion {
-            from: 2,
-            to: 4,
-            passing: 1,
-        },
-        &letters,
-    );
+    follow_all(&rt, &PRESSES);
 }
 
 #[test]
 fn a_turn_is_followed_as_the_plain_program_says(rt: HostRuntime) {
-    let letters = [
-        None,
-        switches(0xC0),
-        switches(0xC1),
-        switches(0xC2),
-        switches(0xC4),
-        switches(0xC8),
-        switches(0xD0),
-        switches(0xC9),
-        switches(0xE2),
-    ];
-    follow_all(
-        &rt,
-        Axis::RobotTurn,
-        Pose::Table1,
-        Pose::P2Load,
-        PlainMotion {
-            from: 1,
-            to: 8,
-            passing: 6,
-        },
-        &letters,
-    );
-    follow_all(
-        &rt,
-        Axis::RobotTurn,
-        Pose::P2Load,
-        Pose::P1Load,
-        PlainMotion {
-            from: 8,
-            to: 2,
-            passing: 4,
-        },
-        &letters,
-    );
+    follow_all(&rt, &ROBOT);
 }
 
 #[test]
 fn a_belt_is_followed_as_the_plain_program_says(rt: HostRuntime) {
-    let letters = [
-        None,
-        presence(0xF8),
-        presence(0xF9),
-        presence(0xFA),
-        presence(0xFB),
-        presence(0xFC),
-        presence(0xFD),
-        presence(0xFE),
-        presence(0xFF),
-    ];
-    follow_all(
-        &rt,
-        Axis::FeedBelt,
-        Pose::Rest,
-        Pose::ToEnd,
-        PlainMotion {
-            from: 1,
-            to: 2,
-            passing: 0,
-        },
-        &letters,
-    );
-    follow_all(
-        &rt,
-        Axis::FeedBelt,
-        Pose::Rest,
-        Pose::ToTable,
-        PlainMotion {
-            from: 1,
-            to: 2,
-            passing: 0,
-        },
-        &letters,
-    );
+    follow_all(&rt, &BELTS);
 }
 
 /// A reading of the table: its lift, its turn, its plate.
@@ -206,11 +145,8 @@ fn follow_rest(
         rest /= 24;
         list[place] = (expect, reading);
         let wanted = plain_rest(&list[..=place]);
-        assert_eq!(rt;
-            watch.note(&expect, reading),
-            wanted,
-            "reading {place} of sequence {number}"
-        );
+        let verdict = watch.note(&expect, reading);
+        assert!(rt; verdict == wanted, "reading {place} of sequence {number}");
     }
 }
 
