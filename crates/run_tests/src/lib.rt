@@ -1,4 +1,5 @@
-//! The tests of `cell_runs`: runs of the simulated cell by their texts, in rounds on one thread and by workers on threads.
+//! The tests of `cell_runs`: runs of the simulated cell by their texts, in rounds on one thread and by workers on
+//! threads.
 #![tactic(auto)]
 
 #[cfg(test)]

@@ -5,180 +5,128 @@ mod hands;
 mod returns;
 
 use cell_audit::{audit, write_journal};
-use cell_lines::WriteFault;
 use cell_runs::{Inputs, Outcome, read_inputs, run_texts, simulate};
-use cell_samples::entries_of;
 use cell_sim::{SimOperator, World};
-use cell_types::{Axis, Entry, Totals};
+use cell_types::Totals;
 use cell_workers::End;
 use std::alloc::{AllocError, Global};
 use std::process::Abort;
 use std::sync::{Mutex, Wait};
-use std::test::Fail;
 use std::thread::Threads;
 
-// What is printed for three texts, and the status.
-pub(crate) fn told<R: AllocGlobal + Threads + Wait + Sync>(
-    rt: &R,
-    settings: &[u8],
-    faults: &[u8],
-    operator: &[u8],
-    journal: bool,
-) -> (Vec<u8>, Result<u8, WriteFault>) {
-    let mut written = Vec::new(rt.alloc());
-    let status = run_texts(rt, settings, faults, operator, false, journal, &mut written);
-    (written, status)
+// A case of a run: the settings, the script of faults, the operator's script, the exit status, what is printed, and how
+// many plates were laid back, parted by `|`.
+
+/// The texts of a case, and what it says of their run: the status, what is printed, the plates that were laid back.
+pub(crate) fn read_case(case: &str) -> ([&[u8]; 3], u8, &str, &str) {
+    let mut parts = case.split('|');
+    let settings = parts.next().unwrap_or("").as_bytes();
+    let faults = parts.next().unwrap_or("").as_bytes();
+    let operator = parts.next().unwrap_or("").as_bytes();
+    let status = parts.next().unwrap_or("").parse::<u8>();
+    let printed = parts.next().unwrap_or("");
+    let laid_back = parts.next().unwrap_or("");
+    (
+        [settings, faults, operator],
+        status.unwrap_or(u8::MAX),
+        printed,
+        laid_back,
+    )
 }
 
-// The lines of totals, as a run prints them.
-fn lines_of(alloc: Global, totals: Totals) -> Result<String, AllocError> {
+/// What is printed for three texts, in rounds or on threads, or the run's journal. The run has to end with this status.
+pub(crate) fn told<R: AllocGlobal + Abort + Threads + Wait + Sync>(
+    rt: &R,
+    texts: [&[u8]; 3],
+    threads: bool,
+    journal: bool,
+    status: u8,
+    case: &str,
+) -> Vec<u8> {
+    let [settings, faults, operator] = texts;
+    let mut written = Vec::new(rt.alloc());
+    let answer = run_texts(
+        rt,
+        settings,
+        faults,
+        operator,
+        threads,
+        journal,
+        &mut written,
+    );
+    assert!(rt; answer == Ok(status), "{case}");
+    written
+}
+
+// The journal's text of a run has to audit as legal, with the totals of its book.
+fn check_journal<R: AllocGlobal + Abort>(rt: &R, outcome: &Outcome, case: &str) {
+    let mut text = Vec::new(rt.alloc());
+    assert!(rt;
+        write_journal(rt.alloc(), outcome.book.journal(), &mut text).is_ok(),
+        "{case}"
+    );
+    let answer = audit(rt.alloc(), text.as_slice());
+    assert!(rt; answer == Ok((2, outcome.book.totals())), "{case}");
+}
+
+// What a run over a world of its own comes to. No machines may meet there.
+fn run_in_world<R: AllocGlobal + Wait + Abort>(rt: &R, texts: [&[u8]; 3], case: &str) -> Outcome {
+    let [settings, lines, operator] = texts;
+    let Inputs {
+        plan,
+        faults,
+        script,
+    } = read_inputs(rt.alloc(), settings, lines, operator).expect(rt, case);
+    let world = Mutex::new(World::new(plan.plates));
+    let mut hands = SimOperator::new(rt, &world);
+    let outcome = simulate(rt, &plan, &faults, script, &world, &mut hands).expect(rt, case);
+    assert!(rt; world.lock(rt).collisions() == 0, "{case}");
+    check_journal(rt, &outcome, case);
+    outcome
+}
+
+// How a case ends whose run came to this: all that stands after its texts.
+fn due_of(alloc: Global, outcome: &Outcome) -> Result<String, AllocError> {
+    let (status, end) = match outcome.end {
+        End::Finished => (0u8, "finished"),
+        End::Stalled => (1, "stalled"),
+        End::TurnLimit => (1, "turn limit"),
+        End::Full => (1, "full"),
+        End::Memory => (4, "memory"),
+    };
     let Totals {
         admitted,
         forged,
         quarantined,
         delivered,
+        reinstated,
         ..
-    } = totals;
+    } = outcome.book.totals();
     format!(in alloc;
-        "admitted {admitted}\nforged {forged}\nquarantined {quarantined}\ndelivered {delivered}\n"
+        "|{status}|{end}\nadmitted {admitted}\nforged {forged}\nquarantined {quarantined}\n\
+        delivered {delivered}\n|{reinstated}"
     )
 }
 
-// What is left of a run over a world of its own.
-#[derive(Drop)]
-struct Left {
-    end: End,
-    totals: Totals,
-    /// How many motions each axis began, in the order of the axes.
-    motions: [u32; 9],
-    collisions: u32,
+// A case's run has to print what the case says, with its status. Its journal has to audit as legal, with these totals.
+fn check_told<R: AllocGlobal + Abort + Threads + Wait + Sync>(rt: &R, case: &str, totals: Totals) {
+    let (texts, status, printed, _) = read_case(case);
+    let written = told(rt, texts, false, false, status, case);
+    assert!(rt; written.as_slice() == printed.as_bytes(), "{case}");
+    let journal = told(rt, texts, false, true, status, case);
+    let answer = audit(rt.alloc(), journal.as_slice());
+    assert!(rt; answer == Ok((2, totals)), "{case}");
 }
 
-// How many motions each axis began.
-fn motions_of(entries: &[Entry]) -> [u32; 9] {
-    let mut motions = [0u32; 9];
-    for entry in entries {
-        if let Entry::Started { axis, .. } = *entry {
-            motions[axis as usize] = motions[axis as usize].saturating_add(1);
-        }
-    }
-    motions
-}
-
-// What a run over a world comes to.
-fn play<R: AllocGlobal + Wait + Abort>(rt: &R, inputs: Inputs, world: &Mutex<World>) -> Outcome {
-    let Inputs {
-        plan,
-        faults,
-        script,
-    } = inputs;
-    let mut hands = SimOperator::new(rt, world);
-    match simulate(rt, &plan, &faults, script, world, &mut hands) {
-        Ok(outcome) => outcome,
-        Err(_) => panic!(rt; "there is memory"),
-    }
-}
-
-// The journal's text of a run has to audit as legal, with these totals.
-fn check_journal<R: AllocGlobal + Abort>(rt: &R, outcome: &Outcome, totals: Totals) {
-    let alloc = rt.alloc();
-    let mut text = Vec::new(alloc);
-    assert!(rt; write_journal(alloc, outcome.book.journal(), &mut text).is_ok());
-    assert_eq!(rt; audit(alloc, text.as_slice()), Ok((2, totals)));
-}
-
-// How many motions each axis began in a run.
-fn motions_in<R: AllocGlobal + Abort>(rt: &R, outcome: &Outcome) -> [u32; 9] {
-    match entries_of(rt.alloc(), outcome.book.journal()) {
-        Ok(entries) => motions_of(&entries),
-        Err(_) => panic!(rt; "there is memory"),
-    }
-}
-
-// What is read of three texts, which are good.
-fn inputs_of<R: AllocGlobal + Abort>(
+// A case's run has to come to what the case says in a world of its own, and to print that.
+fn check_case<R: AllocGlobal + Abort + Threads + Wait + Sync>(
     rt: &R,
-    settings: &[u8],
-    faults: &[u8],
-    operator: &[u8],
-) -> Inputs {
-    match read_inputs(rt.alloc(), settings, faults, operator) {
-        Ok(inputs) => inputs,
-        Err(_) => panic!(rt; "the texts are good"),
-    }
-}
-
-// Runs three texts over a world of its own. The journal's text has to audit as legal, with the totals of the run.
-fn run_in_world<R: AllocGlobal + Wait + Abort>(
-    rt: &R,
-    settings: &[u8],
-    faults: &[u8],
-    operator: &[u8],
-) -> Left {
-    let inputs = inputs_of(rt, settings, faults, operator);
-    let world = Mutex::new(World::new(inputs.plan.plates));
-    let outcome = play(rt, inputs, &world);
-    let totals = outcome.book.totals();
-    check_journal(rt, &outcome, totals);
-    Left {
-        end: outcome.end,
-        totals,
-        motions: motions_in(rt, &outcome),
-        collisions: world.lock(rt).collisions(),
-    }
-}
-
-// The totals of a journal's text in profile 2, which has to audit as legal.
-fn totals_of<R: AllocGlobal + Abort>(rt: &R, journal: &[u8]) -> Totals {
-    match audit(rt.alloc(), journal) {
-        Ok((2, totals)) => totals,
-        Ok((number, _)) => panic!(rt; "the journal is of profile {number}"),
-        Err(error) => panic!(rt; "the journal is legal: {error:?}"),
-    }
-}
-
-// What is printed of a run has to end with the lines of these totals.
-fn check_totals<R: AllocGlobal + Abort>(
-    rt: &R,
-    printed: &[u8],
-    totals: Totals,
-) -> Result<(), Fail> {
-    let lines = lines_of(rt.alloc(), totals)?;
-    assert!(rt; printed.ends_with(lines.as_str().as_bytes()));
-    Ok(())
-}
-
-// What is printed of three texts, or the run's journal, where the run has to end with this status.
-fn told_with<R: AllocGlobal + Abort + Threads + Wait + Sync>(
-    rt: &R,
-    texts: [&[u8]; 3],
-    journal: bool,
-    status: u8,
-) -> Vec<u8> {
-    let [settings, faults, operator] = texts;
-    let (written, answer) = told(rt, settings, faults, operator, journal);
-    assert_eq!(rt; answer, Ok(status));
-    written
-}
-
-// A run that has to print these lines and end with this status. Its journal's text has to audit as legal with the same
-// totals, and no machines may have met.
-fn check_run<R: AllocGlobal + Abort + Threads + Wait + Sync>(
-    rt: &R,
-    settings: &[u8],
-    faults: &[u8],
-    operator: &[u8],
-    status: u8,
-    wanted: &[u8],
-) -> Result<(), Fail> {
-    let texts = [settings, faults, operator];
-    let written = told_with(rt, texts, false, status);
-    assert_eq!(rt; written.as_slice(), wanted);
-    let journal = told_with(rt, texts, true, status);
-    let totals = totals_of(rt, journal.as_slice());
-    check_totals(rt, wanted, totals)?;
-    let left = run_in_world(rt, settings, faults, operator);
-    assert_eq!(rt; left.totals, totals);
-    assert_eq!(rt; left.collisions, 0);
+    case: &str,
+) -> Result<(), AllocError> {
+    let (texts, ..) = read_case(case);
+    let outcome = run_in_world(rt, texts, case);
+    let due = due_of(rt.alloc(), &outcome)?;
+    assert!(rt; case.ends_with(due.as_str()), "{case}: {due}");
+    check_told(rt, case, outcome.book.totals());
     Ok(())
 }
