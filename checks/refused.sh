@@ -4,6 +4,7 @@
 # give want of memory, or the answer with ample memory. docs/HOSTILE.md says how.
 # The crates' tests and the program have to be built: by `rt ci`, or by `rt test` in the crates' folders and `rt run` in
 # cellctl's.
+# The tests of the calls run side by side, one a processor.
 # Usage: checks/refused.sh [calls|program]     both by default
 set -euo pipefail
 here=$(cd "$(dirname "$0")" && pwd)
@@ -12,7 +13,8 @@ examples=$here/../examples
 cellctl=$crates/cellctl/out/cellctl
 folder=$(mktemp -d)
 trap 'rm -r "$folder"' EXIT
-gcc -O2 -Wall -shared -fPIC -o "$folder/refuse.so" "$here/refuse.c"
+library=${REFUSE_LIBRARY:-$folder/refuse.so}
+[ -e "$library" ] || gcc -O2 -Wall -shared -fPIC -o "$library" "$here/refuse.c"
 most=5000
 wrong=0
 
@@ -23,7 +25,7 @@ run_refused() {
     shift 3
     rm -f "$folder/counts"
     status=0
-    timeout 30 env LD_PRELOAD="$folder/refuse.so" REFUSE_FIRST="$first" REFUSE_ONWARD="$onward" REFUSE_WHOLE="$whole" \
+    timeout 30 env LD_PRELOAD="$library" REFUSE_FIRST="$first" REFUSE_ONWARD="$onward" REFUSE_WHOLE="$whole" \
         REFUSE_COUNTS="$folder/counts" "$@" < "$folder/input" > "$folder/output" 2> "$folder/errors" || status=$?
     # By a file: bash keeps the status of a process substitution under its number, and takes it for that of a later process
     # which gets the same number.
@@ -74,20 +76,29 @@ test_is_right() {
     [ "$status" = 0 ] && { [ "$refused" != 0 ] || [ "$wanted" = 0 ]; }
 }
 
-# The tests of a crate whose names have a word.
-refuse_tests() {
-    local crate=$1 word=$2 whole=$3 program test
-    program=$crates/$crate/out/${crate}_tests
+# Refuses memory to one test of a crate, and notes how many of its runs were wrong.
+refuse_test() {
+    local crate=$1 whole=$2 test=$3
     : > "$folder/input"
-    for test in $("$program" --list | sed -n "/$word/s/: test\$//p"); do
-        refuse_both test_is_right "${test##*:}" "$whole" "$program" "$test"
-    done
+    refuse_both test_is_right "${test##*:}" "$whole" "$crates/$crate/out/${crate}_tests" "$test"
+    echo "$wrong" >> "$REFUSE_TALLY"
+}
+
+# The tests of a crate whose names have a word, a line each, as refuse_test takes them.
+list_tests() {
+    local crate=$1 word=$2 whole=$3
+    "$crates/$crate/out/${crate}_tests" --list | sed -n "/$word/s/^\(.*\): test\$/$crate $whole \1/p"
 }
 
 refuse_calls() {
-    refuse_tests refused_tests '::' 0
-    refuse_tests worker_tests 'refusals::' 0
-    refuse_tests command_tests 'refused::' 1
+    {
+        list_tests refused_tests '::' 0
+        list_tests worker_tests 'refusals::' 0
+        list_tests command_tests 'refused::' 1
+    } > "$folder/tests"
+    REFUSE_LIBRARY=$library REFUSE_TALLY=$folder/tally xargs -P "$(nproc)" -L 1 "$here/refused.sh" test < "$folder/tests" || true
+    # A test that noted nothing came to no end.
+    wrong=$((wrong + $(awk '{ sum += $1 } END { print sum + 0 }' "$folder/tally") + $(wc -l < "$folder/tests") - $(wc -l < "$folder/tally")))
 }
 
 # The program told want of memory: by its status and on standard error, and it had written a first part of what is due, or
@@ -209,6 +220,11 @@ refuse_program() {
 }
 
 case ${1:-both} in
+    test)
+        shift
+        refuse_test "$@"
+        exit 0
+        ;;
     calls) refuse_calls ;;
     program) refuse_program ;;
     both)
