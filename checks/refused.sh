@@ -91,12 +91,20 @@ list_tests() {
 }
 
 refuse_calls() {
+    local crate
     {
         list_tests refused_tests '::' 0
         list_tests worker_tests 'refusals::' 0
         list_tests command_tests 'refused::' 1
     } > "$folder/tests"
-    REFUSE_LIBRARY=$library REFUSE_TALLY=$folder/tally xargs -P "$(nproc)" -L 1 "$here/refused.sh" test < "$folder/tests" || true
+    for crate in refused_tests worker_tests command_tests; do
+        if ! grep -q "^$crate " "$folder/tests"; then
+            wrong=$((wrong + 1))
+            echo "$crate: no test to which memory could be refused"
+        fi
+    done
+    : > "$folder/tally"
+    REFUSE_LIBRARY=$library REFUSE_TALLY=$folder/tally xargs -r -P "$(nproc)" -L 1 "$here/refused.sh" test < "$folder/tests" || true
     # A test that noted nothing came to no end.
     wrong=$((wrong + $(awk '{ sum += $1 } END { print sum + 0 }' "$folder/tally") + $(wc -l < "$folder/tests") - $(wc -l < "$folder/tally")))
 }
