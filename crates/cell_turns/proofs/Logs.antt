@@ -42,6 +42,14 @@ failures_after log None true some = absurd (differ (some refl))
 failures_after log (Some c) false some = refl
 failures_after log (Some c) true some = refl
 
+-- sending reads nothing
+answers_after : (log : Log) (o : Option Command) (failed : Bool) → (after_sending log o failed).answers ≡ log.answers
+answers_after log None failed = refl
+answers_after log (Some c) failed = refl
+
+pub unread_after : (now after : Log) (o : Option Command) (failed : Bool) → after ≡ after_sending now o failed → after.answers ≡ now.answers
+unread_after now after o failed next = ap (λ (l : Log). l.answers) next ∙ answers_after now o failed
+
 -- one entry more was booked, and its command was sent, or failed, if it has one
 pub sends_push : (before now after : Log) (was last failed : Bool) (es : List Entry) (e : Entry)
     → is_command_fault e ≡ last → after ≡ after_sending now (command_of e) failed → (failed ≡ true → is_some (command_of e) ≡ true)

@@ -23,7 +23,7 @@ use Rattle.cell_turns.specs.declared.six.Six.{Six}
 use Rattle.cell_turns.specs.declared.watch.Watch.{Watch}
 use Rattle.cell_turns.specs.Six.{at, put}
 use Rattle.cell_turns.specs.Logs.{Log, ActLog}
-use Rattle.cell_turns.specs.Sent.{Sends}
+use Rattle.cell_turns.specs.Sent.{SendsUnread}
 use Rattle.cell_turns.specs.Acts.{act_of, DidMore}
 use Rattle.cell_turns.specs.Handing.{IsHis, IsSpared}
 use Rattle.cell_turns.specs.Minds.{Mind, FitsMind, has_failed_command, with_failure}
@@ -96,10 +96,10 @@ pub record Grown (before after : History) (h h' : Held) (machines : Six (List En
   pub by_operator : operator ≡ entries_of actor.Operator added
   pub shares : h' ≡ held h.parts (plus h.counts (count_of added))
 
--- each port that still tells was sent the commands of its machine's list
+-- each port that still tells was sent the commands of its machine's list, and wasn't read
 abbrev pub AllSent : {P : Type 0} → (P → Bool) → (P → Log) → Six P → Six P → Six Watch → Six Watch → Six (List Entry) → Type 0
 AllSent tells log ports ports' ws ws' lists =
-    (m : Machine) → tells (at ports' m) ≡ true → Sends (log (at ports m)) (has_failed_command (at ws m)) (log (at ports' m)) (at lists m) (has_failed_command (at ws' m))
+    (m : Machine) → tells (at ports' m) ≡ true → SendsUnread (log (at ports m)) (has_failed_command (at ws m)) (log (at ports' m)) (at lists m) (has_failed_command (at ws' m))
 
 -- the act that a step wants of the operator
 abbrev pub act_at : Step → Option Act

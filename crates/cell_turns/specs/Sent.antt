@@ -38,3 +38,8 @@ pub record Sends (before : Log) (was : Bool) (after : Log) (es : List Entry) (fa
   pub begins : fails_before failed es ≡ was
   pub sent : after.sent ≡ before.sent ++ sent_for failed es
   pub failures : after.failures + one_where was ≡ before.failures + (command_faults es + one_where failed)
+
+-- the same, and the port wasn't read
+pub record SendsUnread (before : Log) (was : Bool) (after : Log) (es : List Entry) (failed : Bool) : Type 0 where
+  pub sends : Sends before was after es failed
+  pub unread : after.answers ≡ before.answers

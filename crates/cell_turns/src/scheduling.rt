@@ -59,6 +59,7 @@ fn take_turn<P: Port, R: Run>(
     ensures refused { IfOk result (λ refused. refused ≡ true → TurnedAway plan.now machine reading kept.old kept.new watch.old watch.new) }
     ensures grew { IfOk result (λ _. GrewBy (actors.Machine machine) kept.old kept.new shares.old shares.new entries.old.items entries.new.items) }
     ensures sends { P.tells port.new ≡ true → (before : Log) (was : Bool) → Sends before was (P.log port.old) entries.old.items (has_failed_command watch.old) → Sends before was (P.log port.new) entries.new.items (has_failed_command watch.new) }
+    ensures unread { P.tells port.new ≡ true → (P.log port.new).answers ≡ (P.log port.old).answers }
     ensures still { P.tells port.new ≡ true → P.tells port.old ≡ true }
     ensures machine { machine_of_watch watch.new ≡ machine }
     ensures unchanged { OnErr result ((port.new ≡ port.old) × (kept.new ≡ kept.old) × (shares.new ≡ shares.old) × (watch.new ≡ watch.old)) }
@@ -133,7 +134,7 @@ fn no_entries(alloc: Global) -> Six<Vec<Entry>>
 }
 
 /// Takes the steps, one after another, on this thread. The readings of turns come from the steps, and commands go to the
-/// ports. A turn that answers `Refused` does nothing but count. An entry by hand that isn't the operator's, that the book
+/// ports, which aren't read. A turn that answers `Refused` does nothing but count. An entry by hand that isn't the operator's, that the book
 /// refuses, or whose act by hand fails, does nothing.
 ///
 /// `OutOfMemory` comes where a list can't take one more entry, or the book can't for a plate in quarantine. The steps

@@ -1,14 +1,15 @@
 //! The operator's worker.
-ghost use Rattle.std.specs.Prelude.{◌≡◌, ◌≢◌, ◌++◌, ◌∷◌, [], true, IfOk, IfErr, OnOk, OnErr, IfSome, IfNone, All, Some, IsSome, is_some};
+ghost use Rattle.std.specs.Prelude.{◌≡◌, ◌≢◌, ◌⊎◌, ◌++◌, ◌∷◌, [], List, true, IfOk, IfErr, OnOk, OnErr, IfSome, IfNone, All, Some, IsSome, is_some};
 ghost use Rattle.cell_types.specs.Entries.{actor_of};
 ghost use Rattle.cell_types.specs.declared.words.Actor.TheVariants as actors;
 ghost use Rattle.cell_views.specs.Views.{count_of};
 ghost use Rattle.plate_book.specs.Rules.Legal.{first_of};
+ghost use Rattle.operator_desk.specs.declared.line.Line.{Line};
 ghost use Rattle.cell_ledger.specs.Counts.{plus, count_one};
 ghost use Rattle.cell_ledger.specs.Held.{Held, held};
 ghost use Rattle.cell_turns.specs.Logs.{ActLog, after_hand};
 ghost use Rattle.cell_turns.specs.Acts.{act_of};
-ghost use Rattle.cell_workers.specs.Operating.{DidHands, HandsEnded};
+ghost use Rattle.cell_workers.specs.Operating.{DidHands, Followed, Follows, HandsEnded, IsDue, RefusedAs};
 ghost use Rattle.cell_workers.specs.Working.{Serves, Stands};
 
 use crate::ends::End;
@@ -41,13 +42,13 @@ impl<R: Run> Hall<R> {
         ensures entries { OnOk result (bookings.new.entries.items ≡ bookings.old.entries.items ++ entry ∷ []) }
         ensures shares { OnOk result (bookings.new.shares ≡ held bookings.old.shares.parts (plus bookings.old.shares.counts (count_one entry))) }
         ensures unchanged { OnErr result ((bookings.new.entries.items ≡ bookings.old.entries.items) × (bookings.new.shares ≡ bookings.old.shares)) }
-        ensures ended { result ≢ Err Ended.Told }
-        ensures refused { result ≡ Err Ended.PortLost → is_some (first_of self.old.kept.limits self.old.kept.entries entry) ≡ true }
-        ensures full { result ≡ Err Ended.Full → first_of self.old.kept.limits self.old.kept.entries entry ≡ Some Refusal.JournalFull }
+        ensures refused { IfErr result (λ ended. RefusedAs R.limits entry ended) }
+        ensures allowed { is_some (first_of self.old.kept.limits self.old.kept.entries entry) ≢ true → IfErr result (λ ended. ended ≡ Ended.Memory) }
         ensures kept { OnErr result (self.new.kept ≡ self.old.kept) }
         ensures ends { IfErr result (λ ended. ended ≢ Ended.PortLost → IsSome self.new.end) }
         ensures stands { Stands self.old.end self.new.end }
     {
+        self.kept.is_lawful();
         if bookings.entries.reserve(1).is_err() {
             self.finish(End::Memory);
             return Err(Ended::Memory);
@@ -82,7 +83,7 @@ fn locked_booking<R: Run, W: Wait>(
     ensures entries { OnOk result (bookings.new.entries.items ≡ bookings.old.entries.items ++ entry ∷ []) }
     ensures shares { OnOk result (bookings.new.shares ≡ held bookings.old.shares.parts (plus bookings.old.shares.counts (count_one entry))) }
     ensures unchanged { OnErr result ((bookings.new.entries.items ≡ bookings.old.entries.items) × (bookings.new.shares ≡ bookings.old.shares)) }
-    ensures ended { result ≢ Err Ended.Told }
+    ensures refused { IfErr result (λ ended. RefusedAs R.limits entry ended) }
 {
     let taken = room.hall.lock(rt).take(bookings, entry);
     if taken != Err(Ended::PortLost) {
@@ -102,7 +103,10 @@ fn choose<R: Run, W: Wait>(
 ) -> Result<Option<Entry>, Ended>
     ensures his { IfOk result (λ o. IfSome o (λ e. actor_of e ≡ actors.Operator)) }
     ensures wanted { IfOk result (λ o. IfSome o (λ e. is_some (act_of e) ≡ true)) }
-    ensures ended { result ≢ Err Ended.PortLost }
+    ensures due { IfOk result (λ o. IfSome o (λ e. IsDue R.limits script.old e)) }
+    ensures same { IfOk result (λ o. IfSome o (λ e. script.new ≡ script.old)) }
+    ensures ended { IfErr result (λ ended. (ended ≡ Ended.Told) ⊎ (ended ≡ Ended.Memory)) }
+    ensures follows { (lines : List Line) → Followed R.limits lines bookings.old.entries.items script.old → Followed R.limits lines bookings.new.entries.items script.new }
     ensures serves { (start : Held) → Serves actors.Operator start bookings.old.entries.items bookings.old.shares → Serves actors.Operator start bookings.new.entries.items bookings.new.shares }
     ensures did { (before now : ActLog) → DidHands before now bookings.old.entries.items → DidHands before now bookings.new.entries.items }
 {
@@ -110,6 +114,7 @@ fn choose<R: Run, W: Wait>(
     if hall.end.is_some() {
         return Err(Ended::Told);
     }
+    hall.kept.is_lawful();
     let Some(action) = script.next(hall.kept.book()) else {
         if hall.rest(OPERATOR, plan) {
             room.moved.notify_all();
@@ -152,7 +157,8 @@ fn hand_over<O: OperatorPort, R: Run, W: Wait>(
     ensures shares { OnOk result (bookings.new.shares ≡ held bookings.old.shares.parts (plus bookings.old.shares.counts (count_one entry))) }
     ensures done { OnOk result (O.tells operator.new ≡ true → O.log operator.new ≡ after_hand (O.log operator.old) (act_of entry) true) }
     ensures unchanged { OnErr result ((bookings.new.entries.items ≡ bookings.old.entries.items) × (bookings.new.shares ≡ bookings.old.shares)) }
-    ensures ended { IfErr result (λ ended. O.tells operator.new ≡ true → HandsEnded (O.log operator.old) (O.log operator.new) [] ended) }
+    ensures turns { result ≢ Err Ended.Turns }
+    ensures ended { IfErr result (λ ended. O.tells operator.new ≡ true → (lines : List Line) → IsDue R.limits lines entry → HandsEnded R.limits lines (O.log operator.old) (O.log operator.new) [] ended) }
 {
     if bookings.entries.reserve(1).is_err() {
         finish(rt, room, End::Memory);
@@ -179,7 +185,9 @@ fn operate<O: OperatorPort, R: Run, W: Wait>(
     ensures still { O.tells operator.new ≡ true → O.tells operator.old ≡ true }
     ensures serves { (start : Held) → Serves actors.Operator start bookings.old.entries.items bookings.old.shares → Serves actors.Operator start bookings.new.entries.items bookings.new.shares }
     ensures did { IfNone result (O.tells operator.new ≡ true → (before : ActLog) → DidHands before (O.log operator.old) bookings.old.entries.items → DidHands before (O.log operator.new) bookings.new.entries.items) }
-    ensures ended { IfSome result (λ ended. O.tells operator.new ≡ true → (before : ActLog) → DidHands before (O.log operator.old) bookings.old.entries.items → HandsEnded before (O.log operator.new) bookings.new.entries.items ended) }
+    ensures follows { (lines : List Line) → Followed R.limits lines bookings.old.entries.items script.old → Followed R.limits lines bookings.new.entries.items script.new }
+    ensures turns { result ≢ Some Ended.Turns }
+    ensures ended { IfSome result (λ ended. O.tells operator.new ≡ true → (before : ActLog) → DidHands before (O.log operator.old) bookings.old.entries.items → (lines : List Line) → Followed R.limits lines bookings.old.entries.items script.old → HandsEnded R.limits lines before (O.log operator.new) bookings.new.entries.items ended) }
 {
     let entry = match choose(rt, room, bookings, script, plan) {
         Ok(Some(entry)) => entry,
@@ -206,7 +214,9 @@ fn operate_all<O: OperatorPort, R: Run, W: Wait>(
 ) -> Ended
     ensures still { O.tells operator.new ≡ true → O.tells operator.old ≡ true }
     ensures serves { (start : Held) → Serves actors.Operator start bookings.old.entries.items bookings.old.shares → Serves actors.Operator start bookings.new.entries.items bookings.new.shares }
-    ensures ended { O.tells operator.new ≡ true → (before : ActLog) → DidHands before (O.log operator.old) bookings.old.entries.items → HandsEnded before (O.log operator.new) bookings.new.entries.items result }
+    ensures follows { (lines : List Line) → Followed R.limits lines bookings.old.entries.items script.old → Followed R.limits lines bookings.new.entries.items script.new }
+    ensures turns { result ≢ Ended.Turns }
+    ensures ended { O.tells operator.new ≡ true → (before : ActLog) → DidHands before (O.log operator.old) bookings.old.entries.items → (lines : List Line) → Followed R.limits lines bookings.old.entries.items script.old → HandsEnded R.limits lines before (O.log operator.new) bookings.new.entries.items result }
 {
     for _ in rt.forever() {
         if let Some(ended) = operate(rt, operator, room, bookings, script, plan) {
@@ -230,7 +240,9 @@ pub fn run_operator<O: OperatorPort, R: Run, W: Wait>(
     ensures actor { All (λ e. actor_of e ≡ actors.Operator) result.entries.items }
     ensures counts { result.shares ≡ held shares.parts (plus shares.counts (count_of result.entries.items)) }
     ensures still { O.tells operator.new ≡ true → O.tells operator.old ≡ true }
-    ensures did { O.tells operator.new ≡ true → HandsEnded (O.log operator.old) (O.log operator.new) result.entries.items result.ended }
+    ensures follows { Follows R.limits script result.entries.items }
+    ensures did { O.tells operator.new ≡ true → HandsEnded R.limits script (O.log operator.old) (O.log operator.new) result.entries.items result.ended }
+    ensures turns { result.ended ≢ Ended.Turns }
 {
     let mut bookings = Bookings {
         entries: Vec::new(alloc),

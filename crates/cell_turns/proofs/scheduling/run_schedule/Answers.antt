@@ -1,4 +1,4 @@
-use Rattle.std.proofs.Common.{◌<◌, length, Vec, sym, ◌∙◌, arith, rules, take, drop, suc}
+use Rattle.std.proofs.Common.{◌<◌, length, Vec, refl, sym, ◌∙◌, arith, rules, take, drop, suc}
 use Rattle.std.proofs.lemmas.List.{take_more}
 use Rattle.cell_types.specs.declared.words.Machine.{Machine}
 use Rattle.cell_types.specs.declared.words.Entry.{Entry}
@@ -20,7 +20,7 @@ loop-step-init g c =
       few = omega arith;
       still = λ t. t;
       grown = grown_start c.args.kept.now c.args.shares.now (map_six items c.no_entries.result) c.new.result.items none c.new.ensures.items;
-      sent = λ m t. sends_start (g.P.Port.log (at c.args.ports.now m)) (has_failed_command (at c.args.watches.now m)) (at (map_six items c.no_entries.result) m) (none m);
+      sent = λ m t. record { sends = sends_start (g.P.Port.log (at c.args.ports.now m)) (has_failed_command (at c.args.watches.now m)) (at (map_six items c.no_entries.result) m) (none m); unread = refl };
       did = λ t. did_start (g.O.OperatorPort.log c.args.operator.now) c.new.result.items c.new.ensures.items;
       scheduled = scheduled_start c.args.plan.now c.args.kept.now c.args.watches.now (g.O.OperatorPort.tells c.args.operator.now) (g.O.OperatorPort.log c.args.operator.now);
     }

@@ -3,7 +3,7 @@ use Rattle.cell_types.specs.declared.words.Machine.{Machine}
 use Rattle.cell_types.specs.declared.words.Entry.{Entry}
 use Rattle.cell_turns.specs.declared.watch.Watch.{Watch}
 use Rattle.cell_turns.specs.Six.{put, at, map_six}
-use Rattle.cell_turns.specs.Sent.{Sends}
+use Rattle.cell_turns.specs.Sent.{SendsUnread}
 use Rattle.cell_turns.specs.Minds.{machine_of_watch, has_failed_command}
 use Rattle.cell_turns.proofs.Sixes.{put_at, map_put, map_at, all_put, all_picked}
 use Rattle.cell_turns.proofs.Schedules.{scheduled_turn, scheduled_hand, grown_turn, did_hand}
@@ -45,12 +45,15 @@ returns-in-Ok-clause-sent g c = λ before ws sent.
     let items = λ (v : Vec Entry _). v.items in
     let tells = g.P.Port.tells in
     let log = g.P.Port.log in
-    let Q = λ (n : Machine) (p : g.row.P.Denot) (es : List Entry) (w : Watch). tells p ≡ true → Sends (log (at before n)) (has_failed_command (at ws n)) (log p) es (has_failed_command w) in
+    let Q = λ (n : Machine) (p : g.row.P.Denot) (es : List Entry) (w : Watch). tells p ≡ true → SendsUnread (log (at before n)) (has_failed_command (at ws n)) (log p) es (has_failed_command w) in
     let was = all_picked Q m ports (map_six items machines) watches c.pick-port.result.now c.pick-entries.result.now.items c.pick-watch.result.now
     c.pick-port.ensures.value (ap items c.pick-entries.ensures.value ∙ map_at items machines m) c.pick-watch.ensures.value sent in
     rw (map_put items machines m c.take_turn.new.entries)
     (all_put Q m ports (map_six items machines) watches c.take_turn.new.port c.take_turn.new.entries.items c.take_turn.new.watch sent
-    (λ told. c.take_turn.ensures.sends told (log (at before m)) (has_failed_command (at ws m)) (was (c.take_turn.ensures.still told))))
+    (λ told. record {
+      sends = c.take_turn.ensures.sends told (log (at before m)) (has_failed_command (at ws m)) (was (c.take_turn.ensures.still told)).sends;
+      unread = c.take_turn.ensures.unread told ∙ (was (c.take_turn.ensures.still told)).unread;
+    }))
 
 pub returns-in-Ok-clause-scheduled : goal.returns-in-Ok-clause-scheduled
 returns-in-Ok-clause-scheduled g c = λ steps before ws acts s.
