@@ -1,5 +1,5 @@
 -- What is printed of a run, and the status with which it ends
-use Rattle.std.specs.Prelude.{◌≡◌, ◌⊎◌, ℕ, Bool, true, false, List, [], ◌∷◌, ◌++◌, Option, Result, Ok, Err, codes}
+use Rattle.std.specs.Prelude.{◌≡◌, ◌⊎◌, ℕ, Bool, true, false, List, [], ◌∷◌, ◌++◌, Option, Some, None, Result, Ok, Err, codes}
 use Rattle.std.specs.Io.KnownBytes.{Appends}
 use Rattle.cell_types.specs.declared.words.Entry.{Entry}
 use Rattle.cell_types.specs.declared.words.Totals.{Totals}
@@ -59,11 +59,12 @@ PrintsOrStops journal e t J old new status = Prints journal e t J old new status
 abbrev pub limits_of : Plan → BookLimits
 limits_of plan = record { entries = plan.journal_limit; plates = plan.plates }
 
--- a run on one thread, by this plan and this script of the operator, leads in rounds to a journal and an end, which are printed;
--- or memory was refused before it, and nothing was written
-abbrev pub WritesRounds : Bool → Plan → List Line → Option (List ℕ) → Option (List ℕ) → ℕ → Type 0
-WritesRounds journal plan script old new status =
-    ((e : End) × (J : List Entry) × IsRun (limits_of plan) plan script J e × PrintsOrStops journal e (count_of J) J old new status) ⊎ WritesError old new [] 4 status
+-- a run on one thread, by this plan and this script of the operator, leads in rounds to a journal and an end, which are printed,
+-- and the journal is kept; or memory was refused before it, and nothing was written
+abbrev pub WritesRounds : Bool → Plan → List Line → Option (List ℕ) → Option (List ℕ) → ℕ → Option (List Entry) → Type 0
+WritesRounds journal plan script old new status kept =
+    ((e : End) × (J : List Entry) × IsRun (limits_of plan) plan script J e × PrintsOrStops journal e (count_of J) J old new status × (kept ≡ Some J))
+    ⊎ (WritesError old new [] 4 status × (kept ≡ None))
 
 -- a first part of what is printed of such a run was written, and not all of it
 abbrev pub PartOfRounds : Bool → Plan → List Line → Option (List ℕ) → Option (List ℕ) → Type 0
@@ -80,11 +81,11 @@ WritesRunError old new run.OutOfMemory status = WritesError old new [] 4 status
 WritesRunError old new run.ThreadRefused status = WritesError old new [] 4 status
 WritesRunError old new run.JournalDisagrees status = WritesError old new disagrees_line 1 status
 
--- a run on threads has a report, which is printed with the run's end, or why there is none is told
-abbrev pub WritesReport : Bool → BookLimits → Option (List ℕ) → Option (List ℕ) → ℕ → Type 0
-WritesReport journal limits old new status =
-    ((e : End) × (J : List Entry) × (t : Totals) × (ws : List (List Entry × Totals)) × IsReport limits J t ws × PrintsOrStops journal e t J old new status)
-    ⊎ ((why : RunError) × WritesRunError old new why status)
+-- a run on threads has a report, which is printed with the run's end, and its journal is kept; or why there is none is told
+abbrev pub WritesReport : Bool → BookLimits → Option (List ℕ) → Option (List ℕ) → ℕ → Option (List Entry) → Type 0
+WritesReport journal limits old new status kept =
+    ((e : End) × (J : List Entry) × (t : Totals) × (ws : List (List Entry × Totals)) × IsReport limits J t ws × PrintsOrStops journal e t J old new status × (kept ≡ Some J))
+    ⊎ ((why : RunError) × WritesRunError old new why status × (kept ≡ None))
 
 -- a first part of what is printed of a report, or of the line where there is none, was written, and not all of it
 abbrev pub PartOfReport : Bool → BookLimits → Option (List ℕ) → Option (List ℕ) → Type 0
@@ -92,20 +93,25 @@ PartOfReport journal limits old new =
     ((e : End) × (J : List Entry) × (t : Totals) × (ws : List (List Entry × Totals)) × IsReport limits J t ws × WritesPart old new (shown journal e t J))
     ⊎ WritesPart old new disagrees_line
 
-abbrev pub WritesRun : Bool → Bool → Inputs → Option (List ℕ) → Option (List ℕ) → ℕ → Type 0
-WritesRun false journal inputs old new status = WritesRounds journal inputs.plan inputs.script old new status
-WritesRun true journal inputs old new status = WritesReport journal (limits_of inputs.plan) old new status
+abbrev pub WritesRun : Bool → Bool → Inputs → Option (List ℕ) → Option (List ℕ) → ℕ → Option (List Entry) → Type 0
+WritesRun false journal inputs old new status kept = WritesRounds journal inputs.plan inputs.script old new status kept
+WritesRun true journal inputs old new status kept = WritesReport journal (limits_of inputs.plan) old new status kept
 
--- what is printed of a run's texts, or of the first that is refused
-abbrev pub WritesInputs : Bool → Bool → Option (List ℕ) → Option (List ℕ) → ℕ → Result Inputs InputError → Type 0
-WritesInputs threads journal old new status (Ok inputs) = WritesRun threads journal inputs old new status
-WritesInputs threads journal old new status (Err e) = WritesError old new (input_line e) (input_status e) status
+-- what is printed of a run's texts, or of the first that is refused; of a run its journal is kept
+abbrev pub WritesInputs : Bool → Bool → Option (List ℕ) → Option (List ℕ) → ℕ → Option (List Entry) → Result Inputs InputError → Type 0
+WritesInputs threads journal old new status kept (Ok inputs) = WritesRun threads journal inputs old new status kept
+WritesInputs threads journal old new status kept (Err e) = WritesError old new (input_line e) (input_status e) status × (kept ≡ None)
 
 -- what was written is the line of the first text that is refused, in the order settings, faults, operator, or is of a run
--- within the settings' limits, on threads or on one
+-- within the settings' limits, on threads or on one, whose journal is kept
+abbrev pub KeepsRun : List ℕ → List ℕ → List ℕ → Bool → Bool → Option (List ℕ) → Option (List ℕ) → ℕ → Option (List Entry) → Type 0
+KeepsRun settings faults operator threads journal old new status kept =
+    (inputs : Result Inputs InputError) × AreInputs settings faults operator inputs × WritesInputs threads journal old new status kept inputs
+
+-- the same, and no journal is handed on
 abbrev pub TellsRun : List ℕ → List ℕ → List ℕ → Bool → Bool → Option (List ℕ) → Option (List ℕ) → ℕ → Type 0
 TellsRun settings faults operator threads journal old new status =
-    (inputs : Result Inputs InputError) × AreInputs settings faults operator inputs × WritesInputs threads journal old new status inputs
+    (kept : Option (List Entry)) × KeepsRun settings faults operator threads journal old new status kept
 
 abbrev pub PartOfRun : Bool → Bool → Inputs → Option (List ℕ) → Option (List ℕ) → Type 0
 PartOfRun false journal inputs old new = PartOfRounds journal inputs.plan inputs.script old new

@@ -1,5 +1,5 @@
 //! What is printed of a run.
-ghost use Rattle.std.specs.Prelude.{◌≡◌, List, map, IfOk, IsErr, OnOk, true};
+ghost use Rattle.std.specs.Prelude.{◌≡◌, List, map, IfOk, IsErr, OnOk, Some, true};
 ghost use Rattle.std.specs.Io.KnownBytes.{Appends};
 ghost use Rattle.cell_audit.specs.Watched.{IsSameWriter, WritesPart, bytes_held, has_refused};
 ghost use Rattle.plate_book.specs.declared.limits.BookLimits.{BookLimits};
@@ -106,7 +106,7 @@ pub fn write_outcome<W: Write>(
     writer: &mut WatchedWriter<'_, W>,
 ) -> Result<u8, WriteFault>
     ensures writer { IsSameWriter writer.old writer.new }
-    ensures whole { IfOk result (λ status. (plan : PlanValue) (script : List Line) → IsRun (limits_of plan) plan script outcome.now.book.entries outcome.now.end → WritesRounds journal plan script (bytes_held W.contents writer.old) (bytes_held W.contents writer.new) status) }
+    ensures whole { IfOk result (λ status. (plan : PlanValue) (script : List Line) → IsRun (limits_of plan) plan script outcome.now.book.entries outcome.now.end → WritesRounds journal plan script (bytes_held W.contents writer.old) (bytes_held W.contents writer.new) status (Some outcome.now.book.entries)) }
     ensures part { IsErr result → (plan : PlanValue) (script : List Line) → IsRun (limits_of plan) plan script outcome.now.book.entries outcome.now.end → PartOfRounds journal plan script (bytes_held W.contents writer.old) (bytes_held W.contents writer.new) }
     ensures fault { IsErr result → has_refused writer.new ≡ true }
 {
@@ -129,7 +129,7 @@ pub fn write_report<W: Write>(
     writer: &mut WatchedWriter<'_, W>,
 ) -> Result<u8, WriteFault>
     ensures writer { IsSameWriter writer.old writer.new }
-    ensures whole { IfOk result (λ status. (limits : BookLimits) → IsReport limits report.now.journal.entries report.now.totals (map (λ w. (w.0.items, w.1)) report.now.workers) → WritesReport journal limits (bytes_held W.contents writer.old) (bytes_held W.contents writer.new) status) }
+    ensures whole { IfOk result (λ status. (limits : BookLimits) → IsReport limits report.now.journal.entries report.now.totals (map (λ w. (w.0.items, w.1)) report.now.workers) → WritesReport journal limits (bytes_held W.contents writer.old) (bytes_held W.contents writer.new) status (Some report.now.journal.entries)) }
     ensures part { IsErr result → (limits : BookLimits) → IsReport limits report.now.journal.entries report.now.totals (map (λ w. (w.0.items, w.1)) report.now.workers) → PartOfReport journal limits (bytes_held W.contents writer.old) (bytes_held W.contents writer.new) }
     ensures fault { IsErr result → has_refused writer.new ≡ true }
 {

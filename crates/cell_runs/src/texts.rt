@@ -1,7 +1,7 @@
 //! A run by its texts.
-ghost use Rattle.std.specs.Prelude.{◌≡◌, IfOk, IsErr, true};
+ghost use Rattle.std.specs.Prelude.{◌≡◌, IfOk, IsErr, option_map, true};
 ghost use Rattle.cell_audit.specs.Watched.{IsSameWriter, bytes_held, has_refused};
-ghost use Rattle.cell_runs.specs.Runs.{PartOfReport, PartOfRounds, TellsPart, TellsRun, WritesReport, WritesRounds, limits_of};
+ghost use Rattle.cell_runs.specs.Runs.{KeepsRun, PartOfReport, PartOfRounds, TellsPart, TellsRun, WritesReport, WritesRounds, limits_of};
 
 use crate::inputs::{Inputs, read_inputs};
 use crate::refused::refuse_input;
@@ -26,7 +26,7 @@ fn write_rounds<R: AllocGlobal + Wait, W: Write>(
     writer: &mut WatchedWriter<'_, W>,
 ) -> Result<(u8, Option<Journal>), WriteFault>
     ensures writer { IsSameWriter writer.old writer.new }
-    ensures whole { IfOk result (λ ran. WritesRounds journal inputs.plan inputs.script (bytes_held W.contents writer.old) (bytes_held W.contents writer.new) ran.0) }
+    ensures whole { IfOk result (λ ran. WritesRounds journal inputs.plan inputs.script (bytes_held W.contents writer.old) (bytes_held W.contents writer.new) ran.0 (option_map (λ j. j.entries) ran.1)) }
     ensures part { IsErr result → PartOfRounds journal inputs.plan inputs.script (bytes_held W.contents writer.old) (bytes_held W.contents writer.new) }
     ensures fault { IsErr result → has_refused writer.new ≡ true }
 {
@@ -55,7 +55,7 @@ fn write_threads<R: AllocGlobal + Threads + Wait + Sync, W: Write>(
     writer: &mut WatchedWriter<'_, W>,
 ) -> Result<(u8, Option<Journal>), WriteFault>
     ensures writer { IsSameWriter writer.old writer.new }
-    ensures whole { IfOk result (λ ran. WritesReport journal (limits_of inputs.plan) (bytes_held W.contents writer.old) (bytes_held W.contents writer.new) ran.0) }
+    ensures whole { IfOk result (λ ran. WritesReport journal (limits_of inputs.plan) (bytes_held W.contents writer.old) (bytes_held W.contents writer.new) ran.0 (option_map (λ j. j.entries) ran.1)) }
     ensures part { IsErr result → PartOfReport journal (limits_of inputs.plan) (bytes_held W.contents writer.old) (bytes_held W.contents writer.new) }
     ensures fault { IsErr result → has_refused writer.new ≡ true }
 {
@@ -89,7 +89,7 @@ fn run_kept<R: AllocGlobal + Threads + Wait + Sync, W: Write>(
     writer: &mut WatchedWriter<'_, W>,
 ) -> Result<(u8, Option<Journal>), WriteFault>
     ensures writer { IsSameWriter writer.old writer.new }
-    ensures whole { IfOk result (λ ran. TellsRun settings.now faults.now operator.now threads journal (bytes_held W.contents writer.old) (bytes_held W.contents writer.new) ran.0) }
+    ensures whole { IfOk result (λ ran. KeepsRun settings.now faults.now operator.now threads journal (bytes_held W.contents writer.old) (bytes_held W.contents writer.new) ran.0 (option_map (λ j. j.entries) ran.1)) }
     ensures part { IsErr result → TellsPart settings.now faults.now operator.now threads journal (bytes_held W.contents writer.old) (bytes_held W.contents writer.new) }
     ensures fault { IsErr result → has_refused writer.new ≡ true }
 {
@@ -176,7 +176,8 @@ pub fn run_texts_kept<R: AllocGlobal + Threads + Wait + Sync, W: Write>(
     journal: bool,
     writer: &mut W,
 ) -> Result<(u8, Option<Journal>), WriteFault>
-    ensures whole { IfOk result (λ ran. TellsRun settings.now faults.now operator.now threads journal (W.contents writer.old) (W.contents writer.new) ran.0) }
+    // The journal is that of the run which was written.
+    ensures whole { IfOk result (λ ran. KeepsRun settings.now faults.now operator.now threads journal (W.contents writer.old) (W.contents writer.new) ran.0 (option_map (λ j. j.entries) ran.1)) }
     ensures part { IsErr result → TellsPart settings.now faults.now operator.now threads journal (W.contents writer.old) (W.contents writer.new) }
 {
     let mut writer = WatchedWriter::new(writer);

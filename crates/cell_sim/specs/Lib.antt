@@ -1,3 +1,4 @@
+pub mod Simulated
 pub mod Faults
 pub mod Meaning
 pub mod Script

@@ -1,4 +1,7 @@
 //! One axis as it is.
+ghost use Rattle.std.specs.Prelude.{◌≡◌};
+ghost use Rattle.cell_types.specs.Cell.{home};
+
 use crate::motion::{Motion, Path};
 use crate::switches::switch_bit;
 use cell_types::{Axis, Pose, home};
@@ -15,7 +18,9 @@ pub(crate) struct AxisInWorld {
 
 impl AxisInWorld {
     /// An axis at home that hasn't moved yet.
-    pub(crate) fn new(axis: Axis) -> AxisInWorld {
+    pub(crate) fn new(axis: Axis) -> AxisInWorld
+        ensures { result.pose ≡ home axis }
+    {
         AxisInWorld {
             pose: home(axis),
             motion: None,

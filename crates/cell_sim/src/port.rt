@@ -1,9 +1,12 @@
 //! The ports of the machines of a simulated cell, and the operator's hands in it.
+ghost use Rattle.std.specs.Prelude.{◌≡◌};
+
 use crate::script::FaultScript;
 use crate::world::World;
 use cell_diagnosis::Reading;
 use cell_turns::{OperatorPort, Port, PortFault};
 use cell_types::{Command, Machine, Station};
+use std::marker::Model;
 use std::sync::{Mutex, Wait};
 
 /// The port of a machine of a simulated cell. Each call takes the world's lock, so it may wait for another port. It keeps
@@ -16,6 +19,14 @@ pub struct SimPort<'a, R: Wait> {
     faults: &'a FaultScript,
 }
 
+impl<'a, R: Wait> Model for SimPort<'a, R> {
+    ghost use Rattle.cell_types.specs.declared.words.Machine.{Machine as MachineValue};
+
+    ghost Value = { MachineValue };
+
+    ghost view = { λ p. p.machine };
+}
+
 impl<'a, R: Wait> SimPort<'a, R> {
     /// The port of a machine. A command names its own part of the cell, so that only readings are the machine's.
     pub fn new(
@@ -23,7 +34,9 @@ impl<'a, R: Wait> SimPort<'a, R> {
         world: &'a Mutex<World>,
         machine: Machine,
         faults: &'a FaultScript,
-    ) -> SimPort<'a, R> {
+    ) -> SimPort<'a, R>
+        ensures { result ≡ machine }
+    {
         SimPort {
             rt,
             world,

@@ -7,6 +7,9 @@
 //!
 //! A stopped motion goes on showing what it last showed. A motion ends where another of its axis begins or the axis is
 //! put at home, and that of a belt also where the belt is turned off.
+ghost use Rattle.std.specs.Prelude.{◌≡◌};
+ghost use Rattle.cell_sim.specs.Simulated.{opening_with};
+
 use crate::axis::AxisInWorld;
 use crate::fault::Fault;
 use crate::motion::{Motion, Path, Phase};
@@ -18,6 +21,7 @@ use cell_types::{
     axis_of_arm, faced, home, is_pose_of, machine_of_axis, machine_of_station, motion_named,
     station_number, station_of_arm,
 };
+use std::marker::Model;
 
 /// A simulated cell: where its axes and plates are, which motions go on, its lights, and how often machines met.
 #[derive(Debug, Drop)]
@@ -36,11 +40,31 @@ pub struct World {
     collisions: u32,
 }
 
+impl Model for World {
+    ghost use Rattle.std.specs.Prelude.{map};
+    ghost use Rattle.cell_sim.specs.Simulated.{Simulated};
+
+    ghost Value = { Simulated };
+
+    ghost view = { λ w. record {
+      poses = map (λ a. a.pose) w.axes;
+      plates = w.plates;
+      feed_light = w.feed_light;
+      deposit_light = w.deposit_light;
+      planned = w.plan;
+      laid = w.laid;
+      cleared = w.cleared;
+      collisions = w.collisions;
+    } };
+}
+
 impl World {
     /// A cell at the opening: all axes at home, no plate in it, both lights red. At the beginning of the feed belt up to
     /// `plates` plates are laid, one at a time, where the feed light is green, and besides as many as were taken out by
     /// hand from before a press.
-    pub fn new(plates: u32) -> World {
+    pub fn new(plates: u32) -> World
+        ensures { result ≡ opening_with plates }
+    {
         World {
             axes: [
                 AxisInWorld::new(Axis::FeedBelt),
@@ -65,7 +89,9 @@ impl World {
 
     /// How often an axis of the table, a press or the deposit belt was told to move while an arm was out there, and how
     /// often an arm was told to lay a plate down where there is no station or a full one. At `u32::MAX` the count stays.
-    pub fn collisions(&self) -> u32 {
+    pub fn collisions(&self) -> u32
+        ensures { result ≡ self.now.collisions }
+    {
         self.collisions
     }
 
