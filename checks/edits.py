@@ -7,10 +7,9 @@ says, so that the prover has to refuse them. Usage: checks/edits.sh [changed | a
   CRATE..   those of these crates
   tried     tries none: says which crates changed since all their edits were refused, and fails where there is one
 
-It first proves what isn't proved. Then `rt must-fail` tries the edits, side by side, each over what rt kept of its crate, in
-a copy of the tree in which they stand in must-fail/; it says at the end of each whether it was refused, and by what. What
-it tried of the same files earlier, on this machine, it doesn't try again. edits/TRIED has a line for each crate whose edits
-were all refused: a digest over its src, specs, proofs and edits."""
+It first proves what isn't proved. Then `rt must-fail` tries the edits of several crates side by side, each crate in a room of
+its own, in which they stand in must-fail/; it says of each whether it was refused, and by what. edits/TRIED has a line for
+each crate whose edits were all refused: a digest over its src, specs, proofs and edits."""
 
 import hashlib
 import os
@@ -18,6 +17,7 @@ import re
 import shutil
 import sys
 import tempfile
+import threading
 
 sys.dont_write_bytecode = True
 import prove
@@ -62,29 +62,41 @@ def note_tried(crate, digest):
     os.replace(f"{TRIED}.new", TRIED)
 
 
+def try_crate(crates, name, place):
+    """Tries the edits of a crate in a room, where they stand where rt looks for them, and returns what rt said."""
+    room = f"{place}/{name}"
+    rooms.open_room(room, crates, [name])
+    shutil.copytree(f"{EDITS}/{name}", f"{room}/crates/{name}/must-fail")
+    kept = f"{rooms.TREE}/crates/{name}/out/incremental"
+    if os.path.isdir(kept):
+        rooms.link(kept, f"{room}/crates/{name}/out/incremental")
+    said = rooms.run(["env", "RT_JOBS=1", "rt", "must-fail", name], room)[1]
+    shutil.rmtree(room, ignore_errors=True)
+    return said
+
+
 def try_all(names):
-    """Tries the edits of these crates in a room, where they stand where rt looks for them, and notes those whose edits were all
-    refused. Returns how many crates have one that wasn't."""
-    crates, clock, digests = rooms.read_crates(), rooms.Clock(), {name: digest_of(name) for name in names}
+    """Tries the edits of these crates, several crates side by side, and notes those whose edits were all refused. Returns how
+    many crates have one that wasn't."""
+    crates, clock, printing, failed = rooms.read_crates(), rooms.Clock(), threading.Lock(), []
     with tempfile.TemporaryDirectory(prefix="edits-") as place:
-        room = f"{place}/room"
-        rooms.open_room(room, crates, names)
-        for name in names:
-            shutil.copytree(f"{EDITS}/{name}", f"{room}/crates/{name}/must-fail")
-            kept = f"{rooms.TREE}/crates/{name}/out/incremental"
-            if os.path.isdir(kept):
-                rooms.link(kept, f"{room}/crates/{name}/out/incremental")
-        said = rooms.run(["rt", "must-fail", *names], room)[1]
-    print(said, end="", flush=True)
-    failed = 0
-    for name in names:
-        refused = len(re.findall(rf"^(?:rt: )?must-fail {name}/\S+: refused, as it must be", said, re.MULTILINE))
-        is_well = refused == len(edits_of(name)) and digest_of(name) == digests[name]
-        note_tried(name, digests[name] if is_well else None)
-        failed += not is_well
-        print(f"edits: {name}: {refused} of {len(edits_of(name))} refused", flush=True)
-    print(f"edits: all tried after {clock}", flush=True)
-    return failed
+
+        def task(name):
+            digest = digest_of(name)
+            said = try_crate(crates, name, place)
+            refused = len(re.findall(rf"^(?:rt: )?must-fail {name}/\S+: refused, as it must be", said, re.MULTILINE))
+            is_well = refused == len(edits_of(name)) and digest_of(name) == digest
+            with printing:
+                print(said, end="")
+                print(f"edits: {name}: {refused} of {len(edits_of(name))} refused, after {clock}", flush=True)
+                note_tried(name, digest if is_well else None)
+                failed.extend([] if is_well else [name])
+            return True
+
+        rank = {it: rooms.lines_of(it) * (len(edits_of(it)) + 10) for it in names}
+        tasks = {it: ([], rank[it], lambda jobs, name=it: task(name)) for it in names}
+        rooms.in_lanes(tasks, rooms.lanes(), 1)
+    return len(failed)
 
 
 def main(words):

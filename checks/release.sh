@@ -1,6 +1,7 @@
 #!/bin/sh
 # Compares the released program with the one that was built here, by the gate or by ./cellctl: where the release was made of
-# these sources with this kit, both have to have the same bytes. Where the sources or the kit have moved on, it says so.
+# these sources with this kit, both have to have the same bytes. Where the sources have moved on, or another kit makes other
+# bytes, it says so.
 # Usage: checks/release.sh [make]     make: makes a release of the program that was built
 here=$(cd "$(dirname "$0")/.." && pwd) || exit 1
 built=$here/crates/cellctl/out/cellctl
@@ -11,12 +12,11 @@ if [ ! -x "$built" ]; then
     echo "release: no program was built"
     exit 1
 fi
-if [ "$(rt version)" != "$(cat "$here/KIT")" ]; then
-    echo "release: this kit is $(rt version), and KIT names $(cat "$here/KIT"), so the program isn't compared"
-    [ "$1" != make ]
-    exit
-fi
 if [ "$1" = make ]; then
+    if [ "$(rt version)" != "$(cat "$here/KIT")" ]; then
+        echo "release: this kit is $(rt version), and KIT names $(cat "$here/KIT")"
+        exit 1
+    fi
     newer=$("$here/cellctl" --which)
     if [ "$newer" != "proved here: $built" ]; then
         echo "release: the program that was built is older than its sources"
@@ -33,6 +33,8 @@ elif ! (cd "$here/release" && sha256sum -c --status SHA256SUMS); then
     exit 1
 elif cmp "$built" "$here/release/$name"; then
     echo "release: the program that was built has the released one's bytes"
+elif [ "$(rt version)" != "$(cat "$here/KIT")" ]; then
+    echo "release: this kit is $(rt version), and KIT names $(cat "$here/KIT"), whose compilers may make other bytes"
 else
     exit 1
 fi

@@ -95,10 +95,10 @@ def open_room(room, crates, names, tree=TREE):
         link(f"{tree}/crates/{it}/out/rlib", f"{room}/crates/{it}/out/rlib")
 
 
-def in_lanes(tasks, count):
+def in_lanes(tasks, count, most=4):
     """Runs tasks side by side, and returns what each gave. A task is a name, the names of those that it waits for, its rank
-    and a call that is given how many processors it may use; of those that may begin the one with the highest rank begins.
-    None begins once one has given None."""
+    and a call that is given how many processors it may use, at most so many; of those that may begin the one with the highest
+    rank begins. None begins once one has given None."""
     given, running, turn, left = {}, {}, threading.Condition(), dict(tasks)
 
     def work(name, call, jobs):
@@ -120,7 +120,7 @@ def in_lanes(tasks, count):
                     idle = count - sum(running.values())
                     if idle > 0:
                         # What most others wait for gets two processors at least, where there are two.
-                        running[name] = min(4, idle, max(1 if at else 2, idle // (len(ready) - at)))
+                        running[name] = min(most, idle, max(1 if at else 2, idle // (len(ready) - at)))
                         threading.Thread(target=work, args=(name, left.pop(name)[2], running[name])).start()
                 turn.wait()
         finally:
