@@ -1,65 +1,61 @@
 //! The command that says why a text is refused.
-use crate::finish;
+ghost use Rattle.std.specs.Prelude.{◌≡◌, IfOk, IfSome};
+ghost use Rattle.cell_explain.specs.Explained.{EndsAsAudit};
+ghost use Rattle.cellctl.specs.Carried.{Explains};
+
+use crate::wrong::wrong;
 use cell_command::Explaining;
 use cell_explain::{explain_faults, explain_journal, explain_operator, explain_settings};
-use cell_lines::status;
+use cell_lines::WriteFault;
 use std::alloc::Global;
 use std::io::{Read, Write};
 use std::rt::Files;
 use std::{fs, io};
 
-// What a text is, which is explained.
-#[derive(Clone, Copy)]
-enum Kind {
-    Journal,
-    Settings,
-    Faults,
-    Operator,
-}
+// What is told where more than one text is named.
+const ONE_ALONE: &str = "of --settings, --faults and --operator one alone can be given";
 
-// Explains a text. All that is printed is written out before the status is given.
-fn explain<W: Write>(alloc: Global, kind: Kind, text: &[u8], output: &mut W) -> io::Result<u8> {
-    let explained = match kind {
-        Kind::Journal => explain_journal(alloc, text, output),
-        Kind::Settings => explain_settings(alloc, text, output),
-        Kind::Faults => explain_faults(alloc, text, output),
-        Kind::Operator => explain_operator(alloc, text, output),
-    };
-    finish(output, explained)
-}
-
-// Explains a text on standard output.
-fn explain_text<R: AllocGlobal + Print>(rt: &R, kind: Kind, text: &[u8]) -> io::Result<u8> {
-    let mut output = io::BufWriter::new(rt.alloc(), io::writer(rt))?;
-    explain(rt.alloc(), kind, text, &mut output)
-}
-
-// Explains the journal on standard input.
-fn explain_input<R: AllocGlobal + Input + Print>(rt: &R) -> io::Result<u8> {
-    let mut text: Vec<u8> = Vec::new(rt.alloc());
-    rt.reader().read_to_end(&mut text)?;
-    explain_text(rt, Kind::Journal, text.as_slice())
-}
-
-// Explains the text in a file.
-fn explain_file<R: AllocGlobal + Files + Print>(rt: &R, kind: Kind, path: &str) -> io::Result<u8> {
-    let text = fs::read(rt, path)?;
-    explain_text(rt, kind, text.as_slice())
+// Explains the journal on the input.
+fn explain_input<I: Read, W: Write>(
+    alloc: Global,
+    input: &mut I,
+    output: &mut W,
+) -> io::Result<Result<u8, WriteFault>>
+    ensures { IfOk result (λ written. IfOk written (λ status. IfSome (I.remaining input.old) (λ text. EndsAsAudit text status))) }
+{
+    let mut text: Vec<u8> = Vec::new(alloc);
+    input.read_to_end(&mut text)?;
+    Ok(explain_journal(alloc, text.as_slice(), output))
 }
 
 /// Explains the text that the words of the command line name.
-pub(crate) fn explain_words<R: AllocGlobal + Files + Input + Print + Eprint>(
+pub(crate) fn explain_words<R: AllocGlobal + Files, I: Read + Drop, W: Write, E: Write>(
     rt: &R,
+    mut input: I,
+    output: &mut W,
+    errors: &mut E,
     explaining: Explaining<'_>,
-) -> io::Result<u8> {
+) -> io::Result<Result<u8, WriteFault>>
+    ensures { IfOk result (λ written. IfOk written (Explains explaining.entry.settings explaining.entry.faults explaining.entry.operator (I.remaining input)
+        (W.contents output.old) (W.contents output.new) (E.contents errors.old) (E.contents errors.new))) }
+{
+    let alloc = rt.alloc();
     match (explaining.settings, explaining.faults, explaining.operator) {
-        (None, None, None) => explain_input(rt),
-        (Some(path), None, None) => explain_file(rt, Kind::Settings, path),
-        (None, Some(path), None) => explain_file(rt, Kind::Faults, path),
-        (None, None, Some(path)) => explain_file(rt, Kind::Operator, path),
-        _ => {
-            eprintln!(rt; "error: of --settings, --faults and --operator one alone can be given")?;
-            Ok(status::WRONG_ARGUMENTS)
+        (None, None, None) => explain_input(alloc, &mut input, output),
+        (Some(path), None, None) => {
+            let text = fs::read(rt, path)?;
+            Ok(explain_settings(alloc, text.as_slice(), output))
         }
+        (None, Some(path), None) => {
+            let text = fs::read(rt, path)?;
+            Ok(explain_faults(alloc, text.as_slice(), output))
+        }
+        (None, None, Some(path)) => {
+            let text = fs::read(rt, path)?;
+            Ok(explain_operator(alloc, text.as_slice(), output))
+        }
+        (Some(_), Some(_), _) => wrong(errors, ONE_ALONE),
+        (Some(_), None, Some(_)) => wrong(errors, ONE_ALONE),
+        (None, Some(_), Some(_)) => wrong(errors, ONE_ALONE),
     }
 }

@@ -3,19 +3,25 @@
 #![tactic(auto)]
 
 mod explain;
+mod fault;
 mod named;
+mod orders;
 mod show;
+mod wrong;
 
-use cell_command::{Order, Paths, Running, read_words};
+ghost use Rattle.std.specs.Prelude.{◌≡◌, ◌⊎◌, IfOk, map};
+ghost use Rattle.std.specs.Io.KnownBytes.{Keeps};
+ghost use Rattle.clap.specs.Words.{kind_of};
+ghost use Rattle.cellctl.specs.Carried.{IsTurnedAway, Obeys, ended, status_of_error};
+
+use cell_command::read_words;
 use cell_endings::write_ending;
-use cell_lines::{WriteFault, audit_lines, migrate_lines, status};
-use cell_runs::run_texts_kept;
-use cell_settings::check_lines;
+use cell_lines::status;
 use clap::Error;
 use clap::error::ErrorKind;
-use explain::explain_words;
+use fault::status_of;
 use named::Named;
-use show::show_input;
+use orders::{Carried, carry_out};
 use std::alloc::{AllocError, Global};
 use std::env::Env;
 use std::io::{Read, Write};
@@ -23,187 +29,70 @@ use std::process::ExitCode;
 use std::rt::Files;
 use std::sync::Wait;
 use std::thread::Threads;
-use std::{env, fs, io};
+use std::{env, io};
 
-// The status of an error of the system.
-fn status_of(error: &io::Error) -> u8 {
-    match error.kind() {
-        io::ErrorKind::OutOfMemory => status::OUT_OF_MEMORY,
-        _ => status::DEVICE_FAULT,
-    }
-}
-
-// Prints clap's words, or the help that was asked for, and gives the status.
-fn refuse<R: Print + Eprint>(rt: &R, error: &Error) -> u8 {
+// Writes clap's words to the errors, or the help that was asked for to the output, and gives the status.
+fn refuse<W: Write, E: Write>(output: &mut W, errors: &mut E, error: &Error) -> io::Result<u8>
+    ensures { IfOk result (λ status. status ≡ status_of_error (kind_of error.now)) }
+{
     if error.kind() == ErrorKind::OutOfMemory {
-        return status::OUT_OF_MEMORY;
+        return Ok(status::OUT_OF_MEMORY);
     }
-    match error.print(rt) {
-        Ok(()) if error.use_stderr() => status::WRONG_ARGUMENTS,
-        Ok(()) => status::SUCCESS,
-        Err(_) => status::DEVICE_FAULT,
-    }
-}
-
-// Writes out all that was printed, unless the writer failed, and gives the status.
-fn finish<W: Write>(output: &mut W, written: Result<u8, WriteFault>) -> io::Result<u8> {
-    match written {
-        Ok(status) => {
-            output.flush()?;
-            Ok(status)
-        }
-        Err(WriteFault) => Ok(status::DEVICE_FAULT),
+    if error.use_stderr() {
+        write!(errors, "{error}")?;
+        Ok(status::WRONG_ARGUMENTS)
+    } else {
+        write!(output, "{error}")?;
+        output.flush()?;
+        Ok(status::SUCCESS)
     }
 }
 
-// Audits a journal's text. All that is printed is written out before the status is given.
-fn audit<I: Read + Drop, W: Write>(alloc: Global, input: I, output: &mut W) -> io::Result<u8> {
-    let written = audit_lines(alloc, input, output);
-    finish(output, written)
-}
-
-// Audits standard input.
-fn audit_input<R: AllocGlobal + Input + Print>(rt: &R) -> io::Result<u8> {
-    let mut output = io::BufWriter::new(rt.alloc(), io::writer(rt))?;
-    audit(rt.alloc(), rt.reader(), &mut output)
-}
-
-// Writes a journal's text in profile 2. Of a text that is refused there is a line among the errors, and nothing is printed. All
-// that is printed is written out before the status is given.
-fn migrate<I: Read + Drop, W: Write, E: Write>(
+// Writes out all that was written for an order, unless the writer failed, and then explains the end of a run, where that is
+// wanted. It gives the status.
+fn finish<W: Write, E: Write>(
     alloc: Global,
-    input: I,
     output: &mut W,
     errors: &mut E,
-) -> io::Result<u8> {
-    let written = migrate_lines(alloc, input, output, errors);
-    finish(output, written)
-}
-
-// Writes the text on standard input in profile 2.
-fn migrate_input<R: AllocGlobal + Input + Print, E: Print>(rt: &R, errors: &E) -> io::Result<u8> {
-    let mut output = io::BufWriter::new(rt.alloc(), io::writer(rt))?;
-    migrate(
-        rt.alloc(),
-        rt.reader(),
-        &mut output,
-        &mut io::writer(errors),
-    )
-}
-
-// Checks the text of settings. All that is printed is written out before the status is given.
-fn check<W: Write>(alloc: Global, text: &[u8], output: &mut W) -> io::Result<u8> {
-    let written = check_lines(alloc, text, output);
-    finish(output, written)
-}
-
-// Checks the settings in a file.
-fn check_file<R: AllocGlobal + Files + Print>(rt: &R, path: &str) -> io::Result<u8> {
-    let text = fs::read(rt, path)?;
-    let mut output = io::BufWriter::new(rt.alloc(), io::writer(rt))?;
-    check(rt.alloc(), text.as_slice(), &mut output)
-}
-
-// What a run's files say.
-#[derive(Drop)]
-struct Texts {
-    settings: Vec<u8>,
-    faults: Vec<u8>,
-    operator: Vec<u8>,
-}
-
-// Reads the files of a run.
-fn read_files<R: AllocGlobal + Files>(rt: &R, paths: Paths<'_>) -> io::Result<Texts> {
-    let settings = fs::read(rt, paths.settings)?;
-    let faults = fs::read(rt, paths.faults)?;
-    let operator = fs::read(rt, paths.operator)?;
-    Ok(Texts {
-        settings,
-        faults,
-        operator,
-    })
-}
-
-// Runs the simulated cell by what its files say, on threads or in rounds. All that is printed is written out before the end is
-// explained, and the status is given.
-fn run_texts<R: AllocGlobal + Threads + Wait + Sync, W: Write, E: Write>(
-    rt: &R,
-    threads: bool,
-    running: Running<'_>,
-    texts: &Texts,
-    output: &mut W,
-    errors: &mut E,
-) -> io::Result<u8> {
-    let settings = texts.settings.as_slice();
-    let faults = texts.faults.as_slice();
-    let operator = texts.operator.as_slice();
-    let ran = run_texts_kept(
-        rt,
-        settings,
-        faults,
-        operator,
-        threads,
-        running.journal,
-        output,
-    );
-    let Ok((status, journal)) = ran else {
+    carried: Carried,
+) -> io::Result<u8>
+    ensures status { IfOk result (λ status. status ≡ ended carried.written) }
+    ensures kept { Keeps (W.contents output.old) (W.contents output.new) }
+{
+    let Carried { written, ending } = carried;
+    let Ok(status) = written else {
         return Ok(status::DEVICE_FAULT);
     };
     output.flush()?;
-    match journal {
-        Some(journal) if running.explain => {
-            write_ending(rt.alloc(), &journal, faults, operator, errors)?;
-        }
-        _ => {}
+    if let Some(ending) = ending {
+        write_ending(
+            alloc,
+            &ending.journal,
+            ending.faults.as_slice(),
+            ending.operator.as_slice(),
+            errors,
+        )?;
     }
     Ok(status)
 }
 
-// Runs the simulated cell by three files, on threads or in rounds. The files are all read before any is judged.
-fn run_files<R: AllocGlobal + Files + Print + Threads + Wait + Sync, E: Print>(
+// Reads words, does what they say over any reader and writers, and gives the status.
+fn main_over<R: AllocGlobal + Files + Threads + Wait + Sync, I: Read + Drop, W: Write, E: Write>(
     rt: &R,
-    errors: &E,
-    threads: bool,
-    running: Running<'_>,
-) -> io::Result<u8> {
-    let texts = read_files(rt, running.paths)?;
-    let mut output = io::BufWriter::new(rt.alloc(), io::writer(rt))?;
-    run_texts(
-        rt,
-        threads,
-        running,
-        &texts,
-        &mut output,
-        &mut io::writer(errors),
-    )
-}
-
-// Does what an order says, and gives the status.
-fn carry_out<R: AllocGlobal + Files + Input + Print + Eprint + Threads + Wait + Sync, E: Print>(
-    rt: &R,
-    errors: &E,
-    order: Order<'_>,
-) -> io::Result<u8> {
-    match order {
-        Order::Audit => audit_input(rt),
-        Order::Migrate => migrate_input(rt, errors),
-        Order::Show(showing) => show_input(rt, showing),
-        Order::Explain(explaining) => explain_words(rt, explaining),
-        Order::Check(path) => check_file(rt, path),
-        Order::Sim(running) => run_files(rt, errors, false, running),
-        Order::Run(running) => run_files(rt, errors, true, running),
-    }
-}
-
-// Reads words, does what they say, and gives the status.
-fn follow<R: AllocGlobal + Files + Input + Print + Eprint + Threads + Wait + Sync, E: Print>(
-    rt: &R,
-    errors: &E,
+    input: I,
+    output: &mut W,
+    errors: &mut E,
     words: &[&str],
-) -> io::Result<u8> {
+) -> io::Result<u8>
+    ensures { IfOk result (λ status. Obeys (map (λ w. w.now) words.now) (I.remaining input) (W.contents output.old) (W.contents output.new) (E.contents errors.old) status
+        ⊎ IsTurnedAway (map (λ w. w.now) words.now) status) }
+{
     match read_words(rt.alloc(), words) {
-        Ok(order) => carry_out(rt, errors, order),
-        Err(error) => Ok(refuse(rt, &error)),
+        Ok(order) => {
+            let carried = carry_out(rt, input, output, errors, order)?;
+            finish(rt.alloc(), output, errors, carried)
+        }
+        Err(error) => refuse(output, errors, &error),
     }
 }
 
@@ -231,7 +120,14 @@ fn run<R: AllocGlobal + Env + Files + Input + Print + Eprint + Threads + Wait + 
     match words_of(rt) {
         Ok(words) => {
             let texts = texts_of(rt.alloc(), words.as_slice())?;
-            follow(rt, errors, texts.as_slice())
+            let mut output = io::BufWriter::new(rt.alloc(), io::writer(rt))?;
+            main_over(
+                rt,
+                rt.reader(),
+                &mut output,
+                &mut io::writer(errors),
+                texts.as_slice(),
+            )
         }
         Err(e) if e.kind() == io::ErrorKind::InvalidData => {
             eprintln!(rt; "error: an argument isn't UTF-8")?;

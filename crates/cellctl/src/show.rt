@@ -1,12 +1,19 @@
 //! The command that shows the cell.
+ghost use Rattle.std.specs.Prelude.{◌≡◌, IfOk};
+ghost use Rattle.cellctl.specs.Carried.{Shows, ShowsWords, form_of};
+
+use crate::wrong::wrong;
 use cell_command::Showing;
-use cell_lines::status;
+use cell_lines::{WriteFault, status};
 use cell_show::{Form, ShowError, show_journal};
+use std::alloc::Global;
 use std::io;
 use std::io::{Read, Write};
 
 // The form that the flags ask for, if they ask for one alone.
-fn form_of(showing: &Showing<'_>) -> Option<Form> {
+fn form_of(showing: &Showing<'_>) -> Option<Form>
+    ensures { result ≡ form_of showing.now.svg showing.now.html showing.now.unicode }
+{
     match (showing.svg, showing.html, showing.unicode) {
         (false, false, false) => Some(Form::Text),
         (false, false, true) => Some(Form::Unicode),
@@ -16,54 +23,51 @@ fn form_of(showing: &Showing<'_>) -> Option<Form> {
     }
 }
 
-// Shows a journal's text. All that is printed is written out before the status is given.
-fn show<R: AllocGlobal + Eprint, I: Read + Drop, W: Write>(
-    rt: &R,
+// Shows a journal's text. An entry that isn't there, or a page of too many, is told among the errors.
+fn show<I: Read + Drop, W: Write, E: Write>(
+    alloc: Global,
     input: I,
+    output: &mut W,
+    errors: &mut E,
     form: Form,
     entry: Option<u32>,
-    output: &mut W,
-) -> io::Result<u8> {
-    match show_journal(rt.alloc(), input, form, entry, output) {
-        Ok(status) => {
-            output.flush()?;
-            Ok(status)
-        }
-        Err(ShowError::WriteFault) => Ok(status::DEVICE_FAULT),
+) -> io::Result<Result<u8, WriteFault>>
+    ensures { IfOk result (λ written. IfOk written (Shows entry (I.remaining input) (W.contents output.old) (W.contents output.new) (E.contents errors.old) (E.contents errors.new))) }
+{
+    match show_journal(alloc, input, form, entry, output) {
+        Ok(status) => Ok(Ok(status)),
+        Err(ShowError::WriteFault) => Ok(Err(WriteFault)),
         Err(error) => {
-            eprintln!(rt; "error: {error}")?;
-            Ok(status::WRONG_ARGUMENTS)
+            writeln!(errors, "error: {error}")?;
+            Ok(Ok(status::WRONG_ARGUMENTS))
         }
     }
 }
 
-// Shows the journal on standard input.
-fn show_form<R: AllocGlobal + Input + Print + Eprint>(
-    rt: &R,
-    form: Form,
-    entry: Option<u32>,
-) -> io::Result<u8> {
-    let mut output = io::BufWriter::new(rt.alloc(), io::writer(rt))?;
-    show(rt, rt.reader(), form, entry, &mut output)
-}
-
-/// Shows the journal on standard input, as the words of the command line ask.
-pub(crate) fn show_input<R: AllocGlobal + Input + Print + Eprint>(
-    rt: &R,
+/// Shows the journal on the input, as the words of the command line ask.
+pub(crate) fn show_words<I: Read + Drop, W: Write, E: Write>(
+    alloc: Global,
+    input: I,
+    output: &mut W,
+    errors: &mut E,
     showing: Showing<'_>,
-) -> io::Result<u8> {
+) -> io::Result<Result<u8, WriteFault>>
+    ensures { IfOk result (λ written. IfOk written (ShowsWords showing.entry (I.remaining input) (W.contents output.old) (W.contents output.new) (E.contents errors.old) (E.contents errors.new))) }
+{
     let Some(form) = form_of(&showing) else {
-        eprintln!(rt; "error: of --svg, --html and --unicode one alone can be given")?;
-        return Ok(status::WRONG_ARGUMENTS);
+        return wrong(
+            errors,
+            "of --svg, --html and --unicode one alone can be given",
+        );
     };
     let Some(word) = showing.entry else {
-        return show_form(rt, form, None);
+        return show(alloc, input, output, errors, form, None);
     };
     match word.parse::<u32>() {
-        Ok(entry) => show_form(rt, form, Some(entry)),
+        Ok(entry) => show(alloc, input, output, errors, form, Some(entry)),
         Err(_) => {
-            eprintln!(rt; "error: ENTRY is a whole number, and not '{word}'")?;
-            Ok(status::WRONG_ARGUMENTS)
+            writeln!(errors, "error: ENTRY is a whole number, and not '{word}'")?;
+            Ok(Ok(status::WRONG_ARGUMENTS))
         }
     }
 }
