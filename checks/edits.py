@@ -8,8 +8,9 @@ says, so that the prover has to refuse them. Usage: checks/edits.sh [changed | a
   tried     tries none: says which crates changed since all their edits were refused, and fails where there is one
 
 It first proves what isn't proved. Then `rt must-fail` tries the edits of several crates side by side, each crate in a room of
-its own, in which they stand in must-fail/; it says of each whether it was refused, and by what. edits/TRIED has a line for
-each crate whose edits were all refused: a digest over its src, specs, proofs and edits."""
+its own, in which they stand in must-fail/, and where there are fewer crates than processors several edits of each. It says of
+each whether it was refused, and by what. edits/TRIED has a line for each crate whose edits were all refused: a digest over
+its src, specs, proofs and edits."""
 
 import hashlib
 import os
@@ -62,15 +63,16 @@ def note_tried(crate, digest):
     os.replace(f"{TRIED}.new", TRIED)
 
 
-def try_crate(crates, name, place):
-    """Tries the edits of a crate in a room, where they stand where rt looks for them, and returns what rt said."""
+def try_crate(crates, name, jobs, place):
+    """Tries the edits of a crate in a room, so many side by side, where they stand where rt looks for them, and returns what rt
+    said."""
     room = f"{place}/{name}"
     rooms.open_room(room, crates, [name])
     shutil.copytree(f"{EDITS}/{name}", f"{room}/crates/{name}/must-fail")
     kept = f"{rooms.TREE}/crates/{name}/out/incremental"
     if os.path.isdir(kept):
         rooms.link(kept, f"{room}/crates/{name}/out/incremental")
-    said = rooms.run(["env", "RT_JOBS=1", "rt", "must-fail", name], room)[1]
+    said = rooms.run(["env", f"RT_JOBS={jobs}", "rt", "must-fail", name], room)[1]
     shutil.rmtree(room, ignore_errors=True)
     return said
 
@@ -81,9 +83,9 @@ def try_all(names):
     crates, clock, printing, failed = rooms.read_crates(), rooms.Clock(), threading.Lock(), []
     with tempfile.TemporaryDirectory(prefix="edits-") as place:
 
-        def task(name):
+        def task(name, jobs):
             digest = digest_of(name)
-            said = try_crate(crates, name, place)
+            said = try_crate(crates, name, jobs, place)
             refused = len(re.findall(rf"^(?:rt: )?must-fail {name}/\S+: refused, as it must be", said, re.MULTILINE))
             is_well = refused == len(edits_of(name)) and digest_of(name) == digest
             with printing:
@@ -94,8 +96,9 @@ def try_all(names):
             return True
 
         rank = {it: rooms.lines_of(it) * (len(edits_of(it)) + 10) for it in names}
-        tasks = {it: ([], rank[it], lambda jobs, name=it: task(name)) for it in names}
-        rooms.in_lanes(tasks, rooms.lanes(), 1)
+        tasks = {it: ([], rank[it], lambda jobs, name=it: task(name, jobs)) for it in names}
+        lanes = rooms.lanes()
+        rooms.in_lanes(tasks, lanes, max(1, lanes // len(names)))
     return len(failed)
 
 
