@@ -1,0 +1,5 @@
+pub mod Failures
+pub mod Plates
+pub mod Waiting
+pub mod Missed
+pub mod Endings
