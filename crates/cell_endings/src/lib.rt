@@ -3,6 +3,7 @@
 #![tactic(auto)]
 
 mod ending;
+mod failures;
 mod faults;
 mod operator;
 mod plates;

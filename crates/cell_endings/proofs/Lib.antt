@@ -1,0 +1,4 @@
+pub mod Booked
+pub mod Passed
+pub mod SetOut
+pub mod Telling

@@ -1,0 +1,10 @@
+use Rattle.cell_endings.specs.Failures.{failure_of}
+use Rattle.cell_endings.proofs.Telling.{told-more}
+use Rattle.cell_endings.proofs.failures.write_failures.Goals as goal
+
+pub loop-machine-preserved : goal.loop-machine-preserved
+loop-machine-preserved g c =
+    record {
+      all = c.loop-machine.invariant.all;
+      told = told-more (failure_of c.args.book.now.entries) _ _ _ _ c.loop-machine.machine-index _ c.loop-machine-test.true c.loop-machine.invariant.told c.in_ok-write_failure.ensures;
+    }

@@ -1,0 +1,10 @@
+use Rattle.cell_endings.specs.Plates.{told_at}
+use Rattle.cell_endings.proofs.Telling.{told-more}
+use Rattle.cell_endings.proofs.plates.write_plates.Goals as goal
+
+pub loop-station-preserved : goal.loop-station-preserved
+loop-station-preserved g c =
+    record {
+      all = c.loop-station.invariant.all;
+      told = told-more (told_at c.args.book.now.entries) _ _ _ _ c.loop-station.station-index _ c.loop-station-test.true c.loop-station.invariant.told c.in_ok-write_station.ensures;
+    }
