@@ -5,4 +5,7 @@ mod lines;
 pub mod status;
 
 pub use cell_audit::{WatchedWriter, WriteFault};
-pub use lines::{audit_lines, audit_lines_watched, migrate_lines, write_number};
+pub use lines::{
+    audit_lines, audit_lines_watched, audit_rows_watched, migrate_lines, migrate_rows_watched,
+    write_number,
+};

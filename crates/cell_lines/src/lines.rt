@@ -1,12 +1,16 @@
 //! What is printed for an audit and for a migration.
-ghost use Rattle.std.specs.Prelude.{◌≡◌, ◌≢◌, [], IfErr, IfOk, IsErr, OnOk, codes, true};
+ghost use Rattle.std.specs.Prelude.{◌≡◌, ◌≢◌, ◌⊎◌, [], IfErr, IfOk, IsErr, Ok, OnOk, codes, true};
 ghost use Rattle.std.specs.Io.KnownBytes.{Appends};
+ghost use Rattle.cell_rows.specs.Rows.{IsOpen, device_failed, rows_left};
 ghost use Rattle.cell_audit.specs.Migrated.{rows_in};
 ghost use Rattle.cell_audit.specs.Watched.{IsSameWriter, WritesPart, bytes_held, has_refused};
-ghost use Rattle.cell_lines.specs.Lines.{StopsMigration, TellsAudit, TellsMigration, TellsPart, WritesAnswer, lines_of, number_line, refusal_line, totals_lines};
+ghost use Rattle.cell_lines.specs.Lines.{StopsMigration, TellsAudit, TellsMigration, TellsPart, TellsPartOfRows, TellsRows, WritesAnswer, lines_of, number_line, refusal_line, totals_lines};
 
 use crate::status;
-use cell_audit::{AuditError, MigrateError, WatchedWriter, WriteFault, audit, migrate};
+use cell_audit::{
+    AuditError, MigrateError, WatchedWriter, WriteFault, audit_rows, migrate_watched,
+};
+use cell_rows::{RowReader, TellsFault, Watched};
 use cell_types::Totals;
 use itoa::Buffer;
 use plate_book::Refusal;
@@ -137,6 +141,26 @@ fn write_answer<W: Write>(
     }
 }
 
+/// Audits the records that a reader has left, as `audit_lines` does those of a text, and writes what is found to a writer
+/// that notes whether a write of it was refused.
+pub fn audit_rows_watched<R: TellsFault, W: Write>(
+    alloc: Global,
+    rows: &mut RowReader<R>,
+    writer: &mut WatchedWriter<'_, W>,
+) -> Result<u8, WriteFault>
+    requires { IsOpen rows.old }
+    ensures writer { IsSameWriter writer.old writer.new }
+    ensures whole { IfOk result (TellsRows (rows_left R.remaining rows.old) (bytes_held W.contents writer.old) (bytes_held W.contents writer.new)) }
+    ensures part { IsErr result → TellsPartOfRows (rows_left R.remaining rows.old) (bytes_held W.contents writer.old) (bytes_held W.contents writer.new) }
+    // It gives the status of a reader that failed only where a failed read was noted, and answers that the writer failed
+    // only where a write was refused.
+    ensures read_fault { result ≡ Ok 3 → device_failed R.failed rows.new ≡ true }
+    ensures fault { IsErr result → has_refused writer.new ≡ true }
+{
+    let answer = audit_rows(alloc, rows);
+    write_answer(writer, answer)
+}
+
 /// Audits a journal's text, as `audit_lines` does, and writes what is found to a writer that notes whether a write of it
 /// was refused.
 pub fn audit_lines_watched<R: Read + Drop, W: Write>(
@@ -150,8 +174,8 @@ pub fn audit_lines_watched<R: Read + Drop, W: Write>(
     // It answers that the writer failed only where a write was refused.
     ensures fault { IsErr result → has_refused writer.new ≡ true }
 {
-    let answer = audit(alloc, reader);
-    write_answer(writer, answer)
+    let mut rows = RowReader::new(alloc, Watched::new(reader));
+    audit_rows_watched(alloc, &mut rows, writer)
 }
 
 /// Audits the journal's text that the reader gives, writes what is found, and gives the exit status.
@@ -160,7 +184,9 @@ pub fn audit_lines_watched<R: Read + Drop, W: Write>(
 /// profile 2 the line `reinstated` with its number, status 0. A refused entry: `refused`, its place counted from 1, the
 /// refusal's name and the word of what it names, status 1. A record that can't be read: `unreadable` and its number, 0 for
 /// the profile's, status 1. Where the reader fails (status 3) or memory is refused (status 4) nothing is written.
-/// `WriteFault` comes only where the writer failed.
+///
+/// That status 3 comes only where a failed read was noted, and `WriteFault` only where a refused write was, are clauses of
+/// `audit_rows_watched`, of which this is the case of a new reader of rows and a new writer that notes.
 pub fn audit_lines<R: Read + Drop, W: Write>(
     alloc: Global,
     reader: R,
@@ -175,12 +201,47 @@ pub fn audit_lines<R: Read + Drop, W: Write>(
     audit_lines_watched(alloc, reader, &mut writer)
 }
 
+/// Migrates the records that a reader has left, as `migrate_lines` does those of a text, to writers that note whether a write
+/// of theirs was refused.
+pub fn migrate_rows_watched<R: TellsFault, W: Write, E: Write>(
+    alloc: Global,
+    rows: &mut RowReader<R>,
+    writer: &mut WatchedWriter<'_, W>,
+    errors: &mut WatchedWriter<'_, E>,
+) -> Result<u8, WriteFault>
+    requires { IsOpen rows.old }
+    ensures writer { IsSameWriter writer.old writer.new }
+    ensures errors { IsSameWriter errors.old errors.new }
+    ensures whole { IfOk result (TellsMigration (rows_left R.remaining rows.old) (bytes_held W.contents writer.old) (bytes_held W.contents writer.new) (bytes_held E.contents errors.old) (bytes_held E.contents errors.new)) }
+    ensures part { IsErr result → StopsMigration (rows_left R.remaining rows.old) (bytes_held W.contents writer.old) (bytes_held W.contents writer.new) (bytes_held E.contents errors.old) (bytes_held E.contents errors.new) }
+    // It gives the status of a reader that failed only where a failed read was noted, and answers that a writer failed only
+    // where a write of one of the two was refused.
+    ensures read_fault { result ≡ Ok 3 → device_failed R.failed rows.new ≡ true }
+    ensures write_fault { IsErr result → (has_refused writer.new ≡ true) ⊎ (has_refused errors.new ≡ true) }
+{
+    match migrate_watched(alloc, rows, writer) {
+        Ok(_) => Ok(status::SUCCESS),
+        Err(MigrateError::Unreadable(place)) => {
+            write_answer(errors, Err(AuditError::Unreadable(place)))
+        }
+        Err(MigrateError::Refused(place, why)) => {
+            write_answer(errors, Err(AuditError::Refused(place, why)))
+        }
+        Err(MigrateError::ReadFault) => Ok(status::DEVICE_FAULT),
+        Err(MigrateError::WriteFault) => Err(WriteFault),
+        Err(MigrateError::OutOfMemory) => Ok(status::OUT_OF_MEMORY),
+    }
+}
+
 /// Migrates the journal's text of profile 1 that the reader gives: writes the same journal's text of profile 2, and gives the
 /// exit status.
 ///
 /// Where the text is refused or can't be read (status 1) the audit's line is written to the errors, and nothing to the
 /// writer. Where the reader fails (status 3) nothing is written. Where memory is refused (status 4) a first part of the text
-/// may be written. `WriteFault` comes only where the writer or that of the errors failed.
+/// may be written.
+///
+/// That status 3 comes only where a failed read was noted, and `WriteFault` only where a refused write of one of the writers
+/// was, are clauses of `migrate_rows_watched`, of which this is the case of new ones.
 pub fn migrate_lines<R: Read + Drop, W: Write, E: Write>(
     alloc: Global,
     reader: R,
@@ -192,14 +253,8 @@ pub fn migrate_lines<R: Read + Drop, W: Write, E: Write>(
     // Where a writer failed, a first part of the text or of such a line was written.
     ensures part { IsErr result → StopsMigration (rows_in (R.remaining reader)) (W.contents writer.old) (W.contents writer.new) (E.contents errors.old) (E.contents errors.new) }
 {
-    let why = match migrate(alloc, reader, writer) {
-        Ok(_) => return Ok(status::SUCCESS),
-        Err(MigrateError::Unreadable(place)) => AuditError::Unreadable(place),
-        Err(MigrateError::Refused(place, why)) => AuditError::Refused(place, why),
-        Err(MigrateError::ReadFault) => return Ok(status::DEVICE_FAULT),
-        Err(MigrateError::WriteFault) => return Err(WriteFault),
-        Err(MigrateError::OutOfMemory) => return Ok(status::OUT_OF_MEMORY),
-    };
+    let mut rows = RowReader::new(alloc, Watched::new(reader));
+    let mut writer = WatchedWriter::new(writer);
     let mut errors = WatchedWriter::new(errors);
-    write_answer(&mut errors, Err(why))
+    migrate_rows_watched(alloc, &mut rows, &mut writer, &mut errors)
 }

@@ -27,14 +27,14 @@ row_in _ row = row
 abbrev pub current_row : {R : Type 0} → RowReader R → Row
 current_row r = row_in r.source (fields_of r.row)
 
-abbrev pub failed_in : {R : Type 0} → Source R → Bool
-failed_in (Plain ahead) = ahead.source.failed
-failed_in (Csv reader) = (reader_source reader).source.failed
-failed_in Moved = false
+abbrev pub failed_in : {R : Type 0} → (R → Bool) → Source R → Bool
+failed_in failed (Plain ahead) = failed ahead.source
+failed_in failed (Csv reader) = failed (reader_source reader).source
+failed_in failed Moved = false
 
 -- a read of the reader underneath failed
-abbrev pub device_failed : {R : Type 0} → RowReader R → Bool
-device_failed r = failed_in r.source
+abbrev pub device_failed : {R : Type 0} → (R → Bool) → RowReader R → Bool
+device_failed failed r = failed_in failed r.source
 
 abbrev pub open_in : {R : Type 0} → Source R → Type 0
 open_in (Plain ahead) = InSight ahead

@@ -11,7 +11,7 @@ InSight l = (l.at ≤ l.filled) × (l.filled ≤ 16384)
 
 -- the bytes that are left: those in sight, and then those of the reader, where they are known
 abbrev pub bytes_left : {R : Type 0} → (R → Option (List ℕ)) → ReadAhead R → Option (List ℕ)
-bytes_left rem l = prepend_known (slice_range l.buffer l.at l.filled) (rem l.source.source)
+bytes_left rem l = prepend_known (slice_range l.buffer l.at l.filled) (rem l.source)
 
 -- the record that was taken last
 abbrev pub plain_row : {R : Type 0} → ReadAhead R → Row

@@ -9,14 +9,14 @@ ghost use Rattle.cell_rows.specs.Sights.{FeedsTwice, InSight, KeepsRows, bytes_l
 use crate::places::{NOWHERE, Places};
 use crate::rows::{Four, RowError};
 use crate::scan::{SIZE, Stop, next_line};
-use crate::watched::Watched;
+use crate::watched::TellsFault;
 use std::io;
 use std::io::Read;
 
 /// A reader, the bytes of it that are in sight, and the places of the line that was taken last.
 #[derive(Drop)]
 pub(crate) struct ReadAhead<R> {
-    source: Watched<R>,
+    source: R,
     buffer: [u8; SIZE],
     at: usize,
     filled: usize,
@@ -31,15 +31,15 @@ fn piece(text: &[u8], from: usize, to: usize) -> &[u8]
     &text[from..to]
 }
 
-impl<R: Read> ReadAhead<R> {
+impl<R: TellsFault> ReadAhead<R> {
     /// A reader of which no byte is in sight yet.
     pub(crate) fn new(source: R) -> ReadAhead<R>
         ensures sight { InSight result }
         ensures left { bytes_left R.remaining result ≡ R.remaining source }
-        ensures fresh { result.source.failed ≡ false }
+        ensures fresh { R.failed result.source ≡ R.failed source }
     {
         ReadAhead {
-            source: Watched::new(source),
+            source,
             buffer: [0; SIZE],
             at: 0,
             filled: 0,
@@ -49,7 +49,7 @@ impl<R: Read> ReadAhead<R> {
 
     /// Whether a read failed.
     pub(crate) fn has_failed(&self) -> bool
-        ensures { result ≡ self.now.source.failed }
+        ensures { result ≡ R.failed self.now.source }
     {
         self.source.has_failed()
     }
@@ -98,12 +98,12 @@ impl<R: Read> ReadAhead<R> {
         requires { InSight self.old }
         ensures sight { OnOk result (InSight self.new) }
         ensures kept { OnOk result (Keeps (bytes_left R.remaining self.old) (bytes_left R.remaining self.new)) }
-        ensures failed { IsErr result → self.new.source.failed ≡ true }
+        ensures failed { IsErr result → R.failed self.new.source ≡ true }
     {
         self.buffer.copy_within(self.at..self.filled, 0);
         self.filled -= self.at;
         self.at = 0;
-        let count = self.source.read(&mut self.buffer[self.filled..])?;
+        let count = self.source.read_told(&mut self.buffer[self.filled..])?;
         self.filled += count;
         Ok(count > 0)
     }
@@ -117,7 +117,7 @@ impl<R: Read> ReadAhead<R> {
         ensures fits { IfOk result (λ found. found ≡ true → Fits (plain_row self.new)) }
         ensures kept { IfOk result (λ found. found ≡ false → KeepsRows (rows_ahead R.remaining self.old) (rows_ahead R.remaining self.new)) }
         ensures unfit { IsErrOf result RowError.Unfit → IfSome (rows_ahead R.remaining self.old) BeginsUnfit }
-        ensures fault { IsErrOf result RowError.ReadFault → self.new.source.failed ≡ true }
+        ensures fault { IsErrOf result RowError.ReadFault → R.failed self.new.source ≡ true }
     {
         for _ in 0..u64::MAX {
             self.skip_blank();
@@ -156,7 +156,7 @@ impl<R: Read> ReadAhead<R> {
     }
 }
 
-impl<R: Read> Read for ReadAhead<R> {
+impl<R: TellsFault> Read for ReadAhead<R> {
     ghost use Rattle.cell_rows.specs.Sights.{bytes_left};
 
     ghost remaining = { bytes_left R.remaining };

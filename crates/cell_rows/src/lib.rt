@@ -19,3 +19,4 @@ mod watched;
 
 pub use rows::{Four, RowError, RowReader};
 pub use script::{LineError, MAX_LINES, ScriptLine, read_script};
+pub use watched::{TellsFault, Watched};

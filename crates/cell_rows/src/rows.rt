@@ -7,9 +7,9 @@ ghost use Rattle.cell_rows.specs.Sights.{bytes_left};
 ghost use Rattle.cell_rows.specs.declared.rows.Source.TheVariants as Source;
 
 use crate::ahead::ReadAhead;
+use crate::watched::TellsFault;
 use csv::{ByteRecord, ErrorKind, Reader, ReaderBuilder};
 use std::alloc::Global;
-use std::io::Read;
 use std::mem;
 
 /// Why no record came.
@@ -56,7 +56,7 @@ pub struct RowReader<R> {
 }
 
 // What csv reads of the bytes that are left.
-fn csv_reader<R: Read>(alloc: Global, ahead: ReadAhead<R>) -> Reader<ReadAhead<R>>
+fn csv_reader<R: TellsFault>(alloc: Global, ahead: ReadAhead<R>) -> Reader<ReadAhead<R>>
     ensures open { open_in (Source.Csv result) }
     ensures rows { rows_in R.remaining (Source.Csv result) ≡ option_map rows_of (bytes_left R.remaining ahead) }
 {
@@ -68,14 +68,14 @@ fn csv_reader<R: Read>(alloc: Global, ahead: ReadAhead<R>) -> Reader<ReadAhead<R
 
 // Reads the next record with csv, and says whether there was one.
 #[tactic(auto, unfolding(crate::specs::Rows::rows_left))]
-fn read_next<R: Read>(
+fn read_next<R: TellsFault>(
     reader: &mut Reader<ReadAhead<R>>,
     row: &mut ByteRecord,
 ) -> Result<bool, RowError>
     requires { open_in (Source.Csv reader.old) }
     ensures open { OnOk result (open_in (Source.Csv reader.new)) }
     ensures takes { IfOk result (TakesRow (rows_in R.remaining (Source.Csv reader.old)) (rows_in R.remaining (Source.Csv reader.new)) (fields_of row.new)) }
-    ensures fault { IsErrOf result RowError.ReadFault → failed_in (Source.Csv reader.new) ≡ true }
+    ensures fault { IsErrOf result RowError.ReadFault → failed_in R.failed (Source.Csv reader.new) ≡ true }
     ensures fits { result ≢ Err RowError.Unfit }
 {
     match reader.read_byte_record(row) {
@@ -101,13 +101,12 @@ fn fill<R>(source: &mut Source<R>, next: Source<R>)
 }
 
 #[tactic(auto, unfolding(crate::specs::Rows::IsOpen, crate::specs::Rows::rows_left))]
-impl<R: Read> RowReader<R> {
+impl<R: TellsFault> RowReader<R> {
     /// The records of what the reader has left. It reads nothing yet.
     pub fn new(alloc: Global, source: R) -> RowReader<R>
         ensures open { IsOpen result }
         ensures rows { rows_left R.remaining result ≡ option_map rows_of (R.remaining source) }
-        // No read failed yet.
-        ensures fresh { device_failed result ≡ false }
+        ensures failed { device_failed R.failed result ≡ R.failed source }
     {
         RowReader {
             alloc,
@@ -152,7 +151,7 @@ impl<R: Read> RowReader<R> {
         requires csv { is_csv self.old.source ≡ true }
         ensures open { OnOk result (IsOpen self.new) }
         ensures takes { IfOk result (TakesRow (rows_left R.remaining self.old) (rows_left R.remaining self.new) (current_row self.new)) }
-        ensures fault { IsErrOf result RowError.ReadFault → device_failed self.new ≡ true }
+        ensures fault { IsErrOf result RowError.ReadFault → device_failed R.failed self.new ≡ true }
         ensures csv { is_csv self.new.source ≡ true }
         ensures fits { result ≢ Err RowError.Unfit }
     {
@@ -174,7 +173,7 @@ impl<R: Read> RowReader<R> {
         ensures unfit { IsErrOf result RowError.Unfit → IfSome (rows_left R.remaining self.old) BeginsUnfit }
         // As long as csv doesn't read, a record that comes is one of four short fields.
         ensures fits { IfOk result (λ found. found ≡ true → is_csv self.new.source ≡ false → Fits (current_row self.new)) }
-        ensures fault { IsErrOf result RowError.ReadFault → device_failed self.new ≡ true }
+        ensures fault { IsErrOf result RowError.ReadFault → device_failed R.failed self.new ≡ true }
     {
         if let Source::Plain(ahead) = &mut self.source {
             match ahead.advance() {

@@ -5,8 +5,8 @@ ghost use Rattle.cell_rows.specs.Rows.{current_row, rows_of};
 ghost use Rattle.cell_rows.specs.Scripts.{FitLines, Gives, Means, line_of_row, lines_of};
 
 use crate::rows::{Four, RowError, RowReader};
+use crate::watched::TellsFault;
 use std::alloc::Global;
-use std::io::Read;
 
 /// The most lines that a script may have.
 pub const MAX_LINES: u32 = 1000;
@@ -56,7 +56,7 @@ fn stopped<L: ScriptLine>(place: u32, why: RowError) -> LineError
 }
 
 // The line of the record that was read, after these lines.
-fn current_line<L: ScriptLine, R: Read>(before: &[L], rows: &RowReader<R>) -> Option<L>
+fn current_line<L: ScriptLine, R: TellsFault>(before: &[L], rows: &RowReader<R>) -> Option<L>
     ensures { result ≡ line_of_row L.line_of before.now (current_row rows.now) }
 {
     match rows.four() {
@@ -68,7 +68,7 @@ fn current_line<L: ScriptLine, R: Read>(before: &[L], rows: &RowReader<R>) -> Op
 /// Reads a script: at most 1,000 records of four fields, each of them a line.
 ///
 /// The first record that is no line is `Unreadable`, counted from 1; a record 1,001 is `TooManyLines`, whatever it
-/// holds; `OutOfMemory` comes only where memory was refused.
+/// holds. `OutOfMemory` comes where memory was refused: that it comes nowhere else is tested, and no clause says so.
 #[tactic(auto, unfolding(crate::specs::Scripts::lines_after))]
 pub fn read_script<L: ScriptLine + Drop>(alloc: Global, text: &[u8]) -> Result<Vec<L>, LineError>
     ensures exact { Gives (result_map_both vec_items (λ e. e) result) (lines_of L.line_of (rows_of text.now)) }

@@ -1,46 +1,79 @@
-//! A reader that remembers whether it failed.
+//! Readers that tell whether they failed.
 ghost use Rattle.std.specs.Prelude.{◌≡◌, ◌⊎◌, false, true, IsErr};
 ghost use Rattle.std.specs.Io.{ReadsAtMost};
 ghost use Rattle.std.specs.Io.KnownBytes.{ReadConsumes};
+ghost use Rattle.cell_rows.specs.Watched.{bytes_under, read_failed};
 
 use std::io;
 use std::io::{ErrorKind, Read};
 
-/// A reader that remembers whether a read of it failed. A read that was interrupted is tried again.
+/// A reader that tells whether a read of it failed.
+pub trait TellsFault: Read {
+    ghost use Rattle.std.specs.Prelude.{◌≡◌, Bool, true, IsErr};
+    ghost use Rattle.std.specs.Io.{ReadsAtMost};
+    ghost use Rattle.std.specs.Io.KnownBytes.{ReadConsumes};
+
+    /// Whether a read failed.
+    ghost failed: { Self → Bool };
+
+    /// Whether a read failed.
+    fn has_failed(&self) -> bool
+        ensures { result ≡ failed self.now };
+
+    /// Reads as `read` does. A read that fails is told from then on.
+    fn read_told(&mut self, buf: &mut [u8]) -> io::Result<usize>
+        ensures bound { ReadsAtMost result buf.new }
+        ensures bytes { ReadConsumes (Self.remaining self.old) (Self.remaining self.new) result buf.new }
+        ensures told { IsErr result → failed self.new ≡ true };
+}
+
+/// The bytes of a text in memory can always be read.
+impl TellsFault for &[u8] {
+    ghost use Rattle.std.specs.Prelude.{false};
+
+    ghost failed = { λ _. false };
+
+    fn has_failed(&self) -> bool {
+        false
+    }
+
+    fn read_told(&mut self, buf: &mut [u8]) -> io::Result<usize> {
+        self.read(buf)
+    }
+}
+
+/// Any reader, with what it takes to tell whether a read of it failed. A read that was interrupted is tried again.
 #[derive(Drop)]
-pub(crate) struct Watched<R> {
+pub struct Watched<R> {
     source: R,
     failed: bool,
 }
 
-impl<R> Watched<R> {
+impl<R: Read> Watched<R> {
     /// A reader no read of which failed yet.
-    pub(crate) fn new(source: R) -> Watched<R>
-        ensures { result ≡ record { source = source; failed = false } }
+    pub fn new(source: R) -> Watched<R>
+        ensures bytes { bytes_under R.remaining result ≡ R.remaining source }
+        ensures fresh { read_failed result ≡ false }
     {
         Watched {
             source,
             failed: false,
         }
     }
-
-    /// Whether a read failed.
-    pub(crate) fn has_failed(&self) -> bool
-        ensures { result ≡ self.now.failed }
-    {
-        self.failed
-    }
 }
 
 impl<R: Read> Read for Watched<R> {
-    ghost remaining = { λ w. R.remaining w.source };
+    ghost use Rattle.cell_rows.specs.Watched.{bytes_under};
+
+    ghost remaining = { bytes_under R.remaining };
 
     fn read(&mut self, buf: &mut [u8]) -> io::Result<usize>
         ensures bound { ReadsAtMost result buf.new }
-        ensures bytes { ReadConsumes (R.remaining self.old.source) (R.remaining self.new.source) result buf.new }
-        ensures noted { self.new.failed ≡ true → (self.old.failed ≡ true) ⊎ IsErr result }
-        ensures notes { IsErr result → self.new.failed ≡ true }
-        ensures kept { self.old.failed ≡ true → self.new.failed ≡ true }
+        ensures bytes { ReadConsumes (bytes_under R.remaining self.old) (bytes_under R.remaining self.new) result buf.new }
+        // A failure is noted where an error is answered, and only there, and a note stays.
+        ensures noted { read_failed self.new ≡ true → (read_failed self.old ≡ true) ⊎ IsErr result }
+        ensures notes { IsErr result → read_failed self.new ≡ true }
+        ensures kept { read_failed self.old ≡ true → read_failed self.new ≡ true }
     {
         for _ in 0..u64::MAX {
             match self.source.read(buf) {
@@ -54,5 +87,19 @@ impl<R: Read> Read for Watched<R> {
         }
         self.failed = true;
         Err(io::Error::from(ErrorKind::Interrupted))
+    }
+}
+
+impl<R: Read> TellsFault for Watched<R> {
+    ghost use Rattle.cell_rows.specs.Watched.{read_failed};
+
+    ghost failed = { read_failed };
+
+    fn has_failed(&self) -> bool {
+        self.failed
+    }
+
+    fn read_told(&mut self, buf: &mut [u8]) -> io::Result<usize> {
+        self.read(buf)
     }
 }

@@ -1,7 +1,7 @@
 -- An answer on memory, and the good entries of a text.
 use Rattle.std.proofs.Common.{◌≡◌, ◌≤◌, ℕ, List, length, Option, Some, None, Result, Err, inl, inr, refl, ap, arith, ◌⊎◌}
 use Rattle.std.specs.Prelude.{IfSome, unwrap_or}
-use Rattle.cell_rows.specs.Rows.{rows_of}
+use Rattle.cell_rows.specs.Rows.{Row}
 use Rattle.cell_types.specs.declared.words.Entry.{Entry}
 use Rattle.cell_types.specs.declared.words.Totals.{Totals}
 use Rattle.cell_audit.specs.Meaning.{Due, IsFault}
@@ -11,14 +11,14 @@ use Rattle.cell_audit.specs.declared.error.AuditError.TheVariants as error
 use Rattle.cell_lines.specs.Lines.{status_of}
 use Rattle.cell_show.specs.Shown.{AreGood, HasEntry}
 
-pub wants-memory : (text : Option (List ℕ)) → IfSome text (λ known. IsFault (Err error.OutOfMemory) ⊎ Due (rows_of known) (Err error.OutOfMemory))
+pub wants-memory : (rows : Option (List Row)) → IfSome rows (λ known. IsFault (Err error.OutOfMemory) ⊎ Due known (Err error.OutOfMemory))
 wants-memory None = tt
 wants-memory (Some known) = inl (inr refl)
 
 -- where an answer is neither on the reader nor on memory, the entries that are read are good
-pub good : (text : Option (List ℕ)) (answer : Result (ℕ × Totals) AuditError) (J : List Entry)
-    → IfSome text (λ known. IsFault answer ⊎ Due (rows_of known) answer) → IsBefore answer J → IfSome text (λ known. SpellsFirst J (rows_of known))
-    → status_of answer ≤ 1 → IfSome text (AreGood J)
+pub good : (rows : Option (List Row)) (answer : Result (ℕ × Totals) AuditError) (J : List Entry)
+    → IfSome rows (λ known. IsFault answer ⊎ Due known answer) → IsBefore answer J → IfSome rows (SpellsFirst J)
+    → status_of answer ≤ 1 → IfSome rows (AreGood J)
 good None answer J due before first low = tt
 good (Some known) answer J (inr due) before first low = (answer, due, before, first)
 good (Some known) answer J (inl (inl is)) before first low =
@@ -31,7 +31,7 @@ within : (entry : Option ℕ) (n : ℕ) → unwrap_or entry n ≤ n → IfSome e
 within None n most = tt
 within (Some k) n most = most
 
-pub has : (text : Option (List ℕ)) (entry : Option ℕ) (n : ℕ) (J : List Entry)
-    → IfSome text (AreGood J) → length J ≡ n → unwrap_or entry n ≤ n → IfSome text (HasEntry entry)
+pub has : (rows : Option (List Row)) (entry : Option ℕ) (n : ℕ) (J : List Entry)
+    → IfSome rows (AreGood J) → length J ≡ n → unwrap_or entry n ≤ n → IfSome rows (HasEntry entry)
 has None entry n J are size most = tt
 has (Some known) entry n J are size most = (J, are, rw size (within entry n most))

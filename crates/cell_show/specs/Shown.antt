@@ -1,6 +1,6 @@
 -- What is told of a journal's text beside the picture
 use Rattle.std.specs.Prelude.{◌≡◌, ◌⊎◌, ◌<◌, ◌≤◌, ℕ, List, ◌++◌, length, Option, Some, Result, IfSome, ⊤, codes, decimal}
-use Rattle.cell_rows.specs.Rows.{rows_of}
+use Rattle.cell_rows.specs.Rows.{Row}
 use Rattle.cell_types.specs.declared.words.Entry.{Entry}
 use Rattle.cell_types.specs.declared.words.Totals.{Totals}
 use Rattle.cell_audit.specs.Meaning.{Due, IsFault}
@@ -17,16 +17,15 @@ abbrev pub of_page : PageError → ShowError
 of_page page.TooManyEntries = error.TooManyEntries
 of_page page.WriteFault = error.WriteFault
 
--- the status is that of the answer that is due for a text, or of one on the reader or on memory
-abbrev pub TellsStatus : Option (List ℕ) → ℕ → Type 0
-TellsStatus text status =
-    (answer : Result (ℕ × Totals) AuditError) × IfSome text (λ known. IsFault answer ⊎ Due (rows_of known) answer) × (status ≡ status_of answer)
+-- the status is that of the answer that is due for the records of a text, or of one on the reader or on memory
+abbrev pub TellsStatus : Option (List Row) → ℕ → Type 0
+TellsStatus rows status =
+    (answer : Result (ℕ × Totals) AuditError) × IfSome rows (λ known. IsFault answer ⊎ Due known answer) × (status ≡ status_of answer)
 
 -- the good entries of a text: its first records are theirs, and the answer that is due for it names the place after them,
 -- or has their counts
-abbrev pub AreGood : List Entry → List ℕ → Type 0
-AreGood J text =
-    (answer : Result (ℕ × Totals) AuditError) × Due (rows_of text) answer × IsBefore answer J × SpellsFirst J (rows_of text)
+abbrev pub AreGood : List Entry → List Row → Type 0
+AreGood J rows = (answer : Result (ℕ × Totals) AuditError) × Due rows answer × IsBefore answer J × SpellsFirst J rows
 
 -- where there is no such entry, more entries were asked for than are told
 abbrev pub AsksPast : Option ℕ → ShowError → Type 0
@@ -35,14 +34,14 @@ AsksPast entry error.TooManyEntries = ⊤
 AsksPast entry error.WriteFault = ⊤
 
 -- a text has as many good entries as are told where there is no such entry, and else too many for a page
-abbrev pub TellsEntries : ShowError → List ℕ → Type 0
-TellsEntries (error.NoSuchEntry n) text = (J : List Entry) × AreGood J text × (length J ≡ n)
-TellsEntries error.TooManyEntries text = (J : List Entry) × AreGood J text × (20000 < length J)
-TellsEntries error.WriteFault text = ⊤
+abbrev pub TellsEntries : ShowError → List Row → Type 0
+TellsEntries (error.NoSuchEntry n) rows = (J : List Entry) × AreGood J rows × (length J ≡ n)
+TellsEntries error.TooManyEntries rows = (J : List Entry) × AreGood J rows × (20000 < length J)
+TellsEntries error.WriteFault rows = ⊤
 
 -- a text has at least as many good entries as were asked for, if any were
-abbrev pub HasEntry : Option ℕ → List ℕ → Type 0
-HasEntry entry text = (J : List Entry) × AreGood J text × IfSome entry (λ k. k ≤ length J)
+abbrev pub HasEntry : Option ℕ → List Row → Type 0
+HasEntry entry rows = (J : List Entry) × AreGood J rows × IfSome entry (λ k. k ≤ length J)
 
 -- what is printed of an error
 abbrev pub error_text : ShowError → List ℕ

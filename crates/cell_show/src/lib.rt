@@ -5,4 +5,4 @@ mod error;
 mod show;
 
 pub use error::ShowError;
-pub use show::{Form, show_journal};
+pub use show::{Form, show_journal, show_rows};

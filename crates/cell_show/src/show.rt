@@ -1,13 +1,16 @@
 //! Showing the cell as the first entries of a journal left it.
-ghost use Rattle.std.specs.Prelude.{◌≡◌, ◌≢◌, ◌≤◌, ◌<◌, ℕ, IfErr, IfOk, IfSome, length};
+ghost use Rattle.std.specs.Prelude.{◌≡◌, ◌≢◌, ◌≤◌, ◌<◌, ℕ, IfErr, IfOk, IfSome, Ok, length, true};
+ghost use Rattle.cell_rows.specs.Rows.{IsOpen, device_failed, rows_left};
+ghost use Rattle.cell_audit.specs.Migrated.{rows_in};
 ghost use Rattle.cell_lines.specs.Lines.{status_of};
 ghost use Rattle.cell_show.specs.Shown.{TellsStatus, AsksPast, TellsEntries, HasEntry};
 
 use crate::ShowError;
-use cell_audit::{AuditError, read_journal};
+use cell_audit::{AuditError, read_rows};
 use cell_lines::status;
 use cell_page::write_page;
 use cell_picture::{Scene, draw_picture, draw_text, facts_after};
+use cell_rows::{RowReader, TellsFault, Watched};
 use cell_types::Totals;
 use plate_book::Book;
 use std::alloc::Global;
@@ -68,33 +71,26 @@ fn draw<W: Write>(
     Ok(())
 }
 
-/// Shows the cell as the first `entry` entries of the journal on the reader left it, or all of them where `entry` is `None`,
-/// and gives the exit status. A page has all states.
-///
-/// A journal that is refused or can't be read is shown up to its last good entry, with the audit's line below, status 1.
-/// Where the reader fails (status 3) or memory is refused (status 4) nothing is written; nor where the journal has fewer
-/// entries than that, or too many for a page. The text is read to its end before anything is written.
-pub fn show_journal<R: Read + Drop, W: Write>(
+/// Shows the cell as the first entries of the records that a reader has left it, as `show_journal` does those of a text.
+pub fn show_rows<R: TellsFault, W: Write>(
     alloc: Global,
-    reader: R,
+    rows: &mut RowReader<R>,
     form: Form,
     entry: Option<u32>,
     writer: &mut W,
 ) -> Result<u8, ShowError>
-    // The status is that of the audit's answer.
-    ensures status { IfOk result (TellsStatus (R.remaining reader)) }
+    requires { IsOpen rows.old }
+    ensures status { IfOk result (TellsStatus (rows_left R.remaining rows.old)) }
     ensures unread { IfOk result (λ status. 1 < status → writer.new ≡ writer.old) }
-    // Where the cell is shown, the text has at least as many good entries as were asked for.
-    ensures there { IfOk result (λ status. status ≤ 1 → IfSome (R.remaining reader) (HasEntry entry)) }
-    // Where there is no such entry, more were asked for than are told.
+    ensures there { IfOk result (λ status. status ≤ 1 → IfSome (rows_left R.remaining rows.old) (HasEntry entry)) }
     ensures past { IfErr result (AsksPast entry) }
-    // There are as many good entries as are told, or too many for a page.
-    ensures entries { IfErr result (λ why. IfSome (R.remaining reader) (TellsEntries why)) }
-    // Only a page has too many entries.
+    ensures entries { IfErr result (λ why. IfSome (rows_left R.remaining rows.old) (TellsEntries why)) }
     ensures page { result ≡ Err ShowError.TooManyEntries → form ≡ Form.Page }
     ensures nothing { IfErr result (λ e. e ≢ ShowError.WriteFault → writer.new ≡ writer.old) }
+    // It gives the status of a reader that failed only where a failed read was noted.
+    ensures fault { result ≡ Ok 3 → device_failed R.failed rows.new ≡ true }
 {
-    let Ok(reading) = read_journal(alloc, reader) else {
+    let Ok(reading) = read_rows(alloc, rows) else {
         return Ok(status::OUT_OF_MEMORY);
     };
     let status = status_of(&reading.answer);
@@ -108,4 +104,35 @@ pub fn show_journal<R: Read + Drop, W: Write>(
     }
     draw(writer, form, &reading.book, shown, reading.answer.err())?;
     Ok(status)
+}
+
+/// Shows the cell as the first `entry` entries of the journal on the reader left it, or all of them where `entry` is `None`,
+/// and gives the exit status. A page has all states.
+///
+/// A journal that is refused or can't be read is shown up to its last good entry, with the audit's line below, status 1.
+/// Where the reader fails (status 3) or memory is refused (status 4) nothing is written; nor where the journal has fewer
+/// entries than that, or too many for a page. The text is read to its end before anything is written. That status 3 comes
+/// only where a failed read was noted is a clause of `show_rows`, of which this is the case of a new reader of rows.
+pub fn show_journal<R: Read + Drop, W: Write>(
+    alloc: Global,
+    reader: R,
+    form: Form,
+    entry: Option<u32>,
+    writer: &mut W,
+) -> Result<u8, ShowError>
+    // The status is that of the audit's answer.
+    ensures status { IfOk result (TellsStatus (rows_in (R.remaining reader))) }
+    ensures unread { IfOk result (λ status. 1 < status → writer.new ≡ writer.old) }
+    // Where the cell is shown, the text has at least as many good entries as were asked for.
+    ensures there { IfOk result (λ status. status ≤ 1 → IfSome (rows_in (R.remaining reader)) (HasEntry entry)) }
+    // Where there is no such entry, more were asked for than are told.
+    ensures past { IfErr result (AsksPast entry) }
+    // There are as many good entries as are told, or too many for a page.
+    ensures entries { IfErr result (λ why. IfSome (rows_in (R.remaining reader)) (TellsEntries why)) }
+    // Only a page has too many entries.
+    ensures page { result ≡ Err ShowError.TooManyEntries → form ≡ Form.Page }
+    ensures nothing { IfErr result (λ e. e ≢ ShowError.WriteFault → writer.new ≡ writer.old) }
+{
+    let mut rows = RowReader::new(alloc, Watched::new(reader));
+    show_rows(alloc, &mut rows, form, entry, writer)
 }

@@ -1,5 +1,5 @@
 //! The audit of texts, whole, cut and from readers that fail, and the writing of journals.
-use cell_audit::{AuditError, WriteError, audit, write_journal};
+use cell_audit::{AuditError, WriteError, audit, audit_text, write_journal};
 use cell_journal::Journal;
 use cell_samples::{
     FailingReader, FailingWriter, Interrupted, LAID_BACK, ONE_PLATE, Pieces, Unwilling, begun,
@@ -281,10 +281,12 @@ pub(crate) fn judges<R: Read + Drop>(
     assert_eq!(rt; answer, wanted, "{shown}: {bytes} bytes");
 }
 
-// A text is judged so, at once and byte by byte, and where each read is interrupted once before.
+// A text is judged so, in memory, at once and byte by byte, and where each read is interrupted once before.
 fn is_judged(rt: &impl Abort, alloc: Global, text: &[u8], wanted: Answer) {
     let lossy = String::from_utf8_lossy(alloc, text).expect(rt, "memory");
     let shown = lossy.as_str();
+    let answer = audit_text(alloc, text);
+    assert_eq!(rt; answer, wanted, "{shown}: in memory");
     judges(rt, alloc, text, wanted, (shown, text.len()));
     judges(rt, alloc, Pieces::new(text, 1), wanted, (shown, 1));
     let interrupted = Interrupted::new(text);

@@ -1,5 +1,5 @@
 //! The records of texts, read at once, byte by byte and in pieces, and readers that fail.
-use cell_rows::{Four, RowError, RowReader};
+use cell_rows::{Four, RowError, RowReader, Watched};
 use cell_samples::{FailingReader, Interrupted, Pieces};
 use std::alloc::{AllocError, Global};
 use std::io::Read;
@@ -147,7 +147,7 @@ fn lists<R: Read + Drop>(
     wanted: &[u8],
     (name, bytes): (&str, usize),
 ) {
-    let mut rows = RowReader::new(alloc, reader);
+    let mut rows = RowReader::new(alloc, Watched::new(reader));
     let mut list = Vec::new(alloc);
     for _ in 0..4000 {
         match rows.advance() {

@@ -7,4 +7,4 @@ loop-preserved g c =
     let l = c.loop.self in
     let feeds = c.begins_blank.ensures (search rules) in
     let more = feeds.0 in
-    ((omega (arith, more), c.loop.invariant.0.1), blank_passed (g.R.Read.remaining l.source.source) l.buffer l.at l.filled feeds ∙ c.loop.invariant.1)
+    ((omega (arith, more), c.loop.invariant.0.1), blank_passed (g.R.Read.remaining l.source) l.buffer l.at l.filled feeds ∙ c.loop.invariant.1)

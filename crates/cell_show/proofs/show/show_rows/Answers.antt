@@ -1,9 +1,10 @@
 use Rattle.std.proofs.Common.{◌≡◌, ◌≤◌, length, Err, refl, rules, arith}
 use Rattle.std.specs.Prelude.{IfSome, unwrap_or}
 use Rattle.cell_audit.specs.declared.error.AuditError.TheVariants as error
+use Rattle.cell_rows.specs.Rows.{rows_left}
 use Rattle.cell_show.specs.Shown.{AreGood}
 use Rattle.cell_show.proofs.Facts.{wants-memory, good, has}
-use Rattle.cell_show.proofs.show.show_journal.Goals as goal
+use Rattle.cell_show.proofs.show.show_rows.Goals as goal
 
 pub returns-in_default-clause-status : goal.returns-in_default-clause-status
 returns-in_default-clause-status g c = (Err error.OutOfMemory, wants-memory _, refl)
@@ -18,10 +19,10 @@ pub returns-clause-there : goal.returns-clause-there
 returns-clause-there g c = λ low.
     let book = c.in-Ok.reading.book.entries in
     let n = c.len-entries.result in
-    let are : IfSome (g.R.Read.remaining c.args.reader) (AreGood book) =
-    good (g.R.Read.remaining c.args.reader) c.in-Ok.reading.answer book c.in-Ok.ensures.due c.in-Ok.ensures.before c.in-Ok.ensures.first
+    let are : IfSome (rows_left g.R.Read.remaining c.args.rows.now) (AreGood book) =
+    good (rows_left g.R.Read.remaining c.args.rows.now) c.in-Ok.reading.answer book c.in-Ok.ensures.due c.in-Ok.ensures.before c.in-Ok.ensures.first
     (omega (arith, c.status_of-status.ensures, low)) in
     let size : length book ≡ n = search rules in
     let shown : c.unwrap_or-shown.result ≡ unwrap_or c.args.entry n = c.unwrap_or-shown.ensures in
     let most : unwrap_or c.args.entry n ≤ n = omega (arith, shown, c.if-shown-entries.false) in
-    has (g.R.Read.remaining c.args.reader) c.args.entry n book are size most
+    has (rows_left g.R.Read.remaining c.args.rows.now) c.args.entry n book are size most
