@@ -1,5 +1,8 @@
 //! Writing the page.
-ghost use Rattle.std.specs.Prelude.{◌≡◌, ◌<◌, ◌≤◌, ◌↔◌, Err, length};
+ghost use Rattle.std.specs.Prelude.{◌≡◌, ◌<◌, ◌≤◌, ◌↔◌, Err, OnOk, length, take};
+ghost use Rattle.std.specs.Io.KnownBytes.{Appends};
+ghost use Rattle.cell_picture.specs.Told.{facts_told, last_of};
+ghost use Rattle.cell_page.specs.Page.{WritesPage, answer_line, no_scripts_text, rows_text};
 
 use crate::PageError;
 use crate::parts::{CONTROL_SCRIPT, DRAWING, DRAWING_SCRIPT, HEAD, LISTS};
@@ -8,15 +11,37 @@ use crate::words::write_words;
 use cell_audit::AuditError;
 use cell_picture::{AnswerLine, facts_after};
 use cell_sentences::EntrySentence;
+use cell_types::Entry;
 use plate_book::Book;
+use std::fmt;
 use std::io::Write;
 
 /// The most entries of a journal that a page shows.
 pub const MAX_PAGE_ENTRIES: u32 = 20_000;
 
+// The last entry as it is told where no scripts run.
+#[derive(Clone, Copy)]
+struct LastText(Option<Entry>);
+
+impl fmt::Display for LastText {
+    ghost use Rattle.std.specs.Prelude.{Some};
+    ghost use Rattle.cell_page.specs.Page.{last_text};
+
+    ghost output = { λ last. Some (last_text last.0) };
+
+    fn fmt<W: fmt::Write>(&self, f: &mut fmt::Formatter<W>) -> fmt::Result {
+        match self.0 {
+            Some(entry) => write!(f, "The last entry: {}", EntrySentence(entry)),
+            None => write!(f, "Nothing is booked."),
+        }
+    }
+}
+
 // What the first `i` entries leave, and the last of them.
 fn row_after(book: &Book, i: u32) -> Row
     requires { i ≤ length book.now.entries }
+    ensures facts { result.facts ≡ facts_told (take i book.now.entries) }
+    ensures last { result.last ≡ last_of (take i book.now.entries) }
 {
     let (facts, last) = facts_after(book, i);
     Row { facts, last }
@@ -24,36 +49,35 @@ fn row_after(book: &Book, i: u32) -> Row
 
 // Writes the rows of the states, from the opening on.
 fn write_rows<W: Write>(writer: &mut W, book: &Book) -> Result<(), PageError>
-    ensures { result ≡ Err PageError.TooManyEntries → ⊥ }
+    ensures fault { result ≡ Err PageError.TooManyEntries → ⊥ }
+    ensures rows { OnOk result (Appends (W.contents writer.old) (W.contents writer.new) (rows_text book.now.entries)) }
 {
     write!(writer, "{}", row_after(book, 0))?;
-    for i in 1..=book.journal().len() {
-        write!(writer, ",\n{}", row_after(book, i))?;
+    for taken in 0..book.journal().len() {
+        write!(writer, ",\n{}", row_after(book, taken + 1))?;
     }
     Ok(())
 }
 
 // Writes what is shown where no scripts run: that the page needs them, and the last entry.
 fn write_for_no_scripts<W: Write>(writer: &mut W, book: &Book) -> Result<(), PageError>
-    ensures { result ≡ Err PageError.TooManyEntries → ⊥ }
+    ensures fault { result ≡ Err PageError.TooManyEntries → ⊥ }
+    ensures text { OnOk result (Appends (W.contents writer.old) (W.contents writer.new) (no_scripts_text book.now.entries)) }
 {
     let entries = book.journal().len();
-    let (_, last) = facts_after(book, entries);
+    let Row { last, .. } = row_after(book, entries);
     write!(
         writer,
-        "<noscript><p class=\"answer\">This page needs scripts to show the states after {entries} entries. "
+        "<noscript><p class=\"answer\">This page needs scripts to show the states after {entries} entries. {}</p></noscript>\n",
+        LastText(last)
     )?;
-    match last {
-        Some(entry) => write!(writer, "The last entry: {}", EntrySentence(entry))?,
-        None => write!(writer, "Nothing is booked.")?,
-    }
-    writer.write_all(b"</p></noscript>\n")?;
     Ok(())
 }
 
 // Writes the line of an answer.
 fn write_answer<W: Write>(writer: &mut W, answer: Option<AuditError>) -> Result<(), PageError>
-    ensures { result ≡ Err PageError.TooManyEntries → ⊥ }
+    ensures fault { result ≡ Err PageError.TooManyEntries → ⊥ }
+    ensures text { OnOk result (Appends (W.contents writer.old) (W.contents writer.new) (answer_line answer)) }
 {
     if let Some(why) = answer {
         writeln!(writer, "<p class=\"answer\">{}</p>", AnswerLine(why))?;
@@ -67,7 +91,8 @@ fn write_parts<W: Write>(
     book: &Book,
     answer: Option<AuditError>,
 ) -> Result<(), PageError>
-    ensures { result ≡ Err PageError.TooManyEntries → ⊥ }
+    ensures fault { result ≡ Err PageError.TooManyEntries → ⊥ }
+    ensures page { OnOk result (WritesPage (W.contents writer.old) (W.contents writer.new) book.now.entries answer) }
 {
     writer.write_all(HEAD.as_bytes())?;
     write_for_no_scripts(writer, book)?;
@@ -92,6 +117,8 @@ pub fn write_page<W: Write>(
     answer: Option<AuditError>,
 ) -> Result<(), PageError>
     ensures refused { (result ≡ Err PageError.TooManyEntries) ↔ (20000 < length book.now.entries) }
+    // Its rows are those of the states after each number of the journal's entries, in order.
+    ensures page { OnOk result (WritesPage (W.contents writer.old) (W.contents writer.new) book.now.entries answer) }
     ensures nothing { result ≡ Err PageError.TooManyEntries → writer.new ≡ writer.old }
 {
     if book.journal().len() > MAX_PAGE_ENTRIES {

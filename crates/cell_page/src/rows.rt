@@ -4,30 +4,140 @@
 //! the zones' holders, the failed and the asked machines, the lights, the expected plate, the plates in quarantine, the
 //! six totals, and of the last entry its actor, its record and its sentence. A word of a list is written as a letter, `a`
 //! for the first, and `-` stands for none.
+ghost use Rattle.std.specs.Prelude.{◌≡◌, ◌<◌, ◌==◌, ◌∷◌, [], if◌then◌else◌};
+ghost use Rattle.std.specs.Char.{encode_utf8};
+ghost use Rattle.cell_types.specs.Entries.{actor_of};
+ghost use Rattle.cell_page.specs.Rows.{actor_place, expected_number, flag, letter};
+
 use cell_picture::{Facts, ShownPlate};
 use cell_sentences::EntrySentence;
-use cell_types::{Actor, AxisState, Colour, Entry, Field, Machine, Totals, actor_of, spell};
+use cell_types::{Actor, AxisState, Colour, Entry, Field, Machine, Pose, Totals, actor_of, spell};
 use std::fmt;
 
 // The letter of the word at a place of its list.
-fn letter(place: u8) -> char {
+fn letter(place: u8) -> char
+    ensures { place < 26 → encode_utf8 result ≡ letter place }
+{
     char::from(b'a' + place.min(25))
 }
 
-// The plates' numbers by station, 0 where there is none.
+// A 1 where something holds, and a 0 where not.
+fn flag(holds: bool) -> &'static str
+    ensures { result.now ≡ flag holds }
+{
+    if holds { "1" } else { "0" }
+}
+
+/// What stands before the cell at a place.
+pub(crate) fn comma(place: usize) -> &'static str
+    ensures { result.now ≡ (if place == 0 then [] else 44 ∷ []) }
+{
+    if place == 0 { "" } else { "," }
+}
+
+// The number of a plate, 0 where there is none.
 #[derive(Clone, Copy)]
-struct Plates<'a>(&'a [Option<ShownPlate>; 9]);
+struct PlateNumber(Option<ShownPlate>);
+
+impl fmt::Display for PlateNumber {
+    ghost use Rattle.std.specs.Prelude.{Some};
+    ghost use Rattle.cell_page.specs.Rows.{plate_number};
+
+    ghost output = { λ shown. Some (plate_number shown.0) };
+
+    fn fmt<W: fmt::Write>(&self, f: &mut fmt::Formatter<W>) -> fmt::Result {
+        match self.0 {
+            Some(shown) => write!(f, "{}", shown.plate.number()),
+            None => write!(f, "0"),
+        }
+    }
+}
+
+// Whether a plate is forged, 0 where there is none.
+#[derive(Clone, Copy)]
+struct PlateMark(Option<ShownPlate>);
+
+impl fmt::Display for PlateMark {
+    ghost use Rattle.std.specs.Prelude.{Some};
+    ghost use Rattle.cell_page.specs.Rows.{plate_mark};
+
+    ghost output = { λ shown. Some (plate_mark shown.0) };
+
+    fn fmt<W: fmt::Write>(&self, f: &mut fmt::Formatter<W>) -> fmt::Result {
+        match self.0 {
+            Some(shown) => write!(f, "{}", flag(shown.forged)),
+            None => write!(f, "0"),
+        }
+    }
+}
+
+// The letter of a pose to which an axis is going.
+#[derive(Clone, Copy)]
+struct Aim(Option<Pose>);
+
+impl fmt::Display for Aim {
+    ghost use Rattle.std.specs.Prelude.{Some};
+    ghost use Rattle.cell_page.specs.Rows.{aim_letter};
+
+    ghost output = { λ aim. Some (aim_letter aim.0) };
+
+    fn fmt<W: fmt::Write>(&self, f: &mut fmt::Formatter<W>) -> fmt::Result {
+        match self.0 {
+            Some(to) => write!(f, "{}", letter(to as u8)),
+            None => write!(f, "-"),
+        }
+    }
+}
+
+// The letter of the machine that holds a zone.
+#[derive(Clone, Copy)]
+struct Holder(Option<Machine>);
+
+impl fmt::Display for Holder {
+    ghost use Rattle.std.specs.Prelude.{Some};
+    ghost use Rattle.cell_page.specs.Rows.{holder_letter};
+
+    ghost output = { λ holder. Some (holder_letter holder.0) };
+
+    fn fmt<W: fmt::Write>(&self, f: &mut fmt::Formatter<W>) -> fmt::Result {
+        match self.0 {
+            Some(machine) => write!(f, "{}", letter(machine as u8)),
+            None => write!(f, "-"),
+        }
+    }
+}
+
+// The first letter of a light's colour.
+#[derive(Clone, Copy)]
+struct Lamp(Colour);
+
+impl fmt::Display for Lamp {
+    ghost use Rattle.std.specs.Prelude.{Some};
+    ghost use Rattle.cell_page.specs.Rows.{lamp_letter};
+
+    ghost output = { λ lamp. Some (lamp_letter lamp.0) };
+
+    fn fmt<W: fmt::Write>(&self, f: &mut fmt::Formatter<W>) -> fmt::Result {
+        match self.0 {
+            Colour::Red => write!(f, "r"),
+            Colour::Green => write!(f, "g"),
+        }
+    }
+}
+
+// The plates' numbers by station.
+#[derive(Clone, Copy)]
+struct Plates<'a>(&'a [Option<ShownPlate>]);
 
 impl<'a> fmt::Display for Plates<'a> {
+    ghost use Rattle.std.specs.Prelude.{Some, map};
+    ghost use Rattle.cell_page.specs.Rows.{plate_number, with_commas};
+
+    ghost output = { λ shown. Some (with_commas (map plate_number shown.0.now)) };
+
     fn fmt<W: fmt::Write>(&self, f: &mut fmt::Formatter<W>) -> fmt::Result {
         for (place, shown) in self.0.iter().enumerate() {
-            if place > 0 {
-                write!(f, ",")?;
-            }
-            match shown {
-                Some(shown) => write!(f, "{}", shown.plate.number())?,
-                None => write!(f, "0")?,
-            }
+            write!(f, "{}{}", comma(place), PlateNumber(*shown))?;
         }
         Ok(())
     }
@@ -35,15 +145,18 @@ impl<'a> fmt::Display for Plates<'a> {
 
 // Whether the plate at each station is forged.
 #[derive(Clone, Copy)]
-struct Forged<'a>(&'a [Option<ShownPlate>; 9]);
+struct Forged<'a>(&'a [Option<ShownPlate>]);
 
 impl<'a> fmt::Display for Forged<'a> {
+    ghost use Rattle.std.specs.Prelude.{Some};
+    ghost use Rattle.std.specs.List.{flat_map};
+    ghost use Rattle.cell_page.specs.Rows.{plate_mark};
+
+    ghost output = { λ shown. Some (flat_map plate_mark shown.0.now) };
+
     fn fmt<W: fmt::Write>(&self, f: &mut fmt::Formatter<W>) -> fmt::Result {
-        for shown in self.0.iter() {
-            match shown {
-                Some(shown) => write!(f, "{}", u8::from(shown.forged))?,
-                None => write!(f, "0")?,
-            }
+        for shown in self.0 {
+            write!(f, "{}", PlateMark(*shown))?;
         }
         Ok(())
     }
@@ -51,9 +164,15 @@ impl<'a> fmt::Display for Forged<'a> {
 
 // The letters of the poses that the axes have or have left.
 #[derive(Clone, Copy)]
-struct At([AxisState; 9]);
+struct At<'a>(&'a [AxisState]);
 
-impl fmt::Display for At {
+impl<'a> fmt::Display for At<'a> {
+    ghost use Rattle.std.specs.Prelude.{Some};
+    ghost use Rattle.std.specs.List.{flat_map};
+    ghost use Rattle.cell_page.specs.Rows.{pose_letter};
+
+    ghost output = { λ axes. Some (flat_map pose_letter axes.0.now) };
+
     fn fmt<W: fmt::Write>(&self, f: &mut fmt::Formatter<W>) -> fmt::Result {
         for axis in self.0 {
             write!(f, "{}", letter(axis.at as u8))?;
@@ -64,15 +183,18 @@ impl fmt::Display for At {
 
 // The letters of the poses to which the axes are going.
 #[derive(Clone, Copy)]
-struct Going([AxisState; 9]);
+struct Going<'a>(&'a [AxisState]);
 
-impl fmt::Display for Going {
+impl<'a> fmt::Display for Going<'a> {
+    ghost use Rattle.std.specs.Prelude.{Some};
+    ghost use Rattle.std.specs.List.{flat_map};
+    ghost use Rattle.cell_page.specs.Rows.{going_letter};
+
+    ghost output = { λ axes. Some (flat_map going_letter axes.0.now) };
+
     fn fmt<W: fmt::Write>(&self, f: &mut fmt::Formatter<W>) -> fmt::Result {
         for axis in self.0 {
-            match axis.going {
-                Some(pose) => write!(f, "{}", letter(pose as u8))?,
-                None => write!(f, "-")?,
-            }
+            write!(f, "{}", Aim(axis.going))?;
         }
         Ok(())
     }
@@ -80,15 +202,18 @@ impl fmt::Display for Going {
 
 // The letters of the machines that hold the zones.
 #[derive(Clone, Copy)]
-struct Holders([Option<Machine>; 5]);
+struct Holders<'a>(&'a [Option<Machine>]);
 
-impl fmt::Display for Holders {
+impl<'a> fmt::Display for Holders<'a> {
+    ghost use Rattle.std.specs.Prelude.{Some};
+    ghost use Rattle.std.specs.List.{flat_map};
+    ghost use Rattle.cell_page.specs.Rows.{holder_letter};
+
+    ghost output = { λ holders. Some (flat_map holder_letter holders.0.now) };
+
     fn fmt<W: fmt::Write>(&self, f: &mut fmt::Formatter<W>) -> fmt::Result {
         for holder in self.0 {
-            match holder {
-                Some(machine) => write!(f, "{}", letter(machine as u8))?,
-                None => write!(f, "-")?,
-            }
+            write!(f, "{}", Holder(*holder))?;
         }
         Ok(())
     }
@@ -96,12 +221,18 @@ impl fmt::Display for Holders {
 
 // For each machine a 1 where something holds of it, and a 0 where not.
 #[derive(Clone, Copy)]
-struct Flags([bool; 6]);
+struct Flags<'a>(&'a [bool]);
 
-impl fmt::Display for Flags {
+impl<'a> fmt::Display for Flags<'a> {
+    ghost use Rattle.std.specs.Prelude.{Some};
+    ghost use Rattle.std.specs.List.{flat_map};
+    ghost use Rattle.cell_page.specs.Rows.{flag};
+
+    ghost output = { λ flags. Some (flat_map flag flags.0.now) };
+
     fn fmt<W: fmt::Write>(&self, f: &mut fmt::Formatter<W>) -> fmt::Result {
-        for flag in self.0 {
-            write!(f, "{}", u8::from(flag))?;
+        for holds in self.0 {
+            write!(f, "{}", flag(*holds))?;
         }
         Ok(())
     }
@@ -109,15 +240,18 @@ impl fmt::Display for Flags {
 
 // The first letters of the lights' colours.
 #[derive(Clone, Copy)]
-struct Lamps([Colour; 2]);
+struct Lamps<'a>(&'a [Colour]);
 
-impl fmt::Display for Lamps {
+impl<'a> fmt::Display for Lamps<'a> {
+    ghost use Rattle.std.specs.Prelude.{Some};
+    ghost use Rattle.std.specs.List.{flat_map};
+    ghost use Rattle.cell_page.specs.Rows.{lamp_letter};
+
+    ghost output = { λ lamps. Some (flat_map lamp_letter lamps.0.now) };
+
     fn fmt<W: fmt::Write>(&self, f: &mut fmt::Formatter<W>) -> fmt::Result {
         for colour in self.0 {
-            match colour {
-                Colour::Red => write!(f, "r")?,
-                Colour::Green => write!(f, "g")?,
-            }
+            write!(f, "{}", Lamp(*colour))?;
         }
         Ok(())
     }
@@ -128,6 +262,11 @@ impl fmt::Display for Lamps {
 struct Counts(Totals);
 
 impl fmt::Display for Counts {
+    ghost use Rattle.std.specs.Prelude.{Some};
+    ghost use Rattle.cell_page.specs.Rows.{total_cells, with_commas};
+
+    ghost output = { λ counts. Some (with_commas (total_cells counts.0)) };
+
     fn fmt<W: fmt::Write>(&self, f: &mut fmt::Formatter<W>) -> fmt::Result {
         let Totals {
             entries,
@@ -142,28 +281,49 @@ impl fmt::Display for Counts {
     }
 }
 
+// A field of a record.
+#[derive(Clone, Copy)]
+struct FieldText(Field);
+
+impl fmt::Display for FieldText {
+    ghost use Rattle.std.specs.Prelude.{Some};
+    ghost use Rattle.cell_types.specs.Spelling.{text_of};
+
+    ghost output = { λ field. Some (text_of field.0) };
+
+    fn fmt<W: fmt::Write>(&self, f: &mut fmt::Formatter<W>) -> fmt::Result {
+        match self.0 {
+            Field::Word(word) => write!(f, "{word}"),
+            Field::Number(number) => write!(f, "{number}"),
+            Field::Blank => Ok(()),
+        }
+    }
+}
+
 // The record of an entry.
 #[derive(Clone, Copy)]
 struct Record(Entry);
 
 impl fmt::Display for Record {
+    ghost use Rattle.std.specs.Prelude.{Some};
+    ghost use Rattle.cell_types.specs.Spelling.{record_of};
+    ghost use Rattle.cell_page.specs.Rows.{with_commas};
+
+    ghost output = { λ entry. Some (with_commas (record_of entry.0)) };
+
     fn fmt<W: fmt::Write>(&self, f: &mut fmt::Formatter<W>) -> fmt::Result {
-        for (place, field) in spell(self.0).iter().enumerate() {
-            if place > 0 {
-                write!(f, ",")?;
-            }
-            match field {
-                Field::Word(word) => write!(f, "{word}")?,
-                Field::Number(number) => write!(f, "{number}")?,
-                Field::Blank => {}
-            }
+        let fields = spell(self.0);
+        for (place, field) in fields.iter().enumerate() {
+            write!(f, "{}{}", comma(place), FieldText(*field))?;
         }
         Ok(())
     }
 }
 
 // The place of an entry's actor: the machines' places, and 6 for the operator.
-fn actor_place(entry: Entry) -> u8 {
+fn actor_place(entry: Entry) -> u8
+    ensures { result ≡ actor_place (actor_of entry) }
+{
     match actor_of(entry) {
         Actor::Machine(machine) => machine as u8,
         Actor::Operator => 6,
@@ -171,10 +331,74 @@ fn actor_place(entry: Entry) -> u8 {
 }
 
 // The number of the plate that is expected, 0 where none is.
-fn expected_number(facts: &Facts) -> u32 {
+fn expected_number(facts: &Facts) -> u32
+    ensures { result ≡ expected_number facts.now.expected }
+{
     match facts.expected {
         Some(plate) => plate.number(),
         None => 0,
+    }
+}
+
+// The plates, which of them are forged, the axes' poses, and where the axes are going.
+#[derive(Clone, Copy)]
+struct Places<'a>(&'a Facts);
+
+impl<'a> fmt::Display for Places<'a> {
+    ghost use Rattle.std.specs.Prelude.{Some};
+    ghost use Rattle.cell_page.specs.Rows.{place_cells, with_commas};
+
+    ghost output = { λ facts. Some (with_commas (place_cells facts.0.now)) };
+
+    fn fmt<W: fmt::Write>(&self, f: &mut fmt::Formatter<W>) -> fmt::Result {
+        let facts = self.0;
+        write!(
+            f,
+            "[{}],\"{}\",",
+            Plates(&facts.plates),
+            Forged(&facts.plates)
+        )?;
+        write!(f, "\"{}\",\"{}\"", At(&facts.axes), Going(&facts.axes))
+    }
+}
+
+// The zones' holders, the failed and the asked machines, and the lights.
+#[derive(Clone, Copy)]
+struct Machines<'a>(&'a Facts);
+
+impl<'a> fmt::Display for Machines<'a> {
+    ghost use Rattle.std.specs.Prelude.{Some};
+    ghost use Rattle.cell_page.specs.Rows.{machine_cells, with_commas};
+
+    ghost output = { λ facts. Some (with_commas (machine_cells facts.0.now)) };
+
+    fn fmt<W: fmt::Write>(&self, f: &mut fmt::Formatter<W>) -> fmt::Result {
+        let facts = self.0;
+        write!(
+            f,
+            "\"{}\",\"{}\",",
+            Holders(&facts.holders),
+            Flags(&facts.failed)
+        )?;
+        write!(f, "\"{}\",\"{}\"", Flags(&facts.asked), Lamps(&facts.lamps))
+    }
+}
+
+// The expected plate, the plates in quarantine, and the totals.
+#[derive(Clone, Copy)]
+struct Numbers<'a>(&'a Facts);
+
+impl<'a> fmt::Display for Numbers<'a> {
+    ghost use Rattle.std.specs.Prelude.{Some};
+    ghost use Rattle.cell_page.specs.Rows.{count_cells, with_commas};
+
+    ghost output = { λ facts. Some (with_commas (count_cells facts.0.now)) };
+
+    fn fmt<W: fmt::Write>(&self, f: &mut fmt::Formatter<W>) -> fmt::Result {
+        let facts = self.0;
+        let expected = expected_number(facts);
+        let quarantine = facts.quarantine;
+        write!(f, "{expected},{quarantine},[{}]", Counts(facts.totals))
     }
 }
 
@@ -183,6 +407,11 @@ fn expected_number(facts: &Facts) -> u32 {
 struct Last(Option<Entry>);
 
 impl fmt::Display for Last {
+    ghost use Rattle.std.specs.Prelude.{Some};
+    ghost use Rattle.cell_page.specs.Rows.{entry_cells, with_commas};
+
+    ghost output = { λ last. Some (with_commas (entry_cells last.0)) };
+
     fn fmt<W: fmt::Write>(&self, f: &mut fmt::Formatter<W>) -> fmt::Result {
         match &self.0 {
             Some(entry) => {
@@ -202,21 +431,16 @@ pub(crate) struct Row {
     pub last: Option<Entry>,
 }
 
+#[tactic(auto, unfolding(crate::specs::Rows::row_text))]
 impl fmt::Display for Row {
+    ghost use Rattle.std.specs.Prelude.{Some};
+    ghost use Rattle.cell_page.specs.Rows.{row_text};
+
+    ghost output = { λ row. Some (row_text row.facts row.last) };
+
     fn fmt<W: fmt::Write>(&self, f: &mut fmt::Formatter<W>) -> fmt::Result {
         let facts = &self.facts;
-        let quarantine = facts.quarantine;
-        write!(f, "[[{}],", Plates(&facts.plates))?;
-        write!(f, "\"{}\",", Forged(&facts.plates))?;
-        write!(f, "\"{}\",", At(facts.axes))?;
-        write!(f, "\"{}\",", Going(facts.axes))?;
-        write!(f, "\"{}\",", Holders(facts.holders))?;
-        write!(f, "\"{}\",", Flags(facts.failed))?;
-        write!(f, "\"{}\",", Flags(facts.asked))?;
-        write!(f, "\"{}\",", Lamps(facts.lamps))?;
-        write!(f, "{},", expected_number(facts))?;
-        write!(f, "{quarantine},")?;
-        write!(f, "[{}],", Counts(facts.totals))?;
-        write!(f, "{}]", Last(self.last))
+        write!(f, "[{},{},", Places(facts), Machines(facts))?;
+        write!(f, "{},{}]", Numbers(facts), Last(self.last))
     }
 }

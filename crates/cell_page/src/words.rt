@@ -1,7 +1,9 @@
 //! The words of the page's data: lists of names, from which the rows choose by their letters.
-ghost use Rattle.std.specs.Prelude.{◌≡◌, Err};
+ghost use Rattle.std.specs.Prelude.{◌≡◌, Err, OnOk};
+ghost use Rattle.cell_page.specs.Page.{AppendsSome};
 
 use crate::PageError;
+use crate::rows::comma;
 use cell_sentences::{
     axis_name, axis_of_its_machine, light_name, machine_name, pose_name, station_name, way_to_pose,
     zone_name,
@@ -37,14 +39,12 @@ fn write_names<W: Write>(
     list: &str,
     names: &[&'static str],
 ) -> Result<(), PageError>
-    ensures { result ≡ Err PageError.TooManyEntries → ⊥ }
+    ensures fault { result ≡ Err PageError.TooManyEntries → ⊥ }
+    ensures some { OnOk result (AppendsSome (W.contents writer.old) (W.contents writer.new)) }
 {
     write!(writer, "\"{list}\":[")?;
     for (place, name) in names.iter().enumerate() {
-        if place > 0 {
-            write!(writer, ",")?;
-        }
-        write!(writer, "\"{name}\"")?;
+        write!(writer, "{}\"{name}\"", comma(place))?;
     }
     writeln!(writer, "],")?;
     Ok(())
@@ -52,7 +52,8 @@ fn write_names<W: Write>(
 
 // Writes the lists of names of machines, stations and axes.
 fn write_machine_words<W: Write>(writer: &mut W) -> Result<(), PageError>
-    ensures { result ≡ Err PageError.TooManyEntries → ⊥ }
+    ensures fault { result ≡ Err PageError.TooManyEntries → ⊥ }
+    ensures some { OnOk result (AppendsSome (W.contents writer.old) (W.contents writer.new)) }
 {
     write_names(
         writer,
@@ -70,7 +71,8 @@ fn write_machine_words<W: Write>(writer: &mut W) -> Result<(), PageError>
 
 /// Writes the lists of names.
 pub(crate) fn write_words<W: Write>(writer: &mut W) -> Result<(), PageError>
-    ensures { result ≡ Err PageError.TooManyEntries → ⊥ }
+    ensures fault { result ≡ Err PageError.TooManyEntries → ⊥ }
+    ensures some { OnOk result (AppendsSome (W.contents writer.old) (W.contents writer.new)) }
 {
     write_machine_words(writer)?;
     write_names(writer, "poses", &POSES.map(|pose| pose_name(pose)))?;

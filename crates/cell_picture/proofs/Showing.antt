@@ -6,11 +6,13 @@ use Rattle.std.specs.Option.{option_map}
 use Rattle.cell_types.specs.declared.words.Station.{Station}
 use Rattle.cell_types.specs.declared.words.Axis.{Axis}
 use Rattle.cell_types.specs.declared.words.Pose.{Pose}
+use Rattle.cell_types.specs.declared.words.Belt.{Belt}
 use Rattle.cell_types.specs.declared.words.Place.{Place}
 use Rattle.cell_types.specs.declared.words.Entry.{Entry}
 use Rattle.cell_types.specs.declared.words.Station.TheVariants as station
 use Rattle.cell_types.specs.declared.words.Axis.TheVariants as axis
 use Rattle.cell_types.specs.declared.words.Pose.TheVariants as pose
+use Rattle.cell_types.specs.declared.words.Belt.TheVariants as belt
 use Rattle.cell_types.specs.declared.words.Place.TheVariants as place
 use Rattle.cell_types.specs.Same.{same_place, same_pose}
 use Rattle.cell_views.specs.Views.{plate_of, place_of, placed, is_at, at_of}
@@ -20,7 +22,8 @@ use Rattle.plate_book.specs.Rules.Invariants.{KeptState, forged_by_now}
 use Rattle.plate_book.specs.Rules.Seen.{SeesViews}
 use Rattle.cell_picture.specs.declared.facts.ShownPlate.{ShownPlate}
 use Rattle.cell_picture.specs.Shown.{is_forged, shown_at, facts_of}
-use Rattle.cell_picture.specs.Seen.{plate_shown, ShowsViews, MarksForged}
+use Rattle.cell_picture.specs.Parts.{lamp_shown, plate_shown}
+use Rattle.cell_picture.specs.Seen.{ShowsViews, MarksForged}
 
 shown_each : (s : Snapshot) (t : Station) → plate_shown (facts_of s) t ≡ shown_at (state_of s) t
 shown_each s station.FeedIn = refl
@@ -40,6 +43,10 @@ plate_alone (Some k) b = refl
 plate_same : (s : Snapshot) (t : Station) → option_map (λ (p : ShownPlate). p.plate) (plate_shown (facts_of s) t) ≡ (state_of s).plate t
 plate_same s t = ap (option_map (λ (p : ShownPlate). p.plate)) (shown_each s t) ∙ plate_alone ((state_of s).plate t) (is_forged (state_of s).at t)
 
+lamp_each : (s : Snapshot) (b : Belt) → lamp_shown (facts_of s) b ≡ (state_of s).lamp b
+lamp_each s belt.Feed = refl
+lamp_each s belt.Deposit = refl
+
 pub shows_views : (s : Snapshot) (J : List Entry) → SeesViews s J → ShowsViews (facts_of s) J
 unfolding state_of
 shows_views s J v =
@@ -49,7 +56,7 @@ shows_views s J v =
       holders = v.holders;
       failed = v.failed;
       asked = v.asked;
-      lamps = v.lamps;
+      lamps = λ b. lamp_each s b ∙ v.lamps b;
       expected = v.expected;
       totals = v.totals;
       quarantine = ap (λ t. t.quarantined - t.reinstated) v.totals;

@@ -1,3 +1,5 @@
+pub mod Parts
 pub mod Shown
 pub mod Seen
+pub mod Told
 pub mod Answers

@@ -8,7 +8,7 @@ use Rattle.cell_types.specs.declared.words.Station.TheVariants as station
 use Rattle.cell_types.specs.declared.words.Axis.TheVariants as axis
 use Rattle.cell_types.specs.declared.words.Pose.TheVariants as pose
 use Rattle.cell_types.specs.Same.{same_pose}
-use Rattle.cell_types.specs.Texts.{all_station}
+use Rattle.cell_types.specs.Texts.{all_belt, all_station}
 use Rattle.cell_types.specs.After.{Snapshot as State}
 use Rattle.cell_journal.specs.declared.snapshot.Snapshot.{Snapshot}
 use Rattle.cell_journal.specs.Snapshots.{state_of}
@@ -38,7 +38,7 @@ facts_of s =
       holders = s.holders;
       failed = s.failed;
       asked = s.asked;
-      lamps = s.lamps;
+      lamps = map (state_of s).lamp all_belt;
       expected = s.expected;
       quarantine = s.totals.quarantined - s.totals.reinstated;
       totals = s.totals;

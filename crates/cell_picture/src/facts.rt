@@ -1,12 +1,12 @@
 //! What a picture of the cell shows of a journal's state.
-ghost use Rattle.std.specs.Prelude.{◌≡◌, not};
+ghost use Rattle.std.specs.Prelude.{◌≡◌, length, not};
 ghost use Rattle.cell_types.specs.declared.words.Pose.TheVariants as pose;
 ghost use Rattle.cell_types.specs.Same.{same_pose};
 ghost use Rattle.cell_journal.specs.Snapshots.{state_of};
 ghost use Rattle.cell_picture.specs.Shown.{is_forged, shown_at, facts_of};
 
 use cell_journal::Snapshot;
-use cell_types::{Axis, AxisState, Colour, Machine, PlateId, Pose, Station, Totals};
+use cell_types::{Axis, AxisState, Belt, Colour, Machine, PlateId, Pose, Station, Totals};
 
 /// A plate at a station, as a picture shows it.
 #[derive(Clone, Copy, Debug)]
@@ -91,7 +91,7 @@ pub fn facts_of(snapshot: &Snapshot) -> Facts
         holders: snapshot.holders,
         failed: snapshot.failed,
         asked: snapshot.asked,
-        lamps: snapshot.lamps,
+        lamps: [snapshot.lamp(Belt::Feed), snapshot.lamp(Belt::Deposit)],
         expected: snapshot.expected,
         quarantine: snapshot
             .totals
@@ -99,4 +99,15 @@ pub fn facts_of(snapshot: &Snapshot) -> Facts
             .saturating_sub(snapshot.totals.reinstated),
         totals: snapshot.totals,
     }
+}
+
+// Each list of facts that snapshots give as they are has a place for each of its words.
+pub(crate) fn is_whole(facts: &Facts)
+    ensures axes { length facts.now.axes ≡ 9 }
+    ensures holders { length facts.now.holders ≡ 5 }
+    ensures failed { length facts.now.failed ≡ 6 }
+    ensures asked { length facts.now.asked ≡ 6 }
+{
+    let _ = (facts.axes.len(), facts.holders.len());
+    let _ = (facts.failed.len(), facts.asked.len());
 }

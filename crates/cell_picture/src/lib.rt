@@ -16,5 +16,5 @@ mod words;
 pub use facts::{Facts, ShownPlate, facts_of};
 pub use picture::draw_picture;
 pub use scene::{AnswerLine, Scene};
-pub use text::draw_text;
+pub use text::{draw_text, draw_text_watched};
 pub use views::facts_after;

@@ -1,4 +1,7 @@
 //! A sheet of text, on which frames and words are put before it is written.
+ghost use Rattle.std.specs.Prelude.{◌≡◌, true, IsErr};
+ghost use Rattle.cell_audit.specs.Watched.{IsSameWriter, has_refused};
+
 use arrayvec::ArrayVec;
 use cell_audit::{WatchedWriter, WriteFault};
 use std::fmt;
@@ -146,11 +149,13 @@ impl Sheet {
     /// Writes the first rows of the sheet, each as a line without the blanks at its end.
     pub fn print<W: Write>(
         &self,
-        writer: &mut W,
+        writer: &mut WatchedWriter<'_, W>,
         rows: usize,
         unicode: bool,
-    ) -> Result<(), WriteFault> {
-        let mut writer = WatchedWriter::new(writer);
+    ) -> Result<(), WriteFault>
+        ensures writer { IsSameWriter writer.old writer.new }
+        ensures fault { IsErr result → has_refused writer.new ≡ true }
+    {
         for signs in self.signs.iter().take(rows) {
             let line = line_of(signs, unicode);
             writer.write_bytes(line.as_slice())?;

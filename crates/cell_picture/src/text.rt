@@ -1,10 +1,13 @@
 //! The picture of the cell as text.
+ghost use Rattle.std.specs.Prelude.{◌≡◌, true, IsErr};
+ghost use Rattle.cell_audit.specs.Watched.{IsSameWriter, has_refused};
+
 use crate::parts::{axis_at, holder_at, is_asked, is_failed, lamp_at, plate_at};
 use crate::sheet::{Area, COLUMNS, ROWS, Sheet, Sign};
 use crate::words::pose_word;
 use crate::{AnswerLine, Facts, Scene, ShownPlate};
 use arrayvec::ArrayString;
-use cell_audit::WriteFault;
+use cell_audit::{WatchedWriter, WriteFault};
 use cell_sentences::{EntrySentence, arm_name, colour_name, machine_name};
 use cell_types::texts::{machine_word, zone_word};
 use cell_types::{
@@ -67,8 +70,22 @@ const SENTENCE: usize = 160;
 /// plates, its axes and what is booked of it, and beside them the zones' holders and the counts. The answer stands in the
 /// last line, where there is one. Frames and arrows are of ASCII, or of Unicode where that is asked for.
 ///
-/// `WriteFault` comes only where the writer failed; a first part of the text was written then.
+/// After `WriteFault` a first part of the text was written. That it comes only where a refused write was noted is a clause of
+/// `draw_text_watched`, of which this is the case of a new writer.
 pub fn draw_text<W: Write>(writer: &mut W, scene: &Scene, unicode: bool) -> Result<(), WriteFault> {
+    draw_text_watched(&mut WatchedWriter::new(writer), scene, unicode)
+}
+
+/// Draws a scene as text over a writer that notes whether a write of it was refused.
+pub fn draw_text_watched<W: Write>(
+    writer: &mut WatchedWriter<'_, W>,
+    scene: &Scene,
+    unicode: bool,
+) -> Result<(), WriteFault>
+    ensures writer { IsSameWriter writer.old writer.new }
+    // It fails only where a write was refused.
+    ensures fault { IsErr result → has_refused writer.new ≡ true }
+{
     let mut sheet = Sheet::blank();
     let rows = match scene.answer {
         Some(_) => ROWS,

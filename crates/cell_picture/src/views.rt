@@ -1,7 +1,9 @@
 //! What a picture shows of the first entries of a book.
 ghost use Rattle.std.specs.Prelude.{◌≡◌, ◌≤◌, ◌<◌, ◌-◌, length, take, slice_get, None};
 ghost use Rattle.cell_picture.specs.Seen.{ShowsViews, MarksForged};
+ghost use Rattle.cell_picture.specs.Told.{facts_told};
 
+use crate::facts::is_whole;
 use crate::{Facts, facts_of};
 use cell_types::Entry;
 use plate_book::Book;
@@ -12,6 +14,8 @@ pub fn facts_after(book: &Book, i: u32) -> (Facts, Option<Entry>)
     requires { i ≤ length book.now.entries }
     ensures views { ShowsViews result.0 (take i book.now.entries) }
     ensures forged { MarksForged result.0 (take i book.now.entries) }
+    // These facts are a function of those entries.
+    ensures told { result.0 ≡ facts_told (take i book.now.entries) }
     ensures none { i ≡ 0 → result.1 ≡ None }
     ensures last { 0 < i → result.1 ≡ slice_get book.now.entries (i - 1) }
 {
@@ -21,5 +25,7 @@ pub fn facts_after(book: &Book, i: u32) -> (Facts, Option<Entry>)
         Some(place) => book.journal().get(place),
         None => None,
     };
-    (facts_of(&snapshot), last)
+    let facts = facts_of(&snapshot);
+    is_whole(&facts);
+    (facts, last)
 }

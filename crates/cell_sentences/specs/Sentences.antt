@@ -38,6 +38,26 @@ deed (Repaired m) = the_machine m ++ codes " is repaired"
 deed (Expected plate) = plate_name plate ++ codes " is expected back"
 deed (Reinstated plate) = plate_name plate ++ codes " is laid back"
 
+-- what an entry did, to stand after its number
+abbrev pub entry_deed : Entry → List ℕ
+entry_deed (Lamp belt colour) = codes "turned " ++ (light_name belt ++ (codes " " ++ colour_name colour))
+entry_deed (Admitted plate) = codes "admitted " ++ plate_name plate
+entry_deed (Claimed m zone) = codes "claimed " ++ (zone_name zone ++ (codes " for " ++ the_machine m))
+entry_deed (Yielded m zone) = codes "gave up " ++ zone_name zone
+entry_deed (Started axis to) = codes "sent " ++ (axis_name axis ++ (codes " " ++ way_to_pose to))
+entry_deed (Arrived axis at) = codes "brought " ++ (axis_name axis ++ (codes " " ++ way_to_pose at))
+entry_deed (Conveyed axis plate dest) = codes "brought " ++ (plate_name plate ++ (codes " to " ++ station_name dest))
+entry_deed (Forged press plate) = codes "forged " ++ (plate_name plate ++ (codes " in " ++ the_machine press))
+entry_deed (Gripped arm plate src) = codes "gripped " ++ (plate_name plate ++ (codes " at " ++ (station_name src ++ (codes " with " ++ arm_name arm))))
+entry_deed (Dropped arm plate dest) = codes "dropped " ++ (plate_name plate ++ (codes " at " ++ station_name dest))
+entry_deed (Delivered plate) = codes "delivered " ++ plate_name plate
+entry_deed (Declared m cause) = codes "declared " ++ (the_machine m ++ codes " failed")
+entry_deed (StopAsked m) = codes "asked " ++ (the_machine m ++ codes " to stop")
+entry_deed (Quarantined plate src) = codes "took " ++ (plate_name plate ++ (codes " from " ++ (station_name src ++ codes " into quarantine")))
+entry_deed (Repaired m) = codes "repaired " ++ the_machine m
+entry_deed (Expected plate) = codes "expected " ++ (plate_name plate ++ codes " back")
+entry_deed (Reinstated plate) = codes "laid " ++ (plate_name plate ++ codes " back")
+
 -- an entry: who books it, and what it says of him
 abbrev pub entry_sentence : Entry → List ℕ
 entry_sentence e = actor_name (actor_of e) ++ codes ": " ++ deed e

@@ -1,0 +1,75 @@
+-- The rows of a page, one more at a time
+use Rattle.std.proofs.Common.{◌≡◌, ◌+◌, ◌-◌, ◌<◌, ◌≤◌, ◌++◌, ℕ, zero, suc, List, [], ◌∷◌, Option, Some, None, Result, Ok, Err, length, take, refl, sym, ap, ◌∙◌, arith, add-one, subst}
+use Rattle.std.specs.Prelude.{OnOk, codes, decimal, slice_get}
+use Rattle.std.specs.Io.KnownBytes.{Appends}
+use Rattle.std.proofs.KnownBytes.{Appends-nil, Appends-trans}
+use Rattle.std.proofs.lemmas.List.{length-take, take_all}
+use Rattle.cell_types.specs.declared.words.Entry.{Entry}
+use Rattle.cell_audit.specs.declared.error.AuditError.{AuditError}
+use Rattle.cell_picture.specs.Told.{last_of}
+use Rattle.cell_page.specs.Page.{AppendsSome, WritesPage, answer_line, last_text, no_scripts_text, row_of, rows_text, rows_upto}
+
+get-taken : (J : List Entry) (i : ℕ) → slice_get (take (suc i) J) i ≡ slice_get J i
+get-taken [] i = refl
+get-taken (e ∷ J) zero = refl
+get-taken (e ∷ J) (suc i) = get-taken J i
+
+-- the last of the first i entries
+pub last_taken : (J : List Entry) (i : ℕ) (last : Option Entry) → i ≤ length J → (i ≡ 0 → last ≡ None) → (0 < i → last ≡ slice_get J (i - 1)) → last ≡ last_of (take i J)
+last_taken J zero last h none some = none refl
+last_taken J (suc i) last h none some =
+    let same : suc i - 1 ≡ i = omega arith in
+    let long : length (take (suc i) J) - 1 ≡ i = omega (arith, length-take (suc i) J) in
+    some (omega arith) ∙ ap (slice_get J) same ∙ sym (get-taken J i) ∙ ap (slice_get (take (suc i) J)) (sym long)
+
+-- the first row
+pub first_row : (J : List Entry) (old new : Option (List ℕ)) (text : List ℕ) → text ≡ row_of (take 0 J) → Appends old new text → Appends old new (rows_upto J 0)
+unfolding rows_upto
+first_row J old new text is wrote = subst (Appends old new) is wrote
+
+-- one more row
+pub row_more : (J : List Entry) (i : ℕ) (old so_far new : Option (List ℕ)) (text : List ℕ) → text ≡ codes ",\n" ++ row_of (take (i + 1) J)
+    → Appends old so_far (rows_upto J i) → Appends so_far new text → Appends old new (rows_upto J (i + 1))
+unfolding rows_upto
+row_more J i old so_far new text is before wrote =
+    let whole : Appends old new (rows_upto J i ++ (codes ",\n" ++ row_of (take (i + 1) J))) = subst (λ t. Appends old new (rows_upto J i ++ t)) is (Appends-trans old so_far new (rows_upto J i) text before wrote) in
+    rw add-one (rw add-one at whole)
+
+-- what is shown where no scripts run, of the entries that were counted
+pub no_scripts : (J : List Entry) (n : ℕ) (last : Option Entry) → n ≡ length J → last ≡ last_of (take n J)
+    → codes "<noscript><p class=\"answer\">This page needs scripts to show the states after " ++ (decimal n ++ (codes " entries. " ++ (last_text last ++ codes "</p></noscript>\n")))
+    ≡ no_scripts_text J
+no_scripts J n last count is =
+    let whole : take n J ≡ J = take_all n J (omega arith) in
+    let same : last ≡ last_of J = is ∙ ap last_of whole in
+    rw (same, count) refl
+
+-- more text after some
+pub some_more : (a b c : Option (List ℕ)) (text : List ℕ) → AppendsSome a b → Appends b c text → AppendsSome a c
+some_more a b c text before wrote = record { text = before.text ++ text; whole = Appends-trans a b c before.text text before.whole wrote }
+
+-- some text after some
+pub some_after : (a b c : Option (List ℕ)) → AppendsSome a b → AppendsSome b c → AppendsSome a c
+some_after a b c before after = some_more a b c after.text before after.whole
+
+pub some_on : {X E : Type 0} (r : Result X E) (a b c : Option (List ℕ)) → AppendsSome a b → OnOk r (AppendsSome b c) → OnOk r (AppendsSome a c)
+some_on (Ok x) a b c before after = some_after a b c before after
+some_on (Err e) a b c before after = tt
+
+-- a page, piece by piece
+pub page_whole : (J : List Entry) (answer : Option AuditError) (c0 c1 c2 c3 c4 c5 c6 c7 c8 c9 c10 : Option (List ℕ)) (head drawing lists script more : List ℕ)
+    → Appends c0 c1 head → Appends c1 c2 (no_scripts_text J) → Appends c2 c3 drawing → Appends c3 c4 (answer_line answer) → Appends c4 c5 lists
+    → AppendsSome c5 c6 → Appends c6 c7 (codes "\"rows\":[\n") → Appends c7 c8 (rows_text J) → Appends c8 c9 script → Appends c9 c10 more
+    → WritesPage c0 c10 J answer
+page_whole J answer c0 c1 c2 c3 c4 c5 c6 c7 c8 c9 c10 head drawing lists script more h0 h1 h2 h3 h4 some h6 h7 h8 h9 =
+    record {
+      head = head;
+      drawing = drawing;
+      lists = lists;
+      words = some.text;
+      scripts = script ++ more;
+      whole =
+          Appends-trans c0 c1 c10 _ _ h0 (Appends-trans c1 c2 c10 _ _ h1 (Appends-trans c2 c3 c10 _ _ h2 (Appends-trans c3 c4 c10 _ _ h3
+          (Appends-trans c4 c5 c10 _ _ h4 (Appends-trans c5 c6 c10 _ _ some.whole (Appends-trans c6 c7 c10 _ _ h6 (Appends-trans c7 c8 c10 _ _ h7
+          (Appends-trans c8 c9 c10 _ _ h8 h9))))))));
+    }

@@ -1,0 +1,9 @@
+use Rattle.std.proofs.Common.{map, take}
+use Rattle.std.specs.Fmt.{HasWritten, IsPlainFormatter}
+use Rattle.cell_page.specs.Rows.{plate_number, with_commas}
+use Rattle.cell_page.proofs.rows.PlatesDisplay.fmt.Given as goal
+
+-- the first numbers are written
+abbrev pub invariant-loop-place : goal.invariant-loop-place
+invariant-loop-place g l =
+    IsPlainFormatter l.initial.f → HasWritten g.W.Write.write_str_gives l.initial.f (with_commas (map plate_number (take l.place l.shown-items))) l.f

@@ -1,0 +1,6 @@
+use Rattle.cell_page.specs.Page.{AppendsSome}
+use Rattle.cell_page.proofs.words.write_names.Given as goal
+
+-- some text is written
+abbrev pub invariant-loop-place : goal.invariant-loop-place
+invariant-loop-place g l = AppendsSome (g.W.Write.contents l.fn.writer) (g.W.Write.contents l.writer)

@@ -1,0 +1,57 @@
+-- What a page says of a journal
+use Rattle.std.specs.Prelude.{ℕ, zero, suc, Option, Some, None, List, [], ◌++◌, codes, decimal, length, take}
+use Rattle.std.specs.Io.KnownBytes.{Appends}
+use Rattle.cell_types.specs.declared.words.Entry.{Entry}
+use Rattle.cell_sentences.specs.Sentences.{entry_sentence}
+use Rattle.cell_audit.specs.declared.error.AuditError.{AuditError}
+use Rattle.cell_picture.specs.Answers.{answer_text}
+use Rattle.cell_picture.specs.Told.{facts_told, last_of}
+use Rattle.cell_page.specs.Rows.{row_text}
+
+-- the row of a journal: what a picture shows of it, and its last entry
+abbrev pub row_of : List Entry → List ℕ
+row_of J = row_text (facts_told J) (last_of J)
+
+-- the rows after none, one and so on up to i of a journal's entries, each on a line of its own
+unfoldable pub rows_upto : List Entry → ℕ → List ℕ
+rows_upto J zero = row_of []
+rows_upto J (suc i) = rows_upto J i ++ (codes ",\n" ++ row_of (take (suc i) J))
+
+-- the rows after each number of a journal's entries
+abbrev pub rows_text : List Entry → List ℕ
+rows_text J = rows_upto J (length J)
+
+-- the last entry as it is told where no scripts run
+abbrev pub last_text : Option Entry → List ℕ
+last_text None = codes "Nothing is booked."
+last_text (Some e) = codes "The last entry: " ++ entry_sentence e
+
+-- what is shown where no scripts run
+abbrev pub no_scripts_text : List Entry → List ℕ
+no_scripts_text J =
+    codes "<noscript><p class=\"answer\">This page needs scripts to show the states after " ++ (decimal (length J) ++ (codes " entries. "
+    ++ (last_text (last_of J) ++ codes "</p></noscript>\n")))
+
+-- the line of an answer, where there is one
+abbrev pub answer_line : Option AuditError → List ℕ
+answer_line None = []
+answer_line (Some why) = codes "<p class=\"answer\">" ++ (answer_text why ++ codes "</p>\n")
+
+-- the text of a page, whose other parts are its head, its drawing, its lists, its words and its scripts
+abbrev pub page_text : List ℕ → List ℕ → List ℕ → List ℕ → List ℕ → List Entry → Option AuditError → List ℕ
+page_text head drawing lists words scripts J answer =
+    head ++ (no_scripts_text J ++ (drawing ++ (answer_line answer ++ (lists ++ (words ++ (codes "\"rows\":[\n" ++ (rows_text J ++ scripts)))))))
+
+-- some text was written
+pub record AppendsSome (old new : Option (List ℕ)) : Type 0 where
+  pub text : List ℕ
+  pub whole : Appends old new text
+
+-- a page was written: the text of one with this journal's rows
+pub record WritesPage (old new : Option (List ℕ)) (J : List Entry) (answer : Option AuditError) : Type 0 where
+  pub head : List ℕ
+  pub drawing : List ℕ
+  pub lists : List ℕ
+  pub words : List ℕ
+  pub scripts : List ℕ
+  pub whole : Appends old new (page_text head drawing lists words scripts J answer)

@@ -1,0 +1,6 @@
+use Rattle.cell_audit.specs.Watched.{IsSameWriter}
+use Rattle.cell_picture.proofs.sheet.Sheet.print.Given as goal
+
+-- it still writes to the same writer
+abbrev pub invariant-loop-signs : goal.invariant-loop-signs
+invariant-loop-signs g l = IsSameWriter l.fn.writer l.writer
