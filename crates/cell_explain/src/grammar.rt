@@ -1,48 +1,35 @@
 //! Which fields the records of a text have.
 use crate::fields::Fields;
-use crate::wanted::{Wanted, is_one_of};
+use crate::wanted::Wanted;
+use crate::words::{Words, is_one_of};
 
-const KINDS_OF_ONE: Wanted = Wanted::Word(
-    "lamp, admitted, claimed, yielded, started, arrived, conveyed, forged, gripped, dropped, delivered, declared, stop_asked, quarantined, repaired",
-);
+const KINDS_OF_ONE: Wanted = Wanted::Word(Words::KindsOfOne);
 
-const KINDS: Wanted = Wanted::Word(
-    "lamp, admitted, claimed, yielded, started, arrived, conveyed, forged, gripped, dropped, delivered, declared, stop_asked, quarantined, repaired, expected, reinstated",
-);
+const KINDS: Wanted = Wanted::Word(Words::Kinds);
 
-const MACHINE: Wanted = Wanted::Word("feed, table, robot, press1, press2, deposit");
+const MACHINE: Wanted = Wanted::Word(Words::Machine);
 
-const STATION: Wanted = Wanted::Word(
-    "feed_in, feed_end, table, arm1, arm2, press1, press2, dep_in, dep_end",
-);
+const STATION: Wanted = Wanted::Word(Words::Station);
 
-const AXIS: Wanted = Wanted::Word(
-    "feed_belt, table_lift, table_turn, robot_turn, arm_one, arm_two, press_one, press_two, deposit_belt",
-);
+const AXIS: Wanted = Wanted::Word(Words::Axis);
 
-const POSE: Wanted = Wanted::Word(
-    "rest, to_end, to_table, low, high, belt, robot, table1, p1_load, p1_unload, p2_load, p2_unload, deposit2, in, out, middle, top, bottom",
-);
+const POSE: Wanted = Wanted::Word(Words::Pose);
 
-const ZONE: Wanted = Wanted::Word("z1, z2, z3, z4, z5");
+const ZONE: Wanted = Wanted::Word(Words::Zone);
 
-const ARM: Wanted = Wanted::Word("arm1, arm2");
+const ARM: Wanted = Wanted::Word(Words::Arm);
 
-const BELT: Wanted = Wanted::Word("feed, deposit");
+const BELT: Wanted = Wanted::Word(Words::Belt);
 
-const COLOUR: Wanted = Wanted::Word("red, green");
+const COLOUR: Wanted = Wanted::Word(Words::Colour);
 
-const CAUSE: Wanted = Wanted::Word(
-    "stuck_switch, contradictory, stray_position, no_departure, missing_motion, lost_position, plate_lost, strange_plate, silent, command_fault, operator_stop",
-);
+const CAUSE: Wanted = Wanted::Word(Words::Cause);
 
-const FAULT: Wanted = Wanted::Word(
-    "no_motion, keeps_old, both, slow, lose_plate, silent, refuse_command",
-);
+const FAULT: Wanted = Wanted::Word(Words::Fault);
 
-const TRIGGER: Wanted = Wanted::Word("always, admitted, delivered, quarantined, failed");
+const TRIGGER: Wanted = Wanted::Word(Words::Trigger);
 
-const TASK: Wanted = Wanted::Word("stop, clear, repair, expect");
+const TASK: Wanted = Wanted::Word(Words::Task);
 
 const PLATE: Wanted = Wanted::Number(1, 100_000);
 

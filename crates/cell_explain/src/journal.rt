@@ -1,72 +1,136 @@
 //! Why a journal's text is refused.
-ghost use Rattle.std.specs.Prelude.{◌≡◌, IfOk, Some};
+ghost use Rattle.std.specs.Prelude.{◌≡◌, ℕ, IfOk, IsErr, Some, string_bytes, true};
+ghost use Rattle.cell_audit.specs.Watched.{IsSameWriter, bytes_held, has_refused};
 ghost use Rattle.cell_lines.specs.Lines.{TellsAudit};
 ghost use Rattle.cell_explain.specs.Explained.{EndsAsAudit};
+ghost use Rattle.cell_explain.specs.Sayings.{refused_line};
+ghost use Rattle.cell_explain.specs.Told.{IsSince, SaysAudit, SaysJournal, SaysRefusal, SaysRefused, SaysUnreadable, Tells, TellsPart};
 
 use crate::fields::Fields;
 use crate::grammar::entry_fields;
-use crate::places::{Record, find_record};
-use crate::shown::Shown;
+use crate::places::{Record, record_of};
+use crate::said::Said;
+use crate::shown::shown;
 use crate::telling::{Since, told};
+use crate::unread::record_line;
 use crate::wanted::Trouble;
-use crate::written::{write_trouble, written};
-use cell_audit::{AuditError, Reading, WriteFault, audit, read_journal};
+use cell_audit::{AuditError, WatchedWriter, WriteFault, audit_text, read_journal};
+use cell_journal::Journal;
 use cell_lines::{audit_lines, status};
 use cell_sentences::RefusalSentence;
-use plate_book::{Book, Refusal};
-use std::alloc::Global;
+use plate_book::Refusal;
+use std::alloc::{AllocError, Global};
 use std::io::Write;
 
-// The record of a number, counted from 0; an empty one in the first line where the text has none.
-fn record_of(text: &[u8], number: u32) -> Record<'_> {
-    match find_record(text, number) {
-        Some(record) => record,
-        None => Record {
-            line: 1,
-            bytes: b"",
+// What is said of a text that an audit finds legal: the audit's lines.
+fn say_legal(alloc: Global, text: &[u8]) -> Said
+    ensures { SaysAudit text.now result.status result.text.items }
+{
+    let mut lines = Vec::new(alloc);
+    match audit_lines(alloc, text, &mut lines) {
+        Ok(ended) => Said {
+            status: ended,
+            text: lines,
         },
+        Err(_) => Said::nothing(alloc),
     }
 }
 
-// Writes why a record can't be read. Record 0 is the profile's.
-fn write_unreadable<W: Write>(text: &[u8], place: u32, writer: &mut W) -> Result<(), WriteFault> {
+// The line of a record that can't be read. Record 0 is the profile's.
+fn unreadable_line(alloc: Global, text: &[u8], place: u32) -> Result<String, AllocError>
+    ensures { IfOk result (λ line. SaysUnreadable text.now place (string_bytes line)) }
+{
     let record = record_of(text, place);
     if place == 0 {
         let line = record.line;
-        let wanted = "the first record is profile,1,, or profile,2,,";
-        return written(writeln!(writer, "line {line}: {wanted}"));
+        return format!(in alloc; "line {line}: the first record is profile,1,, or profile,2,,\n");
     }
     let fields = Fields::of(record.bytes);
     let in_two = Fields::of(record_of(text, 0).bytes).at(1) == b"2".as_slice();
     let wanted = entry_fields(in_two, &fields);
-    let trouble = Trouble::of(&fields, wanted, "no entry's record");
-    write_trouble(record, "entry", place, trouble, writer)
+    let trouble = Trouble::of(&fields, wanted, Trouble::NoEntry);
+    record_line(alloc, record, "entry", place, trouble)
 }
 
-// Whether memory was refused while a text was read.
-fn wants_memory(reading: &Reading) -> bool {
-    matches!(reading.answer, Err(AuditError::OutOfMemory))
+// Since when it is so that the entry of a record is refused after those of a journal.
+fn since(journal: &Journal, record: &[u8], why: Refusal) -> Since
+    ensures { IsSince journal.now.entries result }
+{
+    match Fields::of(record).entry() {
+        Some(entry) => told(journal, entry, why),
+        None => Since::Always,
+    }
 }
 
-// Writes why an entry isn't allowed after those of a book, and since when it is so.
-fn write_refused<W: Write>(
-    text: &[u8],
+// The line of an entry that isn't allowed after those of a journal.
+fn refused_line(
+    alloc: Global,
+    record: Record<'_>,
     place: u32,
     why: Refusal,
-    book: &Book,
-    writer: &mut W,
-) -> Result<(), WriteFault> {
-    let Record { line, bytes } = record_of(text, place);
-    let since = match Fields::of(bytes).entry() {
-        Some(entry) => told(book.journal(), entry, why),
-        None => Since::Always,
-    };
-    let shown = Shown(bytes);
+    since: Since,
+) -> Result<String, AllocError>
+    ensures { IfOk result (λ text. string_bytes text ≡ refused_line record.entry.line place record.entry.bytes.now why since) }
+{
+    let Record { line, bytes } = record;
+    let shown = shown(alloc, bytes)?;
     let sentence = RefusalSentence(why);
-    written(writeln!(
-        writer,
-        "line {line}, entry {place}: {shown}: {why}: {sentence}{since}"
-    ))
+    format!(in alloc; "line {line}, entry {place}: {shown}: {why}: {sentence}{since}\n")
+}
+
+// What is said of a text whose entry at a place isn't allowed, by a second reading into a book. That gives the same answer,
+// unless memory is refused.
+fn say_refused(alloc: Global, text: &[u8], place: u32, why: Refusal) -> Said
+    ensures { SaysRefusal (SaysRefused text.now place why) result.status result.text.items }
+{
+    let Ok(reading) = read_journal(alloc, text) else {
+        return Said::nothing(alloc);
+    };
+    match reading.answer {
+        Err(AuditError::Refused(again, _)) if again == place => {
+            let record = record_of(text, place);
+            let made = since(reading.book.journal(), record.bytes, why);
+            Said::line(
+                alloc,
+                status::REFUSED,
+                refused_line(alloc, record, place, why, made),
+            )
+        }
+        _ => Said::nothing(alloc),
+    }
+}
+
+// What is said of a journal's text.
+fn say_journal(alloc: Global, text: &[u8]) -> Said
+    ensures { SaysJournal text.now result.status result.text.items }
+{
+    match audit_text(alloc, text) {
+        Ok(_) => say_legal(alloc, text),
+        Err(AuditError::Unreadable(place)) => {
+            Said::line(alloc, status::REFUSED, unreadable_line(alloc, text, place))
+        }
+        Err(AuditError::Refused(place, why)) => say_refused(alloc, text, place, why),
+        Err(AuditError::ReadFault | AuditError::OutOfMemory) => Said::nothing(alloc),
+    }
+}
+
+/// Writes what is to be said of a journal's text, as `explain_journal` does, to a writer that notes whether a write of it was
+/// refused.
+pub fn explain_journal_watched<W: Write>(
+    alloc: Global,
+    text: &[u8],
+    writer: &mut WatchedWriter<'_, W>,
+) -> Result<u8, WriteFault>
+    ensures writer { IsSameWriter writer.old writer.new }
+    ensures status { IfOk result (EndsAsAudit text.now) }
+    ensures legal { IfOk result (λ s. s ≡ 0 → TellsAudit (Some text.now) (bytes_held W.contents writer.old) (bytes_held W.contents writer.new) s) }
+    ensures told { IfOk result (λ s. Tells (SaysJournal text.now s) (bytes_held W.contents writer.old) (bytes_held W.contents writer.new)) }
+    ensures part { IsErr result → (s : ℕ) × TellsPart (SaysJournal text.now s) (bytes_held W.contents writer.old) (bytes_held W.contents writer.new) }
+    // It answers that the writer failed only where a write was refused.
+    ensures fault { IsErr result → has_refused writer.new ≡ true }
+{
+    let said = say_journal(alloc, text);
+    said.write(writer)
 }
 
 /// Writes what is to be said of a journal's text, and gives the exit status, which is the audit's.
@@ -74,7 +138,10 @@ fn write_refused<W: Write>(
 /// A legal journal: the audit's lines, status 0. A refused entry: its line, its number, its record, the refusal, also as a
 /// sentence, and since which entry it is so, in one line, status 1. A record that can't be read: its line, its number, itself
 /// and what may stand in the first field that can't be read, status 1. Lines are counted from 1, and a record's line is the one
-/// in which it begins. Where memory is refused (status 4) nothing is written. `WriteFault` comes only where the writer failed.
+/// in which it begins. Where memory is refused (status 4) nothing is written.
+///
+/// That `WriteFault` comes only where a refused write was noted is a clause of `explain_journal_watched`, of which this is the
+/// case of a new writer that notes.
 pub fn explain_journal<W: Write>(
     alloc: Global,
     text: &[u8],
@@ -84,21 +151,11 @@ pub fn explain_journal<W: Write>(
     ensures status { IfOk result (EndsAsAudit text.now) }
     // Of a legal journal what is written is the audit's lines.
     ensures legal { IfOk result (λ s. s ≡ 0 → TellsAudit (Some text.now) (W.contents writer.old) (W.contents writer.new) s) }
+    // What is written is what is said of the text with this status.
+    ensures told { IfOk result (λ s. Tells (SaysJournal text.now s) (W.contents writer.old) (W.contents writer.new)) }
+    // Where the writer failed, a first part of it was written.
+    ensures part { IsErr result → (s : ℕ) × TellsPart (SaysJournal text.now s) (W.contents writer.old) (W.contents writer.new) }
 {
-    match audit(alloc, text) {
-        Ok(_) => audit_lines(alloc, text, writer),
-        Err(AuditError::ReadFault) => Ok(status::DEVICE_FAULT),
-        Err(AuditError::OutOfMemory) => Ok(status::OUT_OF_MEMORY),
-        Err(AuditError::Unreadable(place)) => {
-            write_unreadable(text, place, writer)?;
-            Ok(status::REFUSED)
-        }
-        Err(AuditError::Refused(place, why)) => match read_journal(alloc, text) {
-            Ok(reading) if !wants_memory(&reading) => {
-                write_refused(text, place, why, &reading.book, writer)?;
-                Ok(status::REFUSED)
-            }
-            _ => Ok(status::OUT_OF_MEMORY),
-        },
-    }
+    let mut writer = WatchedWriter::new(writer);
+    explain_journal_watched(alloc, text, &mut writer)
 }

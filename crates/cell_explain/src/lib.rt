@@ -5,13 +5,17 @@ mod fields;
 mod grammar;
 mod journal;
 mod places;
+mod said;
 mod script;
 mod settings;
 mod shown;
 mod telling;
+mod unread;
 mod wanted;
-mod written;
+mod words;
 
-pub use journal::explain_journal;
-pub use script::{explain_faults, explain_operator};
-pub use settings::explain_settings;
+pub use journal::{explain_journal, explain_journal_watched};
+pub use script::{
+    explain_faults, explain_faults_watched, explain_operator, explain_operator_watched,
+};
+pub use settings::{explain_settings, explain_settings_watched};

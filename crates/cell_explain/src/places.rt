@@ -1,4 +1,6 @@
 //! Where the records of a text stand in it, by the rules of csv.
+ghost use Rattle.std.specs.Prelude.{◌≡◌, ◌≤◌, IfSome, length};
+ghost use Rattle.cell_explain.specs.Told.{StandsIn};
 
 /// Where in a text the next byte comes.
 #[derive(Clone, Copy, PartialEq, Eq)]
@@ -84,43 +86,64 @@ impl Walk {
     }
 }
 
-// A text without a byte order mark at its start.
-fn without_mark(text: &[u8]) -> &[u8] {
-    match text {
-        [0xEF, 0xBB, 0xBF, rest @ ..] => rest,
-        _ => text,
+// Where the first record may begin: behind a byte order mark.
+fn first_place(text: &[u8]) -> usize
+    ensures { result ≤ length text.now }
+{
+    if text.starts_with(&[0xEF, 0xBB, 0xBF]) && 3 <= text.len() {
+        3
+    } else {
+        0
     }
 }
 
-/// How many records a text has.
-pub(crate) fn count_records(text: &[u8]) -> u32 {
-    let mut walk = Walk::new();
-    for byte in without_mark(text) {
-        let _ = walk.pass(*byte);
-    }
-    walk.records
+// Where a record stands: the line in which it begins, its first byte, and the place behind it.
+#[derive(Clone, Copy)]
+struct Place {
+    line: u32,
+    start: usize,
+    end: usize,
 }
 
-/// The record of a number, counted from 0; `None` where the text has no such record.
-pub(crate) fn find_record(text: &[u8], number: u32) -> Option<Record<'_>> {
-    let text = without_mark(text);
+// The place of the record of a number, counted from 0; `None` where the text has no such record.
+fn find_record(text: &[u8], number: u32) -> Option<Place>
+    ensures { IfSome result (λ place. (place.start ≤ place.end) × (place.end ≤ length text.now)) }
+{
     let mut walk = Walk::new();
     let mut begun = None;
-    for (at, byte) in text.iter().enumerate() {
-        match (walk.pass(*byte), begun) {
+    for at in first_place(text)..text.len() {
+        match (walk.pass(text[at]), begun) {
             (Some(Edge::First), None) if walk.records > number => begun = Some((walk.line, at)),
             (Some(Edge::Behind), Some((line, start))) => {
-                return Some(Record {
+                return Some(Place {
                     line,
-                    bytes: text.get(start..at)?,
+                    start,
+                    end: at,
                 });
             }
             _ => {}
         }
     }
     let (line, start) = begun?;
-    Some(Record {
+    Some(Place {
         line,
-        bytes: text.get(start..)?,
+        start,
+        end: text.len(),
     })
+}
+
+/// The record of a number, counted from 0; an empty one in the first line where the text has none.
+pub(crate) fn record_of(text: &[u8], number: u32) -> Record<'_>
+    ensures { StandsIn text.now result.bytes.now }
+{
+    match find_record(text, number) {
+        Some(place) => Record {
+            line: place.line,
+            bytes: &text[place.start..place.end],
+        },
+        None => Record {
+            line: 1,
+            bytes: &text[..0],
+        },
+    }
 }

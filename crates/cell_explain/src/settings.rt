@@ -1,13 +1,18 @@
 //! Why settings are refused.
-ghost use Rattle.std.specs.Prelude.{◌≡◌, IfOk};
+ghost use Rattle.std.specs.Prelude.{◌≡◌, ◌++◌, ℕ, List, IfOk, IsErr, OnOk, string_bytes, true};
+ghost use Rattle.std.specs.Io.KnownBytes.{Appends};
+ghost use Rattle.cell_audit.specs.Watched.{IsSameWriter, bytes_held, has_refused};
 ghost use Rattle.cell_explain.specs.Explained.{EndsAsCheck};
+ghost use Rattle.cell_explain.specs.Settings.{SaysFirst, SaysKey, SaysSecond, SaysSettings, SaysSyntax, key_line, line_begin};
+ghost use Rattle.cell_explain.specs.Told.{Tells, TellsPart};
 
-use crate::written::written;
+use crate::said::Said;
 use cell_audit::{WatchedWriter, WriteFault};
 use cell_lines::status;
-use cell_settings::{KeyPath, SettingsError, check_lines, read_settings, write_escaped};
+use cell_settings::{KeyPath, SettingsError, read_settings, write_checked, write_escaped};
+use cell_turns::Plan;
 use cell_types::texts::read_axis;
-use std::alloc::Global;
+use std::alloc::{AllocError, Global};
 use std::io::Write;
 use std::str;
 
@@ -93,22 +98,30 @@ fn key_at(path: &str) -> &'static str {
     }
 }
 
-// Writes what may stand at a path, with the line that writes its key, if that is found.
-fn write_wanted<W: Write>(
-    text: &[u8],
+// Where the key of a path is written, as a line begins that tells it; nothing where that isn't found.
+fn line_begin(alloc: Global, line: Option<u32>) -> Result<String, AllocError>
+    ensures { IfOk result (λ text. string_bytes text ≡ line_begin line) }
+{
+    match line {
+        Some(line) => format!(in alloc; "line {line}: "),
+        None => Ok(String::new(alloc)),
+    }
+}
+
+// Writes the line of a key: where it is written, its path, and what may stand there.
+fn write_key<W: Write>(
+    writer: &mut WatchedWriter<'_, W>,
+    begin: &str,
     path: &KeyPath,
     wanted: &str,
-    writer: &mut W,
-) -> Result<(), WriteFault> {
-    let line = match str::from_utf8(text) {
-        Ok(text) => line_of(text, path.as_str()),
-        Err(_) => None,
-    };
-    if let Some(line) = line {
-        written(write!(writer, "line {line}: "))?;
-    }
-    write_escaped(&mut WatchedWriter::new(writer), path)?;
-    written(writeln!(writer, ": {wanted}"))
+) -> Result<(), WriteFault>
+    ensures writer { IsSameWriter writer.old writer.new }
+    ensures whole { OnOk result (Appends (bytes_held W.contents writer.old) (bytes_held W.contents writer.new) (key_line begin.now path.now wanted.now)) }
+    ensures fault { IsErr result → has_refused writer.new ≡ true }
+{
+    writer.write_bytes(begin.as_bytes())?;
+    write_escaped(writer, path)?;
+    writer.write_pieces(&[b": ", wanted.as_bytes(), b"\n"])
 }
 
 // The line and the column, both from 1, of the place behind a first part of a text. A column counts characters.
@@ -126,45 +139,120 @@ fn place_behind(before: &[u8]) -> (u32, u32) {
     (line, column)
 }
 
-// Writes where a text is no TOML, and why. It is false where memory was refused.
-fn write_syntax<W: Write>(alloc: Global, text: &[u8], writer: &mut W) -> Result<bool, WriteFault> {
+// The line of a text that is no TOML: where it isn't, and why.
+fn syntax_line(alloc: Global, text: &[u8]) -> Result<String, AllocError>
+    ensures { IfOk result (λ said. SaysSyntax (string_bytes said)) }
+{
     let Err(error) = toml::table_from_slice(alloc, text) else {
-        return Ok(false);
+        return Err(AllocError);
     };
     let Some(span) = error.span() else {
-        return Ok(false);
+        return Err(AllocError);
     };
     let (line, column) = place_behind(text.get(..span.start).unwrap_or(text));
     let why = error.message();
-    written(writeln!(writer, "line {line}, column {column}: {why}"))?;
-    Ok(true)
+    format!(in alloc; "line {line}, column {column}: {why}\n")
 }
 
-// Writes where settings are wrong, and what is wanted there. It is false where memory was refused.
-fn write_wrong<W: Write>(alloc: Global, text: &[u8], writer: &mut W) -> Result<bool, WriteFault> {
-    match read_settings(alloc, text) {
-        Err(SettingsError::NotToml) => return write_syntax(alloc, text, writer),
+// Where the key of a path is written in a text, as far as a plain look at the lines finds it.
+fn found_line(text: &[u8], path: &KeyPath) -> Option<u32> {
+    match str::from_utf8(text) {
+        Ok(text) => line_of(text, path.as_str()),
+        Err(_) => None,
+    }
+}
+
+// Adds the line of a key to those that are said. It is false where memory was refused.
+fn add_key(alloc: Global, text: &[u8], path: &KeyPath, wanted: &str, lines: &mut Vec<u8>) -> bool
+    ensures { result ≡ true → (second : List ℕ) × SaysKey path.now second × (lines.new.items ≡ lines.old.items ++ second) }
+{
+    let Ok(begin) = line_begin(alloc, found_line(text, path)) else {
+        return false;
+    };
+    let mut writer = WatchedWriter::new(lines);
+    write_key(&mut writer, begin.as_str(), path, wanted).is_ok()
+}
+
+// Adds the second line of settings to those that are said. It is false where memory was refused.
+fn add_second(
+    alloc: Global,
+    text: &[u8],
+    answer: &Result<Plan, SettingsError>,
+    lines: &mut Vec<u8>,
+) -> bool
+    ensures { result ≡ true → (second : List ℕ) × SaysSecond answer.now second × (lines.new.items ≡ lines.old.items ++ second) }
+{
+    match answer {
+        Ok(_) => true,
+        Err(SettingsError::NotToml) => match syntax_line(alloc, text) {
+            Ok(line) => lines.extend_from_slice(line.as_bytes()).is_ok(),
+            Err(_) => false,
+        },
         Err(SettingsError::UnknownKey(path)) => {
-            write_wanted(text, &path, key_at(path.as_str()), writer)?;
+            add_key(alloc, text, path, key_at(path.as_str()), lines)
         }
         Err(
             SettingsError::Missing(path)
             | SettingsError::NotNumber(path)
             | SettingsError::OutOfRange(path),
-        ) => {
-            write_wanted(text, &path, number_at(path.as_str()), writer)?;
-        }
-        Err(SettingsError::OutOfMemory) | Ok(_) => return Ok(false),
+        ) => add_key(alloc, text, path, number_at(path.as_str()), lines),
+        Err(SettingsError::OutOfMemory) => true,
     }
-    Ok(true)
+}
+
+// The first line of settings, and its status: that of the program's check.
+fn first_line(alloc: Global, answer: &Result<Plan, SettingsError>) -> Said
+    ensures { SaysFirst answer.now result.status result.text.items }
+{
+    let mut lines = Vec::new(alloc);
+    let mut writer = WatchedWriter::new(&mut lines);
+    match write_checked(&mut writer, answer) {
+        Ok(ended) => Said {
+            status: ended,
+            text: lines,
+        },
+        Err(_) => Said::nothing(alloc),
+    }
+}
+
+// What is said of settings.
+fn say_settings(alloc: Global, text: &[u8]) -> Said
+    ensures { SaysSettings text.now result.status result.text.items }
+{
+    let answer = read_settings(alloc, text);
+    let mut said = first_line(alloc, &answer);
+    if said.status == status::OUT_OF_MEMORY || !add_second(alloc, text, &answer, &mut said.text) {
+        return Said::nothing(alloc);
+    }
+    said
+}
+
+/// Writes what is to be said of settings, as `explain_settings` does, to a writer that notes whether a write of it was
+/// refused.
+pub fn explain_settings_watched<W: Write>(
+    alloc: Global,
+    text: &[u8],
+    writer: &mut WatchedWriter<'_, W>,
+) -> Result<u8, WriteFault>
+    ensures writer { IsSameWriter writer.old writer.new }
+    ensures status { IfOk result (EndsAsCheck text.now) }
+    ensures told { IfOk result (λ s. Tells (SaysSettings text.now s) (bytes_held W.contents writer.old) (bytes_held W.contents writer.new)) }
+    ensures part { IsErr result → (s : ℕ) × TellsPart (SaysSettings text.now s) (bytes_held W.contents writer.old) (bytes_held W.contents writer.new) }
+    // It answers that the writer failed only where a write was refused.
+    ensures fault { IsErr result → has_refused writer.new ≡ true }
+{
+    let said = say_settings(alloc, text);
+    said.write(writer)
 }
 
 /// Writes what is to be said of settings, and gives the exit status, which is that of `check_lines`.
 ///
 /// First the line of `check_lines`. Of settings that are refused there is a second line: where they are wrong and what is wanted
 /// there. A text that is no TOML is told by its line and column, a key by its line where that is found, and by its path. Where
-/// memory is refused (status 4), after the first line too, nothing more is written. `WriteFault` comes only where the
-/// writer failed.
+/// memory is refused (status 4) nothing is written.
+///
+/// That `WriteFault` comes only where a refused write was noted is a clause of `explain_settings_watched`, of which this is the
+/// case of a new writer that notes.
 pub fn explain_settings<W: Write>(
     alloc: Global,
     text: &[u8],
@@ -172,10 +260,11 @@ pub fn explain_settings<W: Write>(
 ) -> Result<u8, WriteFault>
     // The status is that of an answer to the settings.
     ensures status { IfOk result (EndsAsCheck text.now) }
+    // What is written is what is said of the settings with this status.
+    ensures told { IfOk result (λ s. Tells (SaysSettings text.now s) (W.contents writer.old) (W.contents writer.new)) }
+    // Where the writer failed, a first part of it was written.
+    ensures part { IsErr result → (s : ℕ) × TellsPart (SaysSettings text.now s) (W.contents writer.old) (W.contents writer.new) }
 {
-    let ended = check_lines(alloc, text, writer)?;
-    if ended == status::REFUSED && !write_wrong(alloc, text, writer)? {
-        return Ok(status::OUT_OF_MEMORY);
-    }
-    Ok(ended)
+    let mut writer = WatchedWriter::new(writer);
+    explain_settings_watched(alloc, text, &mut writer)
 }

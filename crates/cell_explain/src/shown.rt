@@ -1,25 +1,44 @@
 //! A record as it is shown.
-use std::fmt;
+ghost use Rattle.std.specs.Prelude.{◌≡◌, ◌<◌, IfOk, map, string_bytes};
+ghost use Rattle.cell_explain.specs.Sayings.{shown, shown_byte};
+
+use std::alloc::{AllocError, Global};
 
 // How many bytes of a record are shown.
 const MOST: usize = 80;
 
-/// Shows a record: of a long one a first part and three dots. Bytes other than letters, digits, signs and blanks of ASCII
-/// are shown as dots.
-#[derive(Clone, Copy)]
-pub(crate) struct Shown<'a>(pub &'a [u8]);
-
-impl fmt::Display for Shown<'_> {
-    fn fmt<W: fmt::Write>(&self, f: &mut fmt::Formatter<W>) -> fmt::Result {
-        for byte in self.0.iter().take(MOST) {
-            match *byte {
-                shown @ b' '..=b'~' => write!(f, "{}", char::from(shown))?,
-                _ => write!(f, ".")?,
-            }
-        }
-        if self.0.len() > MOST {
-            write!(f, "...")?;
-        }
-        Ok(())
+// A byte as it is shown.
+fn shown_byte(byte: u8) -> u8
+    ensures value { result ≡ shown_byte byte }
+    ensures ascii { result < 128 }
+{
+    if 32 <= byte && byte <= 126 {
+        byte
+    } else {
+        b'.'
     }
+}
+
+// Bytes as they are shown.
+fn shown_bytes(alloc: Global, bytes: &[u8]) -> Result<String, AllocError>
+    ensures { IfOk result (λ text. string_bytes text ≡ map shown_byte bytes.now) }
+{
+    let mut shown = String::new(alloc);
+    for byte in bytes {
+        shown.push(char::from(shown_byte(*byte)))?;
+    }
+    Ok(shown)
+}
+
+/// A record as it is shown: of a long one a first part and three dots. Bytes other than letters, digits, signs and blanks of
+/// ASCII are shown as dots.
+pub(crate) fn shown(alloc: Global, record: &[u8]) -> Result<String, AllocError>
+    ensures { IfOk result (λ text. string_bytes text ≡ shown record.now) }
+{
+    if record.len() <= MOST {
+        return shown_bytes(alloc, record);
+    }
+    let mut text = shown_bytes(alloc, &record[..MOST])?;
+    text.push_str("...")?;
+    Ok(text)
 }

@@ -1,6 +1,7 @@
 //! Which entry made it so that another is refused.
 ghost use Rattle.std.specs.Prelude.{◌≡◌, true};
 ghost use Rattle.cell_journal.specs.Snapshots.{HasRoom, state_of};
+ghost use Rattle.cell_explain.specs.Told.{IsSince};
 
 use cell_journal::{Journal, Snapshot};
 use cell_sentences::EntryDeed;
@@ -22,6 +23,11 @@ pub(crate) enum Since {
 }
 
 impl fmt::Display for Since {
+    ghost use Rattle.std.specs.Prelude.{Some};
+    ghost use Rattle.cell_explain.specs.Sayings.{since_text};
+
+    ghost output = { λ since. Some (since_text since) };
+
     fn fmt<W: fmt::Write>(&self, f: &mut fmt::Formatter<W>) -> fmt::Result {
         match *self {
             Since::Opening => write!(f, ", from the start on"),
@@ -96,7 +102,9 @@ fn left_by(journal: &Journal) -> Snapshot {
 }
 
 // Since when a fact holds that the entries of a journal leave.
-fn since_when(journal: &Journal, fact: &Fact) -> Since {
+fn since_when(journal: &Journal, fact: &Fact) -> Since
+    ensures { IsSince journal.now.entries result }
+{
     let mut state = Snapshot::opening();
     let mut since = Since::Opening;
     let mut held = fact.holds(&state);
@@ -106,7 +114,7 @@ fn since_when(journal: &Journal, fact: &Fact) -> Since {
             step(&mut state, entry);
             let holds = fact.holds(&state);
             if holds && !held {
-                since = Since::Entry(place.saturating_add(1), booked);
+                since = Since::Entry(place + 1, booked);
             }
             held = holds;
         }
@@ -115,13 +123,15 @@ fn since_when(journal: &Journal, fact: &Fact) -> Since {
 }
 
 // The last entry that names a plate.
-fn last_of(journal: &Journal, plate: PlateId) -> Since {
+fn last_of(journal: &Journal, plate: PlateId) -> Since
+    ensures { IsSince journal.now.entries result }
+{
     let mut since = Since::Always;
     for place in 0..journal.len() {
         if let Some(entry) = journal.get(place) {
             let booked = entry;
             if plate_of(entry) == Some(plate) {
-                since = Since::Entry(place.saturating_add(1), booked);
+                since = Since::Entry(place + 1, booked);
             }
         }
     }
@@ -210,7 +220,9 @@ fn fact_of(why: Refusal, entry: Entry, state: &Snapshot) -> Option<Fact> {
 }
 
 // Since when it is so that no fact tells of.
-fn since_named(journal: &Journal, entry: Entry, why: Refusal) -> Since {
+fn since_named(journal: &Journal, entry: Entry, why: Refusal) -> Since
+    ensures { IsSince journal.now.entries result }
+{
     match (why, entry) {
         (Refusal::WrongPlate | Refusal::NotReturnable, Entry::Expected { plate }) => {
             last_of(journal, plate)
@@ -220,7 +232,9 @@ fn since_named(journal: &Journal, entry: Entry, why: Refusal) -> Since {
 }
 
 /// Since when it is so that an entry is refused after those of a journal. It is told in two passes over the journal.
-pub(crate) fn told(journal: &Journal, entry: Entry, why: Refusal) -> Since {
+pub(crate) fn told(journal: &Journal, entry: Entry, why: Refusal) -> Since
+    ensures { IsSince journal.now.entries result }
+{
     let left = left_by(journal);
     let refused = entry;
     match fact_of(why, entry, &left) {

@@ -1,0 +1,6 @@
+use Rattle.std.proofs.Common.{string_bytes}
+use Rattle.cell_explain.proofs.Parts.{some-line}
+use Rattle.cell_explain.proofs.script.long_line.Goals as goal
+
+pub returns : goal.returns
+returns c = some-line c.format.result string_bytes c.record_of.result.line c.format.ensures.ok

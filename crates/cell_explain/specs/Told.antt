@@ -1,0 +1,80 @@
+-- What is said of a journal's text
+use Rattle.std.specs.Prelude.{◌≡◌, ◌≢◌, ◌⊎◌, ◌+◌, ℕ, List, [], ◌++◌, length, Option, Some, Result, Ok, Err, ⊤, codes, slice_get}
+use Rattle.std.specs.Io.KnownBytes.{Appends}
+use Rattle.cell_rows.specs.Rows.{rows_of}
+use Rattle.cell_types.specs.declared.words.Entry.{Entry}
+use Rattle.cell_types.specs.declared.words.Totals.{Totals}
+use Rattle.plate_book.specs.declared.refusal.Refusal.{Refusal}
+use Rattle.cell_audit.specs.declared.error.AuditError.{AuditError}
+use Rattle.cell_audit.specs.declared.error.AuditError.TheVariants as error
+use Rattle.cell_audit.specs.Reading.{SpellsFirst}
+use Rattle.cell_audit.specs.Watched.{WritesPart}
+use Rattle.cell_lines.specs.Lines.{IsAnswer, lines_of, status_of}
+use Rattle.cell_explain.specs.declared.telling.Since.{Since}
+use Rattle.cell_explain.specs.declared.telling.Since.TheVariants as since
+use Rattle.cell_explain.specs.declared.wanted.Trouble.{Trouble}
+use Rattle.cell_explain.specs.Sayings.{profile_line, record_line, refused_line}
+
+-- one of these sayings was written
+abbrev pub Tells : (List ℕ → Type 0) → Option (List ℕ) → Option (List ℕ) → Type 0
+Tells says old new = (saying : List ℕ) × says saying × Appends old new saying
+
+-- a first part of one of these sayings was written, and not all of it
+abbrev pub TellsPart : (List ℕ → Type 0) → Option (List ℕ) → Option (List ℕ) → Type 0
+TellsPart says old new = (saying : List ℕ) × says saying × WritesPart old new saying
+
+-- this was written, with this status
+abbrev pub WritesSaying : Option (List ℕ) → Option (List ℕ) → ℕ → List ℕ → ℕ → Type 0
+WritesSaying old new status saying ended = Appends old new saying × (ended ≡ status)
+
+-- memory was refused, and nothing is said
+abbrev pub SaysNothing : ℕ → List ℕ → Type 0
+SaysNothing status saying = (status ≡ 4) × (saying ≡ [])
+
+-- the text is refused, and this is said of it, or memory was refused
+abbrev pub SaysRefusal : (List ℕ → Type 0) → ℕ → List ℕ → Type 0
+SaysRefusal says status saying = ((status ≡ 1) × says saying) ⊎ SaysNothing status saying
+
+-- a record stands in a text
+abbrev pub StandsIn : List ℕ → List ℕ → Type 0
+StandsIn text bytes = (before : List ℕ) × (after : List ℕ) × (text ≡ before ++ (bytes ++ after))
+
+-- what is said of a record that can't be read: its line, its number, itself, and why
+abbrev pub SaysRecord : List ℕ → List ℕ → ℕ → List ℕ → Type 0
+SaysRecord text name number saying =
+    (line : ℕ) × (bytes : List ℕ) × (why : Trouble) × StandsIn text bytes × (saying ≡ record_line line name number bytes why)
+
+-- since when an entry is refused after a journal: always, or since an entry of the journal, whose number is counted from 1
+abbrev pub IsSince : List Entry → Since → Type 0
+IsSince J since.Opening = ⊤
+IsSince J (since.Entry n e) = (place : ℕ) × (n ≡ place + 1) × (slice_get J place ≡ Some e)
+IsSince J since.Always = ⊤
+
+-- what is said of a refused entry: its line, its number, its record, the refusal, and since which of the entries before it
+abbrev pub SaysRefused : List ℕ → ℕ → Refusal → List ℕ → Type 0
+SaysRefused text number why saying =
+    (line : ℕ) × (bytes : List ℕ) × (J : List Entry) × (made : Since) × StandsIn text bytes × SpellsFirst J (rows_of text) × (length J + 1 ≡ number)
+    × IsSince J made × (saying ≡ refused_line line number bytes why made)
+
+-- what is said of a record of a journal that can't be read; record 0 is the profile's
+abbrev pub SaysUnreadable : List ℕ → ℕ → List ℕ → Type 0
+SaysUnreadable text number saying =
+    ((number ≡ 0) × ((line : ℕ) × (saying ≡ profile_line line))) ⊎ ((number ≢ 0) × SaysRecord text (codes "entry") number saying)
+
+-- what is said of a text by the audit's answer: the audit's lines where it is legal, and nothing where memory was refused
+abbrev pub SaysOf : List ℕ → Result (ℕ × Totals) AuditError → List ℕ → Type 0
+SaysOf text (Ok totals) saying = saying ≡ lines_of (Ok totals)
+SaysOf text (Err (error.Unreadable number)) saying = SaysUnreadable text number saying
+SaysOf text (Err (error.Refused number why)) saying = SaysRefused text number why saying
+SaysOf text (Err error.ReadFault) saying = saying ≡ []
+SaysOf text (Err error.OutOfMemory) saying = saying ≡ []
+
+-- the audit's lines are said, with the status of an answer that the audit may give to the text
+abbrev pub SaysAudit : List ℕ → ℕ → List ℕ → Type 0
+SaysAudit text status saying =
+    (answer : Result (ℕ × Totals) AuditError) × IsAnswer text answer × (saying ≡ lines_of answer) × (status ≡ status_of answer)
+
+-- what is said of a journal's text with a status: by an answer that the audit may give to it, whose status it is
+abbrev pub SaysJournal : List ℕ → ℕ → List ℕ → Type 0
+SaysJournal text status saying =
+    (answer : Result (ℕ × Totals) AuditError) × IsAnswer text answer × SaysOf text answer saying × (status ≡ status_of answer)
