@@ -213,8 +213,9 @@ prints the same lines, or the same of a text that is refused. Here the line
 says that one machine has taken as many readings as the settings allow.
 
 Which worker acts first isn't determined, so two runs by the same files may
-print different journals. Where the operator stops a machine, or the end is
-turn limit or full, what is counted may differ too. The line
+print different journals. Where a fault is planned, the operator stops a
+machine, or the end is turn limit or full, the end and what is counted may
+differ too. The line
   journal disagrees
 says that some worker's list of what it booked isn't what the journal has of
 it.

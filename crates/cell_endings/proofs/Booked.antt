@@ -3,8 +3,8 @@ use Rattle.std.proofs.Common.{◌≡◌, ℕ, ◌+◌, false, List, [], ◌∷�
 use Rattle.std.specs.Prelude.{slice_get}
 use Rattle.std.specs.Result.{is_err}
 use Rattle.cell_types.specs.declared.words.Entry.{Entry}
+use Rattle.plate_book.specs.declared.limits.BookLimits.{BookLimits}
 use Rattle.plate_book.specs.Rules.History.{History}
-use Rattle.cell_endings.specs.Plates.{greatest}
 use Rattle.cell_endings.proofs.Passed.{take-at}
 
 -- what holds of a success holds where there was no error
@@ -13,6 +13,6 @@ of-success (Ok x) none p = p
 of-success (Err e) none p = cc none
 
 -- one more entry is booked
-pub booked-more : (h k : History) (J : List Entry) (i : ℕ) (e : Entry) → slice_get J i ≡ Some e → h ≡ record { limits = greatest; entries = take i J }
-    → k ≡ record { limits = h.limits; entries = h.entries ++ e ∷ [] } → k ≡ record { limits = greatest; entries = take (i + 1) J }
-booked-more h k J i e at so_far next = rw (take-at J i e at) (rw so_far at next)
+pub booked-more : (l : BookLimits) (h k : History) (J : List Entry) (i : ℕ) (e : Entry) → slice_get J i ≡ Some e → h ≡ record { limits = l; entries = take i J }
+    → k ≡ record { limits = h.limits; entries = h.entries ++ e ∷ [] } → k ≡ record { limits = l; entries = take (i + 1) J }
+booked-more l h k J i e at so_far next = rw (take-at J i e at) (rw so_far at next)

@@ -11,9 +11,8 @@ pub told-more : {X : Type 0} (f : X → List ℕ) (old mid new : Option (List �
 told-more f old mid new xs i d inside so_far next =
     subst (Appends old new) (flat_map_more f [] (take i xs) (get_or xs i d) ∙ ap (flat_map f) (sym (take_more xs i d inside))) (Appends-trans old mid new _ _ so_far next)
 
--- four texts, one after the other, of which the last is told where it was written
-pub told-four : {A B : Type 0} (r : Result A B) (old first second third new : Option (List ℕ)) (a b c d : List ℕ)
-    → Appends old first a → Appends first second b → Appends second third c → OnOk r (Appends third new d) → OnOk r (Appends old new (a ++ (b ++ (c ++ d))))
-told-four (Ok x) old first second third new a b c d h i j k =
-    Appends-trans old first new a _ h (Appends-trans first second new b _ i (Appends-trans second third new c d j k))
-told-four (Err e) old first second third new a b c d h i j k = tt
+-- a text, and then one that is told where it was written
+pub told-then : {A B : Type 0} (r : Result A B) (old mid new : Option (List ℕ)) (a b : List ℕ)
+    → Appends old mid a → OnOk r (Appends mid new b) → OnOk r (Appends old new (a ++ b))
+told-then (Ok x) old mid new a b h i = Appends-trans old mid new a b h i
+told-then (Err e) old mid new a b h i = tt

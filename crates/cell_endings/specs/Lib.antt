@@ -1,4 +1,7 @@
+pub mod Words
 pub mod Numbered
+pub mod Limit
+pub mod Counts
 pub mod Failures
 pub mod Plates
 pub mod Waiting

@@ -13,7 +13,6 @@ use Rattle.cell_types.specs.declared.words.Pose.TheVariants as pose
 use Rattle.cell_types.specs.declared.words.Station.{Station}
 use Rattle.cell_types.specs.declared.words.Station.TheVariants as station
 use Rattle.cell_types.specs.Cell.{machine_of_axis}
-use Rattle.cell_types.specs.Limits.{max_entries, max_plates}
 use Rattle.cell_types.specs.Same.{same_pose}
 use Rattle.cell_types.specs.Texts.{all_station}
 use Rattle.cell_views.specs.Views.{going_of, is_failed, plate_of, pose_of}
@@ -22,14 +21,6 @@ use Rattle.plate_book.specs.declared.refusal.Refusal.{Refusal}
 use Rattle.plate_book.specs.Rules.Legal.{first_of}
 use Rattle.cell_sentences.specs.Names.{station_name}
 use Rattle.cell_sentences.specs.Sentences.{entry_sentence, refusal_sentence}
-
--- the greatest limits, by which a run that ended is judged
-abbrev pub greatest : BookLimits
-greatest = record { entries = max_entries; plates = max_plates }
-
--- what refuses an entry after a journal, but for the run's own limits
-abbrev pub refusal_of : List Entry → Entry → Option Refusal
-refusal_of J e = first_of greatest J e
 
 -- the entry by which plate k on a belt goes on to dest: the belt sets out with it, or, once it moves so, brings it there
 abbrev pub belt_entry : Axis → ℕ → Pose → Station → Option Pose → Entry
@@ -73,18 +64,18 @@ line_end (Some why) = codes "\", but " ++ (refusal_sentence why ++ 10 ∷ [])
 abbrev pub line_of_next : Station → ℕ → Entry → Option Refusal → List ℕ
 line_of_next s k e why = codes "plate " ++ (decimal k ++ (codes " is at " ++ (station_name s ++ (codes "; next is \"" ++ (entry_sentence e ++ line_end why)))))
 
--- the line of plate k at a station
-abbrev pub plate_line : List Entry → Station → ℕ → List ℕ
-plate_line J s k = line_of_next s k (next_entry J s k) (refusal_of J (next_entry J s k))
+-- the line of plate k at a station, by the run's limits
+abbrev pub plate_line : BookLimits → List Entry → Station → ℕ → List ℕ
+plate_line l J s k = line_of_next s k (next_entry J s k) (first_of l J (next_entry J s k))
 
-abbrev pub line_if_plate : List Entry → Station → Option ℕ → List ℕ
-line_if_plate J s None = []
-line_if_plate J s (Some k) = plate_line J s k
+abbrev pub line_if_plate : BookLimits → List Entry → Station → Option ℕ → List ℕ
+line_if_plate l J s None = []
+line_if_plate l J s (Some k) = plate_line l J s k
 
 -- what is told of a station: the line of its plate, where it has one
-abbrev pub told_at : List Entry → Station → List ℕ
-told_at J s = line_if_plate J s (plate_of J s)
+abbrev pub told_at : BookLimits → List Entry → Station → List ℕ
+told_at l J s = line_if_plate l J s (plate_of J s)
 
 -- what is told of the plates, in the order of the stations
-abbrev pub plates_of : List Entry → List ℕ
-plates_of J = flat_map (told_at J) all_station
+abbrev pub plates_of : BookLimits → List Entry → List ℕ
+plates_of l J = flat_map (told_at l J) all_station

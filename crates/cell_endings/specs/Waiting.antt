@@ -8,7 +8,9 @@ use Rattle.cell_types.specs.declared.words.Entry.TheVariants.{StopAsked, Quarant
 use Rattle.cell_types.specs.declared.words.Station.{Station}
 use Rattle.cell_types.specs.Entries.{actor_of}
 use Rattle.cell_views.specs.Views.{count_of, plate_of}
+use Rattle.plate_book.specs.declared.limits.BookLimits.{BookLimits}
 use Rattle.plate_book.specs.declared.refusal.Refusal.{Refusal}
+use Rattle.plate_book.specs.Rules.Legal.{first_of}
 use Rattle.operator_desk.specs.declared.line.Line.{Line}
 use Rattle.operator_desk.specs.declared.line.Trigger.{Trigger}
 use Rattle.operator_desk.specs.declared.line.Trigger.TheVariants as trigger
@@ -17,7 +19,7 @@ use Rattle.operator_desk.specs.declared.line.Task.TheVariants as task
 use Rattle.operator_desk.specs.Next.{holds}
 use Rattle.cell_sentences.specs.Names.{station_name, the_machine}
 use Rattle.cell_sentences.specs.Sentences.{refusal_sentence}
-use Rattle.cell_endings.specs.Plates.{refusal_of}
+use Rattle.cell_endings.specs.Words.{are, plates, were}
 
 abbrev pub is_operator : Actor → Bool
 is_operator actor.Operator = true
@@ -27,12 +29,16 @@ is_operator (actor.Machine m) = false
 abbrev pub lines_done : List Entry → ℕ
 lines_done J = count_by (λ e. is_operator (actor_of e)) J
 
+-- that so many plates are waited for, of which so many are there
+abbrev pub plates_wait : ℕ → List ℕ → ℕ → List ℕ → List ℕ
+plates_wait n what count verb = codes "it waits for " ++ (decimal n ++ (plates n ++ (what ++ (decimal count ++ (verb ++ 10 ∷ [])))))
+
 -- what a trigger that doesn't hold waits for
 abbrev pub trigger_wait : List Entry → Trigger → List ℕ
 trigger_wait J trigger.Always = codes "its time has come\n"
-trigger_wait J (trigger.Admitted n) = codes "it waits for " ++ (decimal n ++ (codes " plates to be admitted, and " ++ (decimal (count_of J).admitted ++ codes " are\n")))
-trigger_wait J (trigger.Delivered n) = codes "it waits for " ++ (decimal n ++ (codes " plates to be delivered, and " ++ (decimal (count_of J).delivered ++ codes " are\n")))
-trigger_wait J (trigger.Quarantined n) = codes "it waits for " ++ (decimal n ++ (codes " plates to be taken into quarantine, and " ++ (decimal (count_of J).quarantined ++ codes " were\n")))
+trigger_wait J (trigger.Admitted n) = plates_wait n (codes " to be admitted, and ") (count_of J).admitted (are (count_of J).admitted)
+trigger_wait J (trigger.Delivered n) = plates_wait n (codes " to be delivered, and ") (count_of J).delivered (are (count_of J).delivered)
+trigger_wait J (trigger.Quarantined n) = plates_wait n (codes " to be taken into quarantine, and ") (count_of J).quarantined (were (count_of J).quarantined)
 trigger_wait J (trigger.Failed m) = codes "it waits for a failure of " ++ (the_machine m ++ 10 ∷ [])
 
 -- what refuses an entry of the operator's, or that nothing does
@@ -40,27 +46,31 @@ abbrev pub refusal_line : Option Refusal → List ℕ
 refusal_line None = codes "nothing refuses it\n"
 refusal_line (Some why) = refusal_sentence why ++ 10 ∷ []
 
--- what the clearing of a station waits for: that the entry of its plate isn't refused, or for a plate
-abbrev pub clear_wait : List Entry → Station → Option ℕ → List ℕ
-clear_wait J s None = codes "no plate is at " ++ (station_name s ++ 10 ∷ [])
-clear_wait J s (Some k) = refusal_line (refusal_of J (Quarantined k s))
+-- that a plate is waited for at a station, which has none
+abbrev pub empty_line : Station → List ℕ
+empty_line s = codes "it waits for a plate at " ++ (station_name s ++ codes ", and none is there\n")
 
--- what a task waits for whose trigger holds
-abbrev pub task_wait : List Entry → Task → List ℕ
-task_wait J (task.Stop m) = refusal_line (refusal_of J (StopAsked m))
-task_wait J (task.Clear s) = clear_wait J s (plate_of J s)
-task_wait J (task.Repair m) = refusal_line (refusal_of J (Repaired m))
-task_wait J (task.Expect k) = refusal_line (refusal_of J (Expected k))
+-- what the clearing of a station waits for: that the entry of its plate isn't refused, or for a plate
+abbrev pub clear_wait : BookLimits → List Entry → Station → Option ℕ → List ℕ
+clear_wait l J s None = empty_line s
+clear_wait l J s (Some k) = refusal_line (first_of l J (Quarantined k s))
+
+-- what a task waits for whose trigger holds, by the run's limits
+abbrev pub task_wait : BookLimits → List Entry → Task → List ℕ
+task_wait l J (task.Stop m) = refusal_line (first_of l J (StopAsked m))
+task_wait l J (task.Clear s) = clear_wait l J s (plate_of J s)
+task_wait l J (task.Repair m) = refusal_line (first_of l J (Repaired m))
+task_wait l J (task.Expect k) = refusal_line (first_of l J (Expected k))
 
 -- what a line waits for: its trigger, and then its task
-abbrev pub line_wait : List Entry → Line → List ℕ
-line_wait J line = if holds J line.when then task_wait J line.task else trigger_wait J line.when
+abbrev pub line_wait : BookLimits → List Entry → Line → List ℕ
+line_wait l J line = if holds J line.when then task_wait l J line.task else trigger_wait J line.when
 
--- what is told of the first line that isn't done, where there is one, after so many that are
-abbrev pub undone_line : List Entry → ℕ → Option Line → List ℕ
-undone_line J done None = []
-undone_line J done (Some line) = codes "line " ++ (decimal (done + 1) ++ (codes " of the operator's script isn't done: " ++ line_wait J line))
+-- what is told of the first line that isn't done, where there is one: the number of its record, and what it waits for
+abbrev pub undone_line : BookLimits → List Entry → ℕ → Option Line → List ℕ
+undone_line l J n None = []
+undone_line l J n (Some line) = codes "record " ++ (decimal n ++ (codes " of the operator's script isn't done: " ++ line_wait l J line))
 
 -- what is told of the script: its first line that isn't done, and what that waits for
-abbrev pub waiting_of : List Entry → List Line → List ℕ
-waiting_of J lines = undone_line J (lines_done J) (slice_get lines (lines_done J))
+abbrev pub waiting_of : BookLimits → List Entry → List Line → List ℕ
+waiting_of l J lines = undone_line l J (lines_done J + 1) (slice_get lines (lines_done J))

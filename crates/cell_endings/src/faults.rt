@@ -4,9 +4,10 @@ ghost use Rattle.std.specs.Io.KnownBytes.{Appends};
 ghost use Rattle.cell_types.specs.Same.{axis_number};
 ghost use Rattle.cell_types.specs.declared.words.Axis.{Axis};
 ghost use Rattle.cell_sim.specs.Script.{next_fault};
-ghost use Rattle.cell_endings.specs.Missed.{missed_line, missed_of, motions_of, times, told_fault};
+ghost use Rattle.cell_endings.specs.Missed.{missed_line, missed_of, motions_of, told_fault};
 ghost use Rattle.cell_endings.specs.Endings.{script_lines};
 
+use crate::words::times;
 use cell_journal::Journal;
 use cell_rows::{LineError, read_script};
 use cell_sentences::axis_name;
@@ -29,17 +30,11 @@ fn motions(journal: &Journal) -> [u32; 9]
     counts
 }
 
-fn times(count: u32) -> &'static str
-    ensures { result.now ≡ times count }
-{
-    if count == 1 { " time\n" } else { " times\n" }
-}
-
 // Writes the line of a fault whose axis set out only so often.
 fn write_missed<W: Write>(writer: &mut W, planned: &PlannedFault, count: u32) -> Result<()>
     ensures { OnOk result (Appends (W.contents writer.old) (W.contents writer.new) (missed_line planned.now count)) }
 {
-    write!(
+    writeln!(
         writer,
         "the fault in motion {} of {} was never reached: it set out {count}{}",
         planned.motion,

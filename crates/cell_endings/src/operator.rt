@@ -1,12 +1,13 @@
-//! The first line of the operator's script that isn't done.
-ghost use Rattle.std.specs.Prelude.{◌≡◌, ◌<◌, ◌≤◌, OnOk, length};
+//! The first record of the operator's script that isn't done.
+ghost use Rattle.std.specs.Prelude.{◌≡◌, ◌≤◌, OnOk, length};
 ghost use Rattle.std.specs.Io.KnownBytes.{Appends};
 ghost use Rattle.operator_desk.specs.Lines.{line_of};
 ghost use Rattle.operator_desk.specs.Next.{holds};
-ghost use Rattle.cell_endings.specs.Plates.{greatest, refusal_of};
+ghost use Rattle.plate_book.specs.Rules.Legal.{first_of};
 ghost use Rattle.cell_endings.specs.Waiting.{is_operator, line_wait, lines_done, refusal_line, task_wait, trigger_wait, undone_line, waiting_of};
 ghost use Rattle.cell_endings.specs.Endings.{script_lines};
 
+use crate::words::{are, plates, were};
 use cell_journal::Journal;
 use cell_rows::{LineError, read_script};
 use cell_sentences::{RefusalSentence, station_name, the_machine};
@@ -59,18 +60,24 @@ fn write_trigger<W: Write>(writer: &mut W, book: &Book, when: Trigger) -> Result
         Trigger::Always => writeln!(writer, "its time has come"),
         Trigger::Admitted(number) => writeln!(
             writer,
-            "it waits for {number} plates to be admitted, and {} are",
-            totals.admitted
+            "it waits for {number}{} to be admitted, and {}{}",
+            plates(number),
+            totals.admitted,
+            are(totals.admitted)
         ),
         Trigger::Delivered(number) => writeln!(
             writer,
-            "it waits for {number} plates to be delivered, and {} are",
-            totals.delivered
+            "it waits for {number}{} to be delivered, and {}{}",
+            plates(number),
+            totals.delivered,
+            are(totals.delivered)
         ),
         Trigger::Quarantined(number) => writeln!(
             writer,
-            "it waits for {number} plates to be taken into quarantine, and {} were",
-            totals.quarantined
+            "it waits for {number}{} to be taken into quarantine, and {}{}",
+            plates(number),
+            totals.quarantined,
+            were(totals.quarantined)
         ),
         Trigger::Failed(machine) => writeln!(
             writer,
@@ -82,8 +89,7 @@ fn write_trigger<W: Write>(writer: &mut W, book: &Book, when: Trigger) -> Result
 
 // Writes what refuses an entry of the operator's.
 fn write_refusal<W: Write>(writer: &mut W, book: &Book, entry: Entry) -> Result<()>
-    requires { book.now.limits ≡ greatest }
-    ensures { OnOk result (Appends (W.contents writer.old) (W.contents writer.new) (refusal_line (refusal_of book.now.entries entry))) }
+    ensures { OnOk result (Appends (W.contents writer.old) (W.contents writer.new) (refusal_line (first_of book.now.limits book.now.entries entry))) }
 {
     match book.allows(entry) {
         Ok(()) => writeln!(writer, "nothing refuses it"),
@@ -93,8 +99,7 @@ fn write_refusal<W: Write>(writer: &mut W, book: &Book, entry: Entry) -> Result<
 
 // Writes what a task waits for.
 fn write_task<W: Write>(writer: &mut W, book: &Book, task: Task) -> Result<()>
-    requires { book.now.limits ≡ greatest }
-    ensures { OnOk result (Appends (W.contents writer.old) (W.contents writer.new) (task_wait book.now.entries task)) }
+    ensures { OnOk result (Appends (W.contents writer.old) (W.contents writer.new) (task_wait book.now.limits book.now.entries task)) }
 {
     match task {
         Task::Stop(machine) => write_refusal(writer, book, Entry::StopAsked { machine }),
@@ -102,15 +107,18 @@ fn write_task<W: Write>(writer: &mut W, book: &Book, task: Task) -> Result<()>
         Task::Expect(plate) => write_refusal(writer, book, Entry::Expected { plate }),
         Task::Clear(src) => match book.plate_at(src) {
             Some(plate) => write_refusal(writer, book, Entry::Quarantined { plate, src }),
-            None => writeln!(writer, "no plate is at {}", station_name(src)),
+            None => writeln!(
+                writer,
+                "it waits for a plate at {}, and none is there",
+                station_name(src)
+            ),
         },
     }
 }
 
 // Writes what a line waits for.
 fn write_wait<W: Write>(writer: &mut W, book: &Book, line: Line) -> Result<()>
-    requires { book.now.limits ≡ greatest }
-    ensures { OnOk result (Appends (W.contents writer.old) (W.contents writer.new) (line_wait book.now.entries line)) }
+    ensures { OnOk result (Appends (W.contents writer.old) (W.contents writer.new) (line_wait book.now.limits book.now.entries line)) }
 {
     if holds(book, line.when) {
         write_task(writer, book, line.task)
@@ -119,18 +127,20 @@ fn write_wait<W: Write>(writer: &mut W, book: &Book, line: Line) -> Result<()>
     }
 }
 
-// Writes the line that isn't done after so many that are, where there is one.
-fn write_undone<W: Write>(writer: &mut W, book: &Book, done: u32, line: Option<Line>) -> Result<()>
-    requires limits { book.now.limits ≡ greatest }
-    requires few { done < 4294967295 }
-    ensures { OnOk result (Appends (W.contents writer.old) (W.contents writer.new) (undone_line book.now.entries done line)) }
+// Writes the line that isn't done, where there is one, by the number of its record.
+fn write_undone<W: Write>(
+    writer: &mut W,
+    book: &Book,
+    number: u64,
+    line: Option<Line>,
+) -> Result<()>
+    ensures { OnOk result (Appends (W.contents writer.old) (W.contents writer.new) (undone_line book.now.limits book.now.entries number line)) }
 {
     match line {
         Some(line) => {
-            let number = done + 1;
             write!(
                 writer,
-                "line {number} of the operator's script isn't done: "
+                "record {number} of the operator's script isn't done: "
             )?;
             write_wait(writer, book, line)
         }
@@ -138,23 +148,22 @@ fn write_undone<W: Write>(writer: &mut W, book: &Book, done: u32, line: Option<L
     }
 }
 
-/// Writes the first line of the operator's script that isn't done, and what it waits for. The lines are done in their order,
-/// each with an entry of the operator's.
+/// Writes the first record of the operator's script that isn't done, by its number, and what it waits for. The records are done
+/// in their order, each with an entry of the operator's.
 pub(crate) fn write_operator<W: Write>(
     alloc: Global,
     writer: &mut W,
     book: &Book,
     operator: &[u8],
 ) -> Result<()>
-    requires { book.now.limits ≡ greatest }
-    ensures { OnOk result (Appends (W.contents writer.old) (W.contents writer.new) (waiting_of book.now.entries (script_lines line_of operator.now))) }
+    ensures { OnOk result (Appends (W.contents writer.old) (W.contents writer.new) (waiting_of book.now.limits book.now.entries (script_lines line_of operator.now))) }
 {
     let lines = match read_script::<Line>(alloc, operator) {
         Ok(lines) => lines,
         Err(LineError::OutOfMemory) => return Err(Error::from(AllocError)),
         Err(_) => return Ok(()),
     };
-    book.is_lawful();
     let done = lines_done(book.journal());
-    write_undone(writer, book, done, lines.get(done as usize).copied())
+    let number = u64::from(done) + 1;
+    write_undone(writer, book, number, lines.get(done as usize).copied())
 }

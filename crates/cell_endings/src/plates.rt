@@ -3,7 +3,7 @@ ghost use Rattle.std.specs.Prelude.{◌≡◌, OnOk};
 ghost use Rattle.std.specs.Io.KnownBytes.{Appends};
 ghost use Rattle.cell_types.specs.Same.{same_pose};
 ghost use Rattle.cell_views.specs.Views.{going_of, pose_of};
-ghost use Rattle.cell_endings.specs.Plates.{belt_entry, greatest, next_entry, plate_line, plates_of, press_entry_at, press_for_arm, told_at};
+ghost use Rattle.cell_endings.specs.Plates.{belt_entry, next_entry, plate_line, plates_of, press_entry_at, press_for_arm, told_at};
 
 use cell_sentences::{EntrySentence, RefusalSentence, station_name};
 use cell_types::{Arm, Axis, Entry, Machine, PlateId, Pose, STATIONS, Station, machine_of_axis};
@@ -107,8 +107,7 @@ fn write_plate<W: Write>(
     station: Station,
     plate: PlateId,
 ) -> Result<()>
-    requires { book.now.limits ≡ greatest }
-    ensures { OnOk result (Appends (W.contents writer.old) (W.contents writer.new) (plate_line book.now.entries station plate)) }
+    ensures { OnOk result (Appends (W.contents writer.old) (W.contents writer.new) (plate_line book.now.limits book.now.entries station plate)) }
 {
     let entry = next_entry(book, station, plate);
     let shown = entry;
@@ -130,8 +129,7 @@ fn write_plate<W: Write>(
 
 // Writes the plate of a station, where it has one.
 fn write_station<W: Write>(writer: &mut W, book: &Book, station: Station) -> Result<()>
-    requires { book.now.limits ≡ greatest }
-    ensures { OnOk result (Appends (W.contents writer.old) (W.contents writer.new) (told_at book.now.entries station)) }
+    ensures { OnOk result (Appends (W.contents writer.old) (W.contents writer.new) (told_at book.now.limits book.now.entries station)) }
 {
     match book.plate_at(station) {
         Some(plate) => write_plate(writer, book, station, plate),
@@ -141,8 +139,7 @@ fn write_station<W: Write>(writer: &mut W, book: &Book, station: Station) -> Res
 
 /// Writes the plates that stand in the cell, each with the entry by which it would go on and what refuses that.
 pub(crate) fn write_plates<W: Write>(writer: &mut W, book: &Book) -> Result<()>
-    requires { book.now.limits ≡ greatest }
-    ensures { OnOk result (Appends (W.contents writer.old) (W.contents writer.new) (plates_of book.now.entries)) }
+    ensures { OnOk result (Appends (W.contents writer.old) (W.contents writer.new) (plates_of book.now.limits book.now.entries)) }
 {
     for station in STATIONS {
         write_station(writer, book, station)?;

@@ -4,22 +4,21 @@ use Rattle.std.specs.Prelude.{IfOk}
 use Rattle.cell_types.specs.declared.words.Entry.{Entry}
 use Rattle.cell_types.specs.declared.words.Totals.{Totals}
 use Rattle.cell_views.specs.Views.{count_of}
-use Rattle.plate_book.specs.declared.limits.BookLimits.{BookLimits}
 use Rattle.cell_turns.specs.declared.plan.Plan.{Plan}
 use Rattle.cell_audit.specs.Watched.{WritesPart}
 use Rattle.cell_workers.specs.declared.ends.End.{End}
 use Rattle.cell_workers.specs.Report.{IsReport}
 use Rattle.operator_desk.specs.declared.line.Line.{Line}
 use Rattle.cell_runs.specs.Rounds.{IsRun}
-use Rattle.cell_runs.specs.Runs.{PartOfRounds, PrintsOrStops, WritesReport, WritesRounds, limits_of, shown}
+use Rattle.cell_runs.specs.Runs.{PartOfRounds, PrintsOrStops, WritesReport, WritesRounds, kept, limits_of, shown}
 
 pub report-printed : {E : Type 0} (r : Result ℕ E) (journal : Bool) (e : End) (J : List Entry) (t : Totals) (ws : List (List Entry × Totals)) (old new : Option (List ℕ))
-    → IfOk r (PrintsOrStops journal e t J old new) → IfOk r (λ status. (limits : BookLimits) → IsReport limits J t ws → WritesReport journal limits old new status (Some J))
-report-printed (Ok status) journal e J t ws old new printed = λ limits is. inl (e, J, t, ws, is, printed, refl)
+    → IfOk r (PrintsOrStops journal e t J old new) → IfOk r (λ status. (plan : Plan) → IsReport (limits_of plan) J t ws → WritesReport journal plan old new status (Some (kept J e plan)))
+report-printed (Ok status) journal e J t ws old new printed = λ plan is. inl (e, J, t, ws, is, printed, refl)
 report-printed (Err error) journal e J t ws old new printed = printed
 
 pub rounds-printed : {E : Type 0} (r : Result ℕ E) (journal : Bool) (e : End) (J K : List Entry) (t : Totals) (old new : Option (List ℕ))
-    → K ≡ J → t ≡ count_of J → IfOk r (PrintsOrStops journal e t K old new) → IfOk r (λ status. (plan : Plan) (script : List Line) → IsRun (limits_of plan) plan script J e → WritesRounds journal plan script old new status (Some J))
+    → K ≡ J → t ≡ count_of J → IfOk r (PrintsOrStops journal e t K old new) → IfOk r (λ status. (plan : Plan) (script : List Line) → IsRun (limits_of plan) plan script J e → WritesRounds journal plan script old new status (Some (kept J e plan)))
 rounds-printed (Ok status) journal e J K t old new same counts printed = λ plan script run.
     inl (e, J, run, subst (λ (L : List Entry). PrintsOrStops journal e (count_of J) L old new status) same (subst (λ (u : Totals). PrintsOrStops journal e u K old new status) counts printed), refl)
 rounds-printed (Err error) journal e J K t old new same counts printed = printed

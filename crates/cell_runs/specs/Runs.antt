@@ -10,7 +10,7 @@ use Rattle.cell_workers.specs.Report.{IsReport}
 use Rattle.cell_workers.specs.declared.ends.End.{End}
 use Rattle.cell_workers.specs.declared.ends.End.TheVariants as end
 use Rattle.cell_workers.specs.declared.running.RunError.{RunError}
-use Rattle.cell_workers.specs.declared.running.RunError.TheVariants as run
+use Rattle.cell_workers.specs.declared.running.RunError.TheVariants as error
 use Rattle.operator_desk.specs.declared.line.Line.{Line}
 use Rattle.cell_audit.specs.Text.{text_of}
 use Rattle.cell_audit.specs.Watched.{WritesPart}
@@ -19,6 +19,7 @@ use Rattle.cell_runs.specs.Inputs.{AreInputs, WritesError, input_line, input_sta
 use Rattle.cell_runs.specs.Rounds.{IsRun}
 use Rattle.cell_runs.specs.declared.inputs.Inputs.{Inputs}
 use Rattle.cell_runs.specs.declared.inputs.InputError.{InputError}
+use Rattle.cell_runs.specs.declared.texts.KeptRun.{KeptRun}
 
 abbrev pub word_of : End → List ℕ
 word_of end.Finished = codes "finished"
@@ -59,12 +60,26 @@ PrintsOrStops journal e t J old new status = Prints journal e t J old new status
 abbrev pub limits_of : Plan → BookLimits
 limits_of plan = record { entries = plan.journal_limit; plates = plan.plates }
 
+-- what is kept of a run: its journal, how it ended, and its plan
+pub record Kept : Type 0 where
+  pub entries : List Entry
+  pub end : End
+  pub plan : Plan
+
+abbrev pub kept : List Entry → End → Plan → Kept
+kept J e plan = record { entries = J; end = e; plan = plan }
+
+-- what is kept, where something is
+abbrev pub kept_of : Option KeptRun → Option Kept
+kept_of None = None
+kept_of (Some run) = Some (kept run.journal.entries run.end run.plan)
+
 -- a run on one thread, by this plan and this script of the operator, leads in rounds to a journal and an end, which are printed,
--- and the journal is kept; or memory was refused before it, and nothing was written
-abbrev pub WritesRounds : Bool → Plan → List Line → Option (List ℕ) → Option (List ℕ) → ℕ → Option (List Entry) → Type 0
-WritesRounds journal plan script old new status kept =
-    ((e : End) × (J : List Entry) × IsRun (limits_of plan) plan script J e × PrintsOrStops journal e (count_of J) J old new status × (kept ≡ Some J))
-    ⊎ (WritesError old new [] 4 status × (kept ≡ None))
+-- and it is kept; or memory was refused before it, and nothing was written
+abbrev pub WritesRounds : Bool → Plan → List Line → Option (List ℕ) → Option (List ℕ) → ℕ → Option Kept → Type 0
+WritesRounds journal plan script old new status run =
+    ((e : End) × (J : List Entry) × IsRun (limits_of plan) plan script J e × PrintsOrStops journal e (count_of J) J old new status × (run ≡ Some (kept J e plan)))
+    ⊎ (WritesError old new [] 4 status × (run ≡ None))
 
 -- a first part of what is printed of such a run was written, and not all of it
 abbrev pub PartOfRounds : Bool → Plan → List Line → Option (List ℕ) → Option (List ℕ) → Type 0
@@ -77,15 +92,15 @@ disagrees_line = codes "journal disagrees\n"
 
 -- what is printed where there is no report
 abbrev pub WritesRunError : Option (List ℕ) → Option (List ℕ) → RunError → ℕ → Type 0
-WritesRunError old new run.OutOfMemory status = WritesError old new [] 4 status
-WritesRunError old new run.ThreadRefused status = WritesError old new [] 4 status
-WritesRunError old new run.JournalDisagrees status = WritesError old new disagrees_line 1 status
+WritesRunError old new error.OutOfMemory status = WritesError old new [] 4 status
+WritesRunError old new error.ThreadRefused status = WritesError old new [] 4 status
+WritesRunError old new error.JournalDisagrees status = WritesError old new disagrees_line 1 status
 
--- a run on threads has a report, which is printed with the run's end, and its journal is kept; or why there is none is told
-abbrev pub WritesReport : Bool → BookLimits → Option (List ℕ) → Option (List ℕ) → ℕ → Option (List Entry) → Type 0
-WritesReport journal limits old new status kept =
-    ((e : End) × (J : List Entry) × (t : Totals) × (ws : List (List Entry × Totals)) × IsReport limits J t ws × PrintsOrStops journal e t J old new status × (kept ≡ Some J))
-    ⊎ ((why : RunError) × WritesRunError old new why status × (kept ≡ None))
+-- a run on threads by this plan has a report, which is printed with the run's end, and it is kept; or why there is none is told
+abbrev pub WritesReport : Bool → Plan → Option (List ℕ) → Option (List ℕ) → ℕ → Option Kept → Type 0
+WritesReport journal plan old new status run =
+    ((e : End) × (J : List Entry) × (t : Totals) × (ws : List (List Entry × Totals)) × IsReport (limits_of plan) J t ws × PrintsOrStops journal e t J old new status × (run ≡ Some (kept J e plan)))
+    ⊎ ((why : RunError) × WritesRunError old new why status × (run ≡ None))
 
 -- a first part of what is printed of a report, or of the line where there is none, was written, and not all of it
 abbrev pub PartOfReport : Bool → BookLimits → Option (List ℕ) → Option (List ℕ) → Type 0
@@ -93,25 +108,25 @@ PartOfReport journal limits old new =
     ((e : End) × (J : List Entry) × (t : Totals) × (ws : List (List Entry × Totals)) × IsReport limits J t ws × WritesPart old new (shown journal e t J))
     ⊎ WritesPart old new disagrees_line
 
-abbrev pub WritesRun : Bool → Bool → Inputs → Option (List ℕ) → Option (List ℕ) → ℕ → Option (List Entry) → Type 0
-WritesRun false journal inputs old new status kept = WritesRounds journal inputs.plan inputs.script old new status kept
-WritesRun true journal inputs old new status kept = WritesReport journal (limits_of inputs.plan) old new status kept
+abbrev pub WritesRun : Bool → Bool → Inputs → Option (List ℕ) → Option (List ℕ) → ℕ → Option Kept → Type 0
+WritesRun false journal inputs old new status run = WritesRounds journal inputs.plan inputs.script old new status run
+WritesRun true journal inputs old new status run = WritesReport journal inputs.plan old new status run
 
--- what is printed of a run's texts, or of the first that is refused; of a run its journal is kept
-abbrev pub WritesInputs : Bool → Bool → Option (List ℕ) → Option (List ℕ) → ℕ → Option (List Entry) → Result Inputs InputError → Type 0
-WritesInputs threads journal old new status kept (Ok inputs) = WritesRun threads journal inputs old new status kept
-WritesInputs threads journal old new status kept (Err e) = WritesError old new (input_line e) (input_status e) status × (kept ≡ None)
+-- what is printed of a run's texts, or of the first that is refused; a run is kept
+abbrev pub WritesInputs : Bool → Bool → Option (List ℕ) → Option (List ℕ) → ℕ → Option Kept → Result Inputs InputError → Type 0
+WritesInputs threads journal old new status run (Ok inputs) = WritesRun threads journal inputs old new status run
+WritesInputs threads journal old new status run (Err e) = WritesError old new (input_line e) (input_status e) status × (run ≡ None)
 
 -- what was written is the line of the first text that is refused, in the order settings, faults, operator, or is of a run
--- within the settings' limits, on threads or on one, whose journal is kept
-abbrev pub KeepsRun : List ℕ → List ℕ → List ℕ → Bool → Bool → Option (List ℕ) → Option (List ℕ) → ℕ → Option (List Entry) → Type 0
-KeepsRun settings faults operator threads journal old new status kept =
-    (inputs : Result Inputs InputError) × AreInputs settings faults operator inputs × WritesInputs threads journal old new status kept inputs
+-- within the settings' limits, on threads or on one, whose journal, end and plan are kept
+abbrev pub KeepsRun : List ℕ → List ℕ → List ℕ → Bool → Bool → Option (List ℕ) → Option (List ℕ) → ℕ → Option Kept → Type 0
+KeepsRun settings faults operator threads journal old new status run =
+    (inputs : Result Inputs InputError) × AreInputs settings faults operator inputs × WritesInputs threads journal old new status run inputs
 
--- the same, and no journal is handed on
+-- the same, and nothing is handed on
 abbrev pub TellsRun : List ℕ → List ℕ → List ℕ → Bool → Bool → Option (List ℕ) → Option (List ℕ) → ℕ → Type 0
 TellsRun settings faults operator threads journal old new status =
-    (kept : Option (List Entry)) × KeepsRun settings faults operator threads journal old new status kept
+    (run : Option Kept) × KeepsRun settings faults operator threads journal old new status run
 
 abbrev pub PartOfRun : Bool → Bool → Inputs → Option (List ℕ) → Option (List ℕ) → Type 0
 PartOfRun false journal inputs old new = PartOfRounds journal inputs.plan inputs.script old new

@@ -12,4 +12,4 @@ mod texts;
 pub use inputs::{InputError, Inputs, read_inputs};
 pub use rounds::Outcome;
 pub use simulation::simulate;
-pub use texts::{run_texts, run_texts_kept, run_texts_watched};
+pub use texts::{KeptRun, run_texts, run_texts_kept, run_texts_kept_watched, run_texts_watched};

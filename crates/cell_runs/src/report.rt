@@ -7,7 +7,7 @@ ghost use Rattle.cell_turns.specs.declared.plan.Plan.{Plan as PlanValue};
 ghost use Rattle.cell_workers.specs.Report.{IsReport};
 ghost use Rattle.operator_desk.specs.declared.line.Line.{Line};
 ghost use Rattle.cell_runs.specs.Rounds.{IsRun};
-ghost use Rattle.cell_runs.specs.Runs.{PartOfReport, PartOfRounds, PrintsOrStops, WritesReport, WritesRounds, WritesRunError, disagrees_line, limits_of, run_lines, shown, status_of, word_of};
+ghost use Rattle.cell_runs.specs.Runs.{PartOfReport, PartOfRounds, PrintsOrStops, WritesReport, WritesRounds, WritesRunError, disagrees_line, kept, limits_of, run_lines, shown, status_of, word_of};
 
 use crate::rounds::Outcome;
 use cell_audit::{WatchedWriter, WriteError, WriteFault, write_journal_watched};
@@ -106,7 +106,7 @@ pub fn write_outcome<W: Write>(
     writer: &mut WatchedWriter<'_, W>,
 ) -> Result<u8, WriteFault>
     ensures writer { IsSameWriter writer.old writer.new }
-    ensures whole { IfOk result (λ status. (plan : PlanValue) (script : List Line) → IsRun (limits_of plan) plan script outcome.now.book.entries outcome.now.end → WritesRounds journal plan script (bytes_held W.contents writer.old) (bytes_held W.contents writer.new) status (Some outcome.now.book.entries)) }
+    ensures whole { IfOk result (λ status. (plan : PlanValue) (script : List Line) → IsRun (limits_of plan) plan script outcome.now.book.entries outcome.now.end → WritesRounds journal plan script (bytes_held W.contents writer.old) (bytes_held W.contents writer.new) status (Some (kept outcome.now.book.entries outcome.now.end plan))) }
     ensures part { IsErr result → (plan : PlanValue) (script : List Line) → IsRun (limits_of plan) plan script outcome.now.book.entries outcome.now.end → PartOfRounds journal plan script (bytes_held W.contents writer.old) (bytes_held W.contents writer.new) }
     ensures fault { IsErr result → has_refused writer.new ≡ true }
 {
@@ -129,7 +129,7 @@ pub fn write_report<W: Write>(
     writer: &mut WatchedWriter<'_, W>,
 ) -> Result<u8, WriteFault>
     ensures writer { IsSameWriter writer.old writer.new }
-    ensures whole { IfOk result (λ status. (limits : BookLimits) → IsReport limits report.now.journal.entries report.now.totals (map (λ w. (w.0.items, w.1)) report.now.workers) → WritesReport journal limits (bytes_held W.contents writer.old) (bytes_held W.contents writer.new) status (Some report.now.journal.entries)) }
+    ensures whole { IfOk result (λ status. (plan : PlanValue) → IsReport (limits_of plan) report.now.journal.entries report.now.totals (map (λ w. (w.0.items, w.1)) report.now.workers) → WritesReport journal plan (bytes_held W.contents writer.old) (bytes_held W.contents writer.new) status (Some (kept report.now.journal.entries report.now.end plan))) }
     ensures part { IsErr result → (limits : BookLimits) → IsReport limits report.now.journal.entries report.now.totals (map (λ w. (w.0.items, w.1)) report.now.workers) → PartOfReport journal limits (bytes_held W.contents writer.old) (bytes_held W.contents writer.new) }
     ensures fault { IsErr result → has_refused writer.new ≡ true }
 {

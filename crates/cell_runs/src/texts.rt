@@ -1,7 +1,7 @@
 //! A run by its texts.
-ghost use Rattle.std.specs.Prelude.{◌≡◌, IfOk, IsErr, option_map, true};
+ghost use Rattle.std.specs.Prelude.{◌≡◌, IfOk, IsErr, true};
 ghost use Rattle.cell_audit.specs.Watched.{IsSameWriter, bytes_held, has_refused};
-ghost use Rattle.cell_runs.specs.Runs.{KeepsRun, PartOfReport, PartOfRounds, TellsPart, TellsRun, WritesReport, WritesRounds, limits_of};
+ghost use Rattle.cell_runs.specs.Runs.{KeepsRun, PartOfReport, PartOfRounds, TellsPart, TellsRun, WritesReport, WritesRounds, kept_of, limits_of};
 
 use crate::inputs::{Inputs, read_inputs};
 use crate::refused::refuse_input;
@@ -12,21 +12,29 @@ use cell_audit::{WatchedWriter, WriteFault};
 use cell_journal::Journal;
 use cell_lines::status;
 use cell_sim::{SimOperator, World};
-use cell_workers::{Report, run_cell};
+use cell_workers::{End, Plan, Report, run_cell};
 use std::alloc::AllocError;
 use std::io::Write;
 use std::sync::{Mutex, Wait};
 use std::thread::Threads;
 
-// Runs the simulated cell over a new world in rounds, writes what comes of it, and keeps the journal.
+/// What is kept of a run: its journal, how it ended, and what it was to do.
+#[derive(Drop)]
+pub struct KeptRun {
+    pub journal: Journal,
+    pub end: End,
+    pub plan: Plan,
+}
+
+// Runs the simulated cell over a new world in rounds, writes what comes of it, and keeps the run.
 fn write_rounds<R: AllocGlobal + Wait, W: Write>(
     rt: &R,
     inputs: Inputs,
     journal: bool,
     writer: &mut WatchedWriter<'_, W>,
-) -> Result<(u8, Option<Journal>), WriteFault>
+) -> Result<(u8, Option<KeptRun>), WriteFault>
     ensures writer { IsSameWriter writer.old writer.new }
-    ensures whole { IfOk result (λ ran. WritesRounds journal inputs.plan inputs.script (bytes_held W.contents writer.old) (bytes_held W.contents writer.new) ran.0 (option_map (λ j. j.entries) ran.1)) }
+    ensures whole { IfOk result (λ ran. WritesRounds journal inputs.plan inputs.script (bytes_held W.contents writer.old) (bytes_held W.contents writer.new) ran.0 (kept_of ran.1)) }
     ensures part { IsErr result → PartOfRounds journal inputs.plan inputs.script (bytes_held W.contents writer.old) (bytes_held W.contents writer.new) }
     ensures fault { IsErr result → has_refused writer.new ≡ true }
 {
@@ -40,22 +48,23 @@ fn write_rounds<R: AllocGlobal + Wait, W: Write>(
     match simulate(rt, &plan, &faults, script, &world, &mut hands) {
         Ok(outcome) => {
             let status = write_outcome(rt.alloc(), &outcome, journal, writer)?;
-            let Outcome { book, .. } = outcome;
-            Ok((status, Some(book.into_journal())))
+            let Outcome { book, end } = outcome;
+            let journal = book.into_journal();
+            Ok((status, Some(KeptRun { journal, end, plan })))
         }
         Err(AllocError) => Ok((status::OUT_OF_MEMORY, None)),
     }
 }
 
-// Runs the simulated cell over a new world by workers on threads, writes what comes of it, and keeps the journal.
+// Runs the simulated cell over a new world by workers on threads, writes what comes of it, and keeps the run.
 fn write_threads<R: AllocGlobal + Threads + Wait + Sync, W: Write>(
     rt: &R,
     inputs: Inputs,
     journal: bool,
     writer: &mut WatchedWriter<'_, W>,
-) -> Result<(u8, Option<Journal>), WriteFault>
+) -> Result<(u8, Option<KeptRun>), WriteFault>
     ensures writer { IsSameWriter writer.old writer.new }
-    ensures whole { IfOk result (λ ran. WritesReport journal (limits_of inputs.plan) (bytes_held W.contents writer.old) (bytes_held W.contents writer.new) ran.0 (option_map (λ j. j.entries) ran.1)) }
+    ensures whole { IfOk result (λ ran. WritesReport journal inputs.plan (bytes_held W.contents writer.old) (bytes_held W.contents writer.new) ran.0 (kept_of ran.1)) }
     ensures part { IsErr result → PartOfReport journal (limits_of inputs.plan) (bytes_held W.contents writer.old) (bytes_held W.contents writer.new) }
     ensures fault { IsErr result → has_refused writer.new ≡ true }
 {
@@ -71,15 +80,16 @@ fn write_threads<R: AllocGlobal + Threads + Wait + Sync, W: Write>(
     match run_cell(rt, alloc, &mut ports, &mut hands, script, &plan) {
         Ok(report) => {
             let status = write_report(alloc, &report, journal, writer)?;
-            let Report { journal, .. } = report;
-            Ok((status, Some(journal)))
+            let Report { journal, end, .. } = report;
+            Ok((status, Some(KeptRun { journal, end, plan })))
         }
         Err(error) => Ok((write_run_error(writer, error)?, None)),
     }
 }
 
-// Runs the simulated cell by its texts, writes what comes of it, and keeps the journal.
-fn run_kept<R: AllocGlobal + Threads + Wait + Sync, W: Write>(
+/// Runs the simulated cell by its texts, as `run_texts_kept` does, and writes what comes of it to a writer that notes whether
+/// a write of it was refused.
+pub fn run_texts_kept_watched<R: AllocGlobal + Threads + Wait + Sync, W: Write>(
     rt: &R,
     settings: &[u8],
     faults: &[u8],
@@ -87,10 +97,11 @@ fn run_kept<R: AllocGlobal + Threads + Wait + Sync, W: Write>(
     threads: bool,
     journal: bool,
     writer: &mut WatchedWriter<'_, W>,
-) -> Result<(u8, Option<Journal>), WriteFault>
+) -> Result<(u8, Option<KeptRun>), WriteFault>
     ensures writer { IsSameWriter writer.old writer.new }
-    ensures whole { IfOk result (λ ran. KeepsRun settings.now faults.now operator.now threads journal (bytes_held W.contents writer.old) (bytes_held W.contents writer.new) ran.0 (option_map (λ j. j.entries) ran.1)) }
+    ensures whole { IfOk result (λ ran. KeepsRun settings.now faults.now operator.now threads journal (bytes_held W.contents writer.old) (bytes_held W.contents writer.new) ran.0 (kept_of ran.1)) }
     ensures part { IsErr result → TellsPart settings.now faults.now operator.now threads journal (bytes_held W.contents writer.old) (bytes_held W.contents writer.new) }
+    // It answers that the writer failed only where a write was refused.
     ensures fault { IsErr result → has_refused writer.new ≡ true }
 {
     match read_inputs(rt.alloc(), settings, faults, operator) {
@@ -122,7 +133,9 @@ pub fn run_texts_watched<R: AllocGlobal + Threads + Wait + Sync, W: Write>(
     // It answers that the writer failed only where a write was refused.
     ensures fault { IsErr result → has_refused writer.new ≡ true }
 {
-    let (status, _journal) = run_kept(rt, settings, faults, operator, threads, journal, writer)?;
+    let (status, _kept) = run_texts_kept_watched(
+        rt, settings, faults, operator, threads, journal, writer,
+    )?;
     Ok(status)
 }
 
@@ -136,7 +149,8 @@ pub fn run_texts_watched<R: AllocGlobal + Threads + Wait + Sync, W: Write>(
 /// `quarantined` and `delivered`, each with its number; with `journal` its journal's text alone. On threads the line
 /// `journal disagrees` (1) is told alone where an actor's entries in the journal aren't its worker's. Where memory is
 /// refused before the run, or a thread, nothing is written, status 4; where it is refused while the journal's text is
-/// written, a first part of that text was, status 4. `WriteFault` comes only where the writer failed.
+/// written, a first part of that text was, status 4. That `WriteFault` comes only where a refused write was noted is a clause
+/// of `run_texts_watched`, of which this is the case of a new writer that notes.
 ///
 /// On threads no clause says that a run which is told as `finished` is.
 pub fn run_texts<R: AllocGlobal + Threads + Wait + Sync, W: Write>(
@@ -165,8 +179,9 @@ pub fn run_texts<R: AllocGlobal + Threads + Wait + Sync, W: Write>(
     )
 }
 
-/// Runs the simulated cell by its texts, as `run_texts` does, and gives besides the exit status the journal of the run, if it
-/// left one: where no text is refused, and memory and threads are to be had.
+/// Runs the simulated cell by its texts, as `run_texts` does, and gives besides the exit status what is kept of the run, if it
+/// left a journal: where no text is refused, and memory and threads are to be had. It is `run_texts_kept_watched` over a new
+/// writer that notes.
 pub fn run_texts_kept<R: AllocGlobal + Threads + Wait + Sync, W: Write>(
     rt: &R,
     settings: &[u8],
@@ -175,13 +190,13 @@ pub fn run_texts_kept<R: AllocGlobal + Threads + Wait + Sync, W: Write>(
     threads: bool,
     journal: bool,
     writer: &mut W,
-) -> Result<(u8, Option<Journal>), WriteFault>
-    // The journal is that of the run which was written.
-    ensures whole { IfOk result (λ ran. KeepsRun settings.now faults.now operator.now threads journal (W.contents writer.old) (W.contents writer.new) ran.0 (option_map (λ j. j.entries) ran.1)) }
+) -> Result<(u8, Option<KeptRun>), WriteFault>
+    // The journal, the end and the plan are those of the run which was written.
+    ensures whole { IfOk result (λ ran. KeepsRun settings.now faults.now operator.now threads journal (W.contents writer.old) (W.contents writer.new) ran.0 (kept_of ran.1)) }
     ensures part { IsErr result → TellsPart settings.now faults.now operator.now threads journal (W.contents writer.old) (W.contents writer.new) }
 {
     let mut writer = WatchedWriter::new(writer);
-    run_kept(
+    run_texts_kept_watched(
         rt,
         settings,
         faults,

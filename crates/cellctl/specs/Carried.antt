@@ -39,11 +39,11 @@ IsWrong old new old_errors new_errors status = (status ≡ 2) × (new ≡ old) �
 
 -- the cell is shown as a text's good entries left it, or so many of them
 abbrev pub IsShown : Option ℕ → Option (List ℕ) → Option (List ℕ) → Option (List ℕ) → ℕ → Type 0
-IsShown entry text old new status = TellsStatus text status × (1 < status → new ≡ old) × (status ≤ 1 → IfSome text (HasEntry entry))
+IsShown entry text old new status = TellsStatus (rows_in text) status × (1 < status → new ≡ old) × (status ≤ 1 → IfSome (rows_in text) (HasEntry entry))
 
 -- a text has fewer good entries than these, or too many for a page
 abbrev pub HasNone : Option ℕ → Option (List ℕ) → Type 0
-HasNone entry text = (why : ShowError) × AsksPast entry why × IfSome text (TellsEntries why)
+HasNone entry text = (why : ShowError) × AsksPast entry why × IfSome (rows_in text) (TellsEntries why)
 
 -- the cell is shown; or the text hasn't got what was asked for, which is told
 abbrev pub Shows : Option ℕ → Option (List ℕ) → Option (List ℕ) → Option (List ℕ) → Option (List ℕ) → Option (List ℕ) → ℕ → Type 0

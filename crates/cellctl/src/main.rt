@@ -67,7 +67,9 @@ fn finish<W: Write, E: Write>(
     if let Some(ending) = ending {
         write_ending(
             alloc,
-            &ending.journal,
+            &ending.run.journal,
+            ending.run.end,
+            &ending.run.plan,
             ending.faults.as_slice(),
             ending.operator.as_slice(),
             errors,

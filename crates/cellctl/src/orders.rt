@@ -5,9 +5,8 @@ ghost use Rattle.cellctl.specs.Carried.{CarriesOut, RunsFiles};
 use crate::explain::explain_words;
 use crate::show::show_words;
 use cell_command::{Order, Paths, Running};
-use cell_journal::Journal;
 use cell_lines::{WriteFault, audit_lines, migrate_lines};
-use cell_runs::run_texts_kept;
+use cell_runs::{KeptRun, run_texts_kept};
 use cell_settings::check_lines;
 use std::io::{Read, Write};
 use std::rt::Files;
@@ -24,10 +23,10 @@ pub(crate) struct Carried {
     pub(crate) ending: Option<Ending>,
 }
 
-/// The journal of a run, and its scripts.
+/// What is kept of a run, and its scripts.
 #[derive(Drop)]
 pub(crate) struct Ending {
-    pub(crate) journal: Journal,
+    pub(crate) run: KeptRun,
     pub(crate) faults: Vec<u8>,
     pub(crate) operator: Vec<u8>,
 }
@@ -85,13 +84,13 @@ fn run_files<R: AllocGlobal + Files + Threads + Wait + Sync, W: Write>(
         running.journal,
         output,
     );
-    let (status, journal) = match ran {
+    let (status, kept) = match ran {
         Ok(ran) => ran,
         Err(WriteFault) => return Ok(without_ending(Err(WriteFault))),
     };
-    let ending = match journal {
-        Some(journal) if running.explain => Some(Ending {
-            journal,
+    let ending = match kept {
+        Some(run) if running.explain => Some(Ending {
+            run,
             faults,
             operator,
         }),

@@ -6,7 +6,7 @@ use std::process::Abort;
 use std::sync::Wait;
 use std::thread::Threads;
 
-const SIX: &[u8] = b"plates = 6";
+const SIX: &str = "plates = 6";
 
 // The second press fails in its first motion. The first press sets out 15 times, so its fault is never reached.
 const FAULTS: &str = "press_two,1,no_motion,\npress_one,99,no_motion,\n";
@@ -15,7 +15,7 @@ const FAULTS: &str = "press_two,1,no_motion,\npress_one,99,no_motion,\n";
 const WAITING: &str = "\
 press 2 is failed since entry 132: an axis is still where it started
 plate 2 is at press 2; next is \"press 2: forges plate 2\", but press 2 is booked failed
-line 1 of the operator's script isn't done: it waits for 6 plates to be delivered, and 5 are
+record 1 of the operator's script isn't done: it waits for 6 plates to be delivered, and 5 are
 the fault in motion 99 of press 1 was never reached: it set out 15 times
 ";
 
@@ -23,7 +23,7 @@ the fault in motion 99 of press 1 was never reached: it set out 15 times
 const REFUSED: &str = "\
 press 2 is failed since entry 132: an axis is still where it started
 plate 2 is at press 2; next is \"press 2: forges plate 2\", but press 2 is booked failed
-line 1 of the operator's script isn't done: a plate is still at press 2
+record 1 of the operator's script isn't done: a plate is still at press 2
 the fault in motion 99 of press 1 was never reached: it set out 15 times
 ";
 
@@ -40,9 +40,10 @@ const RUNS: [(&str, &str, &str, &str); 3] = [
     ("x", "", "faults unreadable 1\n", ""),
 ];
 
-// What is written and said of a run in rounds of six plates, whose status is 1.
+// What is written and said of a run in rounds, whose status is 1.
 fn check_run<R: AllocGlobal + Abort + Threads + Wait + Sync>(
     rt: &R,
+    settings: &str,
     faults: &str,
     operator: &str,
     lines: &str,
@@ -51,7 +52,15 @@ fn check_run<R: AllocGlobal + Abort + Threads + Wait + Sync>(
     let alloc = rt.alloc();
     let (faults, script) = (faults.as_bytes(), operator.as_bytes());
     let mut written = Vec::new(alloc);
-    let ran = run_texts_kept(rt, SIX, faults, script, false, false, &mut written);
+    let ran = run_texts_kept(
+        rt,
+        settings.as_bytes(),
+        faults,
+        script,
+        false,
+        false,
+        &mut written,
+    );
     let Ok((1, kept)) = ran else {
         panic!(rt; "the status of {operator}");
     };
@@ -61,8 +70,16 @@ fn check_run<R: AllocGlobal + Abort + Threads + Wait + Sync>(
         "what is kept of {operator}"
     );
     let mut said = Vec::new(alloc);
-    if let Some(journal) = kept {
-        let answer = write_ending(alloc, &journal, faults, script, &mut said);
+    if let Some(run) = kept {
+        let answer = write_ending(
+            alloc,
+            &run.journal,
+            run.end,
+            &run.plan,
+            faults,
+            script,
+            &mut said,
+        );
         assert!(rt; answer.is_ok(), "what is said of {operator}");
     }
     check_said(rt, operator, said.as_slice(), wanted);
@@ -71,6 +88,27 @@ fn check_run<R: AllocGlobal + Abort + Threads + Wait + Sync>(
 #[test]
 fn a_run_that_stalled_is_told_by_what_it_waits_for(rt: HostRuntime) {
     for (faults, operator, lines, wanted) in RUNS {
-        check_run(&rt, faults, operator, lines, wanted);
+        check_run(&rt, SIX, faults, operator, lines, wanted);
+    }
+}
+
+// Settings by whose limits a run of six plates ends, the first of its lines, and what is said of that end first.
+const LIMITED: [(&str, &str, &str); 2] = [
+    (
+        "plates = 6\njournal_limit = 1",
+        "full\n…",
+        "the journal is full (journal_limit = 1)\n6 plates weren't admitted\n…",
+    ),
+    (
+        "plates = 6\nturns = 1",
+        "turn limit\n…",
+        "the turns are used up (turns = 1)\n6 plates weren't admitted\n…",
+    ),
+];
+
+#[test]
+fn the_limit_that_ended_a_run_is_told_first(rt: HostRuntime) {
+    for (settings, lines, wanted) in LIMITED {
+        check_run(&rt, settings, "", "", lines, wanted);
     }
 }

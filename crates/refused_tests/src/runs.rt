@@ -4,7 +4,7 @@ use cell_audit::{AuditError, audit};
 use cell_endings::write_ending;
 use cell_journal::Journal;
 use cell_lines::WriteFault;
-use cell_runs::run_texts_kept;
+use cell_runs::{KeptRun, run_texts_kept};
 use cell_samples::{CLEARED_PRESS, STUCK_PRESS, call_begins, call_ends};
 use cell_types::Totals;
 use std::alloc::Global;
@@ -153,7 +153,7 @@ fn keep<R: AllocGlobal + Abort + Threads + Wait + Sync>(
     rt: &R,
     texts: Texts,
     marked: bool,
-) -> Result<(Vec<u8>, u8, Option<Journal>), Fail> {
+) -> Result<(Vec<u8>, u8, Option<KeptRun>), Fail> {
     let alloc = rt.alloc();
     let [settings, faults, operator] = texts;
     let [settings, faults, operator] = [
@@ -170,7 +170,7 @@ fn keep<R: AllocGlobal + Abort + Threads + Wait + Sync>(
         call_ends(alloc, matches!(&answer, Ok((4, _))));
     }
     match answer {
-        Ok((status, journal)) => Ok((written, status, journal)),
+        Ok((status, run)) => Ok((written, status, run)),
         Err(WriteFault) => panic!(rt; "there is room for all that is written"),
     }
 }
@@ -185,11 +185,11 @@ fn begins(journal: &Journal, whole: &Journal) -> bool {
 }
 
 // The length of a journal that was kept, whose entries are the first of another's.
-fn check_kept(rt: &impl Abort, journal: &Option<Journal>, whole: &Journal) -> Option<u32> {
-    match journal {
-        Some(journal) => {
-            assert!(rt; begins(journal, whole));
-            Some(journal.len())
+fn check_kept(rt: &impl Abort, kept: &Option<KeptRun>, whole: &Journal) -> Option<u32> {
+    match kept {
+        Some(run) => {
+            assert!(rt; begins(&run.journal, whole));
+            Some(run.journal.len())
         }
         None => None,
     }
@@ -199,7 +199,7 @@ fn check_kept(rt: &impl Abort, journal: &Option<Journal>, whole: &Journal) -> Op
 #[test]
 fn run_texts_kept_in_rounds(rt: HostRuntime) -> Result<(), Fail> {
     let (due, status, whole) = keep(&rt, SHORT, false)?;
-    let whole = whole.expect(&rt, "a journal");
+    let whole = whole.expect(&rt, "a run").journal;
     check_same(&rt, &"usually", &status, &0);
     let (written, status, journal) = keep(&rt, SHORT, true)?;
     let length = check_kept(&rt, &journal, &whole);
@@ -226,7 +226,7 @@ const STALLED: Texts = [
 fn ending(
     rt: &impl Abort,
     alloc: Global,
-    journal: &Journal,
+    run: &KeptRun,
     marked: bool,
 ) -> Result<(Vec<u8>, bool), Fail> {
     let [_, faults, operator] = STALLED;
@@ -236,7 +236,9 @@ fn ending(
     }
     let answer = write_ending(
         alloc,
-        journal,
+        &run.journal,
+        run.end,
+        &run.plan,
         faults.as_bytes(),
         operator.as_bytes(),
         &mut written,
@@ -253,14 +255,14 @@ fn ending(
 #[test]
 fn write_ending_of_a_stalled_run(rt: HostRuntime) -> Result<(), Fail> {
     let alloc = rt.alloc();
-    let (_, status, journal) = keep(&rt, STALLED, false)?;
-    let journal = journal.expect(&rt, "a journal");
+    let (_, status, run) = keep(&rt, STALLED, false)?;
+    let run = run.expect(&rt, "a run");
     check_same(&rt, &"the status", &status, &1);
-    let (due, wanted) = ending(&rt, alloc, &journal, false)?;
+    let (due, wanted) = ending(&rt, alloc, &run, false)?;
     assert!(rt; !wanted);
     let ends = due.iter().filter(|byte| **byte == b'\n').count();
     check_same(&rt, &"how many lines", &ends, &4);
-    let (written, wanted) = ending(&rt, alloc, &journal, true)?;
+    let (written, wanted) = ending(&rt, alloc, &run, true)?;
     if wanted {
         assert!(rt; due.as_slice().starts_with(written.as_slice()));
     } else {

@@ -1,7 +1,7 @@
 use Rattle.std.proofs.Common.{◌≡◌, take}
-use Rattle.cell_endings.specs.Plates.{greatest}
+use Rattle.cell_endings.specs.Endings.{limits_of}
 use Rattle.cell_endings.proofs.ending.book_of.Given as goal
 
 -- the entries so far are booked
 abbrev pub invariant-loop-place : goal.invariant-loop-place
-invariant-loop-place l = l.book ≡ record { limits = greatest; entries = take l.place l.journal.entries }
+invariant-loop-place l = l.book ≡ record { limits = limits_of l.plan; entries = take l.place l.journal.entries }

@@ -4,5 +4,5 @@ use Rattle.cell_runs.proofs.texts.write_rounds.Goals as goal
 
 pub returns-in-Ok-clause-whole : goal.returns-in-Ok-clause-whole
 returns-in-Ok-clause-whole g c =
-    rw (ap (λ (s : Stored). s.entries) c.into_journal.ensures)
+    rw (ap (λ (s : Stored). s.entries) c.into_journal-journal.ensures)
     (c.in_ok-status-in-Ok.ensures.whole c.args.inputs.plan c.args.inputs.script c.in-Ok.ensures.run)

@@ -1,6 +1,6 @@
 use Rattle.std.proofs.Common.{Ok}
 use Rattle.std.proofs.lemmas.Result.{IfOk-weaker}
-use Rattle.cell_runs.proofs.texts.run_kept.Goals as goal
+use Rattle.cell_runs.proofs.texts.run_texts_kept_watched.Goals as goal
 
 pub returns-then-threads-clause-whole : goal.returns-then-threads-clause-whole
 returns-then-threads-clause-whole g c =
