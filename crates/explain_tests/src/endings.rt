@@ -40,12 +40,13 @@ const RUNS: [(&str, &str, &str, &str); 3] = [
     ("x", "", "faults unreadable 1\n", ""),
 ];
 
-// What is written and said of a run in rounds, whose status is 1.
+// What is written and said of a run in rounds, and its status.
 fn check_run<R: AllocGlobal + Abort + Threads + Wait + Sync>(
     rt: &R,
     settings: &str,
     faults: &str,
     operator: &str,
+    status: u8,
     lines: &str,
     wanted: &str,
 ) {
@@ -61,9 +62,10 @@ fn check_run<R: AllocGlobal + Abort + Threads + Wait + Sync>(
         false,
         &mut written,
     );
-    let Ok((1, kept)) = ran else {
-        panic!(rt; "the status of {operator}");
+    let Ok((ended, kept)) = ran else {
+        panic!(rt; "no writer failed at {operator}");
     };
+    assert!(rt; ended == status, "the status of {operator}");
     check_said(rt, operator, written.as_slice(), lines);
     assert!(rt;
         kept.is_some() != wanted.is_empty(),
@@ -88,7 +90,7 @@ fn check_run<R: AllocGlobal + Abort + Threads + Wait + Sync>(
 #[test]
 fn a_run_that_stalled_is_told_by_what_it_waits_for(rt: HostRuntime) {
     for (faults, operator, lines, wanted) in RUNS {
-        check_run(&rt, SIX, faults, operator, lines, wanted);
+        check_run(&rt, SIX, faults, operator, 1, lines, wanted);
     }
 }
 
@@ -109,6 +111,53 @@ const LIMITED: [(&str, &str, &str); 2] = [
 #[test]
 fn the_limit_that_ended_a_run_is_told_first(rt: HostRuntime) {
     for (settings, lines, wanted) in LIMITED {
-        check_run(&rt, settings, "", "", lines, wanted);
+        check_run(&rt, settings, "", "", 1, lines, wanted);
+    }
+}
+
+// Four plates, of which one is cleared from the feed belt's end and laid back.
+const LAID_BACK: &str = "\
+failed,feed,clear,feed_end
+failed,feed,repair,feed
+always,,expect,1
+";
+
+// The table is stopped before a plate is on it, and then none comes.
+const WAITS: &str = "\
+admitted,1,stop,table
+failed,table,clear,table
+failed,table,repair,table
+";
+
+const TABLE_WAITS: &str = "\
+3 plates weren't admitted
+the table is failed since entry 5: the operator asked for the stop
+plate 1 is at the feed belt's end; next is \"feed belt: starts to go to the table\", but the table, the owner, is booked failed
+record 2 of the operator's script isn't done: it waits for a plate at the table, and none is there
+";
+
+// The faults, the operator's script, the status, the first line, and what is said.
+const COUNTED: [(&str, &str, u8, &str, &str); 3] = [
+    (
+        "feed_belt,2,no_motion,",
+        LAID_BACK,
+        0,
+        "finished\n…",
+        "1 plate was laid back\n",
+    ),
+    ("", WAITS, 1, "stalled\n…", TABLE_WAITS),
+    (
+        "",
+        "quarantined,1,stop,press1\n",
+        0,
+        "finished\n…",
+        "record 1 of the operator's script isn't done: it waits for 1 plate to be taken into quarantine, and 0 were\n",
+    ),
+];
+
+#[test]
+fn plates_are_counted_and_a_record_waits_by_its_number(rt: HostRuntime) {
+    for (faults, operator, status, lines, wanted) in COUNTED {
+        check_run(&rt, "plates = 4", faults, operator, status, lines, wanted);
     }
 }
