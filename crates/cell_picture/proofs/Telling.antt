@@ -1,14 +1,9 @@
 -- Facts that show what a journal tells, and have a place for each word, are those that the journal tells
-use Rattle.std.proofs.Common.{◌≡◌, ◌↔◌, ◌<◌, ◌-◌, ℕ, Bool, true, false, List, Option, Some, None, refl, sym, ap, ◌∙◌, arith}
+use Rattle.std.proofs.Common.{◌≡◌, ◌↔◌, ◌<◌, ◌-◌, ℕ, Bool, true, false, List, Option, Some, None, refl, ap, ◌∙◌, arith}
 use Rattle.std.specs.Prelude.{nat_lt}
 use Rattle.std.specs.List.{count_by}
 use Rattle.std.specs.Option.{option_map}
-use Rattle.cell_types.specs.declared.words.AxisState.{AxisState}
-use Rattle.cell_types.specs.declared.words.Machine.{Machine}
-use Rattle.cell_types.specs.declared.words.Colour.{Colour}
 use Rattle.cell_types.specs.declared.words.Colour.TheVariants as colour
-use Rattle.cell_types.specs.declared.words.Station.{Station}
-use Rattle.cell_types.specs.declared.words.Totals.{Totals}
 use Rattle.cell_types.specs.declared.words.Entry.{Entry}
 use Rattle.cell_types.specs.Same.{axis_number, station_number, zone_number, machine_number, belt_number}
 use Rattle.cell_types.specs.Texts.{all_station, all_axis, all_zone, all_machine, all_belt}
