@@ -3,6 +3,16 @@ use Rattle.std.specs.Prelude.{◌==◌, ◌&&◌, ℕ, List, [], ◌∷◌, ◌+
 use Rattle.plate_book.specs.declared.refusal.Refusal.{Refusal}
 use Rattle.plate_book.specs.Rules.Words.{refusal_text}
 use Rattle.cell_sentences.specs.Sentences.{entry_deed, refusal_sentence}
+use Rattle.std.specs.Prelude.{Option, Some, None}
+use Rattle.cell_types.specs.declared.words.AxisState.{AxisState}
+use Rattle.cell_types.specs.declared.words.Pose.{Pose}
+use Rattle.cell_sentences.specs.Names.{arm_name, pose_name, station_name, way_to_pose}
+use Rattle.cell_sentences.specs.Sentences.{plate_name}
+use Rattle.cell_explain.specs.declared.due.Circumstances.{Circumstances}
+use Rattle.cell_explain.specs.declared.due.Due.{Due}
+use Rattle.cell_explain.specs.declared.due.Due.TheVariants as due
+use Rattle.cell_explain.specs.declared.due.Need.{Need}
+use Rattle.cell_explain.specs.declared.due.Need.TheVariants as need
 use Rattle.cell_explain.specs.declared.telling.Since.{Since}
 use Rattle.cell_explain.specs.declared.telling.Since.TheVariants as since
 use Rattle.cell_explain.specs.declared.wanted.Trouble.{Trouble}
@@ -40,7 +50,7 @@ words_text words.Task = codes "stop, clear, repair, expect"
 -- what may stand in a field
 abbrev pub wanted_text : Wanted → List ℕ
 wanted_text (wanted.Word words) = codes "one of " ++ words_text words
-wanted_text (wanted.Number low most) = codes "a number from " ++ (decimal low ++ (codes " to " ++ decimal most))
+wanted_text (wanted.Number low most) = codes "a number from " ++ (decimal low ++ (codes " to " ++ (decimal most ++ codes ", in digits alone, with no 0 in front")))
 wanted_text wanted.Nothing = codes "nothing"
 
 -- a number from 2 to 12 in words; nothing for another
@@ -97,12 +107,45 @@ since_text since.Opening = codes ", from the start on"
 since_text (since.Entry n e) = codes ", since entry " ++ (decimal n ++ (codes " " ++ entry_deed e))
 since_text since.Always = []
 
+-- what an entry needs of an axis
+abbrev pub need_text : Need → List ℕ
+need_text need.Still = codes ", and it has to stand still"
+need_text (need.Pose p) = codes ", and it has to be " ++ pose_name p
+need_text (need.Going p) = codes ", and it has to be going " ++ way_to_pose p
+need_text (need.Facing s) = codes ", and it has to face " ++ station_name s
+need_text (need.FacingAny a) = codes ", and it has to face a place of " ++ arm_name a
+need_text need.Elsewhere = codes " already"
+need_text need.Untold = []
+
+-- where an axis is at rest, or goes
+abbrev pub where_text : Pose → Option Pose → List ℕ
+where_text at None = codes "its pose is " ++ pose_name at
+where_text at (Some to) = codes "it goes " ++ way_to_pose to
+
+abbrev pub whereabouts_text : AxisState → List ℕ
+whereabouts_text state = where_text state.at state.going
+
+-- what is so where an entry is refused, beside the refusal
+abbrev pub due_text : Due → List ℕ
+due_text due.Nothing = []
+due_text (due.NextPlate n) = codes "; the next plate is " ++ decimal n
+due_text (due.PlateThere (Some k)) = codes "; " ++ (plate_name k ++ codes " is there")
+due_text (due.PlateThere None) = codes "; no plate is there"
+due_text (due.PlateExpected (Some k)) = codes "; " ++ (plate_name k ++ codes " is expected")
+due_text (due.PlateExpected None) = codes "; no plate is expected"
+due_text due.NoMotion = codes "; it has no such motion"
+due_text (due.Axis state needed) = codes "; " ++ (whereabouts_text state ++ need_text needed)
+
+-- since when an entry is refused, and what is so beside
+abbrev pub circumstances_text : Circumstances → List ℕ
+circumstances_text made = since_text made.since ++ due_text made.due
+
 -- the line of a refused entry: the line in which its record begins, its number, the record, the refusal, the same as a
--- sentence, and since when it is so
-abbrev pub refused_line : ℕ → ℕ → List ℕ → Refusal → Since → List ℕ
+-- sentence, since when it is so, and what is so beside
+abbrev pub refused_line : ℕ → ℕ → List ℕ → Refusal → Circumstances → List ℕ
 refused_line line number bytes why made =
     codes "line " ++ (decimal line ++ (codes ", entry " ++ (decimal number ++ (codes ": " ++ (shown bytes ++ (codes ": " ++ (refusal_text why
-    ++ (codes ": " ++ (refusal_sentence why ++ (since_text made ++ 10 ∷ []))))))))))
+    ++ (codes ": " ++ (refusal_sentence why ++ (circumstances_text made ++ 10 ∷ []))))))))))
 
 -- the line of a good script of this name: how many lines it has
 abbrev pub good_line : List ℕ → ℕ → List ℕ

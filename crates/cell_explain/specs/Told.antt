@@ -10,6 +10,7 @@ use Rattle.cell_audit.specs.declared.error.AuditError.TheVariants as error
 use Rattle.cell_audit.specs.Reading.{SpellsFirst}
 use Rattle.cell_audit.specs.Watched.{WritesPart}
 use Rattle.cell_lines.specs.Lines.{IsAnswer, lines_of, status_of}
+use Rattle.cell_explain.specs.declared.due.Circumstances.{Circumstances}
 use Rattle.cell_explain.specs.declared.telling.Since.{Since}
 use Rattle.cell_explain.specs.declared.telling.Since.TheVariants as since
 use Rattle.cell_explain.specs.declared.wanted.Trouble.{Trouble}
@@ -50,11 +51,12 @@ IsSince J since.Opening = ⊤
 IsSince J (since.Entry n e) = (place : ℕ) × (n ≡ place + 1) × (slice_get J place ≡ Some e)
 IsSince J since.Always = ⊤
 
--- what is said of a refused entry: its line, its number, its record, the refusal, and since which of the entries before it
+-- what is said of a refused entry: its line, its number, its record, the refusal, since which of the entries before it, and what
+-- is so beside
 abbrev pub SaysRefused : List ℕ → ℕ → Refusal → List ℕ → Type 0
 SaysRefused text number why saying =
-    (line : ℕ) × (bytes : List ℕ) × (J : List Entry) × (made : Since) × StandsIn text bytes × SpellsFirst J (rows_of text) × (length J + 1 ≡ number)
-    × IsSince J made × (saying ≡ refused_line line number bytes why made)
+    (line : ℕ) × (bytes : List ℕ) × (J : List Entry) × (made : Circumstances) × StandsIn text bytes × SpellsFirst J (rows_of text)
+    × (length J + 1 ≡ number) × IsSince J made.since × (saying ≡ refused_line line number bytes why made)
 
 -- what is said of a record of a journal that can't be read; record 0 is the profile's
 abbrev pub SaysUnreadable : List ℕ → ℕ → List ℕ → Type 0

@@ -6,12 +6,13 @@ ghost use Rattle.cell_explain.specs.Explained.{EndsAsAudit};
 ghost use Rattle.cell_explain.specs.Sayings.{refused_line};
 ghost use Rattle.cell_explain.specs.Told.{IsSince, SaysAudit, SaysJournal, SaysRefusal, SaysRefused, SaysUnreadable, Tells, TellsPart};
 
+use crate::due::{Circumstances, Due, due_of};
 use crate::fields::Fields;
 use crate::grammar::entry_fields;
 use crate::places::{Record, record_of};
 use crate::said::Said;
 use crate::shown::shown;
-use crate::telling::{Since, told};
+use crate::telling::{Since, left_by, told};
 use crate::unread::record_line;
 use crate::wanted::Trouble;
 use cell_audit::{AuditError, WatchedWriter, WriteFault, audit_text, read_journal};
@@ -52,13 +53,21 @@ fn unreadable_line(alloc: Global, text: &[u8], place: u32) -> Result<String, All
     record_line(alloc, record, "entry", place, trouble)
 }
 
-// Since when it is so that the entry of a record is refused after those of a journal.
-fn since(journal: &Journal, record: &[u8], why: Refusal) -> Since
-    ensures { IsSince journal.now.entries result }
+// Since when it is so that the entry of a record is refused after those of a journal, and what it needs.
+fn circumstances(journal: &Journal, record: &[u8], why: Refusal) -> Circumstances
+    ensures { IsSince journal.now.entries result.since }
 {
-    match Fields::of(record).entry() {
-        Some(entry) => told(journal, entry, why),
-        None => Since::Always,
+    let Some(entry) = Fields::of(record).entry() else {
+        return Circumstances {
+            since: Since::Always,
+            due: Due::Nothing,
+        };
+    };
+    let left = left_by(journal);
+    let refused = entry;
+    Circumstances {
+        since: told(journal, entry, why, &left),
+        due: due_of(why, refused, &left),
     }
 }
 
@@ -68,14 +77,14 @@ fn refused_line(
     record: Record<'_>,
     place: u32,
     why: Refusal,
-    since: Since,
+    made: Circumstances,
 ) -> Result<String, AllocError>
-    ensures { IfOk result (λ text. string_bytes text ≡ refused_line record.entry.line place record.entry.bytes.now why since) }
+    ensures { IfOk result (λ text. string_bytes text ≡ refused_line record.entry.line place record.entry.bytes.now why made) }
 {
     let Record { line, bytes } = record;
     let shown = shown(alloc, bytes)?;
     let sentence = RefusalSentence(why);
-    format!(in alloc; "line {line}, entry {place}: {shown}: {why}: {sentence}{since}\n")
+    format!(in alloc; "line {line}, entry {place}: {shown}: {why}: {sentence}{made}\n")
 }
 
 // What is said of a text whose entry at a place isn't allowed, by a second reading into a book. That gives the same answer,
@@ -89,7 +98,7 @@ fn say_refused(alloc: Global, text: &[u8], place: u32, why: Refusal) -> Said
     match reading.answer {
         Err(AuditError::Refused(again, _)) if again == place => {
             let record = record_of(text, place);
-            let made = since(reading.book.journal(), record.bytes, why);
+            let made = circumstances(reading.book.journal(), record.bytes, why);
             Said::line(
                 alloc,
                 status::REFUSED,

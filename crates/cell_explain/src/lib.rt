@@ -1,6 +1,7 @@
 //! Why a text is refused, in sentences: a journal, a script of faults or the operator's, settings.
 #![tactic(auto)]
 
+mod due;
 mod fields;
 mod grammar;
 mod journal;

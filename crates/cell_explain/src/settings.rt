@@ -77,8 +77,8 @@ fn number_at(path: &str) -> &'static str {
         "plates" => "a whole number from 1 to 100000",
         "journal_limit" => "a whole number from 1 to 1000000",
         "turns" => "a whole number from 1 to 10000000",
-        _ if path.ends_with(".leave") => "a whole number from 2 to 999",
-        _ => "a whole number above leave, to 1000",
+        _ if path.ends_with(".leave") => "a whole number from 2 to 999; 3 where none is given",
+        _ => "a whole number above leave, to 1000; 20 where none is given",
     }
 }
 
@@ -93,6 +93,10 @@ fn key_at(path: &str) -> &'static str {
         }
         (_, _, None) => {
             "no such axis, but feed_belt, table_lift, table_turn, robot_turn, arm_one, arm_two, press_one, press_two and deposit_belt"
+        }
+        (Some("watch"), Some(axis), Some("leave" | "limit"))
+            if keys.next().is_none() && read_axis(axis.as_bytes()).is_some() => {
+            "in quotes this is one key, which settings don't have: it is written without quotes"
         }
         _ => "no such key, but leave and limit",
     }

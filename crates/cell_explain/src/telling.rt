@@ -90,8 +90,8 @@ fn step(state: &mut Snapshot, entry: Entry) {
     }
 }
 
-// What all entries of a journal leave.
-fn left_by(journal: &Journal) -> Snapshot {
+/// What all entries of a journal leave.
+pub(crate) fn left_by(journal: &Journal) -> Snapshot {
     let mut state = Snapshot::opening();
     for place in 0..journal.len() {
         if let Some(entry) = journal.get(place) {
@@ -154,8 +154,8 @@ fn plate_of(entry: Entry) -> Option<PlateId> {
     }
 }
 
-// The station at which an entry wants its plate to be.
-fn station_of(entry: Entry) -> Option<Station> {
+/// The station at which an entry wants its plate to be.
+pub(crate) fn station_of(entry: Entry) -> Option<Station> {
     match entry {
         Entry::Conveyed { axis, dest, .. } => Some(motion_to(axis, dest)?.from),
         Entry::Forged { press, .. } => Some(press_of(press)?.station),
@@ -231,13 +231,13 @@ fn since_named(journal: &Journal, entry: Entry, why: Refusal) -> Since
     }
 }
 
-/// Since when it is so that an entry is refused after those of a journal. It is told in two passes over the journal.
-pub(crate) fn told(journal: &Journal, entry: Entry, why: Refusal) -> Since
+/// Since when it is so that an entry is refused after those of a journal, which leave this. It is told in a pass over the
+/// journal.
+pub(crate) fn told(journal: &Journal, entry: Entry, why: Refusal, left: &Snapshot) -> Since
     ensures { IsSince journal.now.entries result }
 {
-    let left = left_by(journal);
     let refused = entry;
-    match fact_of(why, entry, &left) {
+    match fact_of(why, entry, left) {
         Some(fact) => since_when(journal, &fact),
         None => since_named(journal, refused, why),
     }

@@ -39,7 +39,10 @@ impl fmt::Display for Wanted {
     fn fmt<W: fmt::Write>(&self, f: &mut fmt::Formatter<W>) -> fmt::Result {
         match *self {
             Wanted::Word(words) => write!(f, "one of {}", words.text()),
-            Wanted::Number(low, most) => write!(f, "a number from {low} to {most}"),
+            Wanted::Number(low, most) => write!(
+                f,
+                "a number from {low} to {most}, in digits alone, with no 0 in front"
+            ),
             Wanted::Nothing => write!(f, "nothing"),
         }
     }

@@ -27,7 +27,7 @@ const REFUSED: [(&str, &str); 12] = [
     ),
     (
         "profile,1,,\nlamp,feed,green,\nadmitted,2,,\n",
-        "line 3, entry 2: admitted,2,,: WrongPlate: the plate isn't the one that the entry has to name, from the start on\n",
+        "line 3, entry 2: admitted,2,,: WrongPlate: the plate isn't the one that the entry has to name, from the start on; the next plate is 1\n",
     ),
     (
         "profile,1,,\ndeclared,press2,silent,\nstarted,press_two,top,\n",
@@ -51,7 +51,7 @@ const REFUSED: [(&str, &str); 12] = [
     ),
     (
         "profile,1,,\nclaimed,table,z1,\nclaimed,table,z2,\nstarted,table_lift,high,\nstarted,table_lift,low,\n",
-        "line 5, entry 4: started,table_lift,low,: WrongPose table_lift: the table's lift isn't where it has to be, moves, or has no such motion, since entry 3 sent the table's lift high\n",
+        "line 5, entry 4: started,table_lift,low,: WrongPose table_lift: the table's lift isn't where it has to be, moves, or has no such motion, since entry 3 sent the table's lift high; it goes high, and it has to stand still\n",
     ),
     (
         "profile,1,,\nlamp,feed,green,\nadmitted,1,,\nlamp,feed,green,\n",
@@ -67,6 +67,38 @@ const REFUSED: [(&str, &str); 12] = [
     ),
 ];
 
+// An axis that isn't where an entry needs it is told with where it is, and what the entry needs.
+const OUT_OF_PLACE: [(&str, &str); 7] = [
+    (
+        "profile,1,,\nclaimed,table,z1,\nclaimed,table,z2,\nstarted,table_lift,low,\n",
+        "line 4, entry 3: started,table_lift,low,: WrongPose table_lift: the table's lift isn't where it has to be, moves, or has no such motion, from the start on; its pose is low already\n",
+    ),
+    (
+        "profile,1,,\nclaimed,press1,z3,\nstarted,press_one,bottom,\n",
+        "line 3, entry 2: started,press_one,bottom,: WrongPose press_one: press 1 isn't where it has to be, moves, or has no such motion, from the start on; its pose is middle, and it has to be top\n",
+    ),
+    (
+        "profile,1,,\nstarted,feed_belt,low,\n",
+        "line 2, entry 1: started,feed_belt,low,: WrongPose feed_belt: the feed belt isn't where it has to be, moves, or has no such motion, from the start on; it has no such motion\n",
+    ),
+    (
+        "profile,1,,\nforged,press1,1,\n",
+        "line 2, entry 1: forged,press1,1,: WrongPose press_one: press 1 isn't where it has to be, moves, or has no such motion, from the start on; its pose is middle, and it has to be going to the top\n",
+    ),
+    (
+        "profile,1,,\ngripped,arm1,1,table\n",
+        "line 2, entry 1: gripped,arm1,1,table: WrongPose arm_one: arm 1 isn't where it has to be, moves, or has no such motion, from the start on; its pose is in, and it has to be out\n",
+    ),
+    (
+        "profile,1,,\ndropped,arm1,1,press1\n",
+        "line 2, entry 1: dropped,arm1,1,press1: WrongPose robot_turn: the robot's turn isn't where it has to be, moves, or has no such motion, from the start on; its pose is at the table, and it has to face press 1\n",
+    ),
+    (
+        "profile,1,,\nclaimed,robot,z2,\nstarted,arm_one,out,\n",
+        "line 3, entry 2: started,arm_one,out,: WrongPose table_lift: the table's lift isn't where it has to be, moves, or has no such motion, from the start on; its pose is low, and it has to be high\n",
+    ),
+];
+
 // A plate that isn't expected is told by its last entry.
 const NOT_EXPECTED: [(&str, &str); 3] = [
     (
@@ -79,7 +111,7 @@ const NOT_EXPECTED: [(&str, &str); 3] = [
     ),
     (
         "profile,2,,\nreinstated,1,,\n",
-        "line 2, entry 1: reinstated,1,,: WrongPlate: the plate isn't the one that the entry has to name, from the start on\n",
+        "line 2, entry 1: reinstated,1,,: WrongPlate: the plate isn't the one that the entry has to name, from the start on; no plate is expected\n",
     ),
 ];
 
@@ -103,7 +135,7 @@ const UNREADABLE: [(&str, &str); 13] = [
     ),
     (
         "profile,1,,\nadmitted,0,,\n",
-        "line 2, entry 1: admitted,0,,: field 2: a number from 1 to 100000\n",
+        "line 2, entry 1: admitted,0,,: field 2: a number from 1 to 100000, in digits alone, with no 0 in front\n",
     ),
     (
         "profile,1,,\nclaimed,feed,z6,\n",
@@ -143,6 +175,7 @@ const UNREADABLE: [(&str, &str); 13] = [
 fn a_journal_is_explained(rt: HostRuntime) {
     check_texts(&rt, Kind::Journal, 0, &LEGAL);
     check_texts(&rt, Kind::Journal, 1, &REFUSED);
+    check_texts(&rt, Kind::Journal, 1, &OUT_OF_PLACE);
     check_texts(&rt, Kind::Journal, 1, &NOT_EXPECTED);
     check_texts(&rt, Kind::Journal, 1, &UNREADABLE);
 }

@@ -3,10 +3,18 @@ use crate::said::{Kind, check_texts};
 
 const GOOD: [(&str, &str); 1] = [("plates = 5\n", "settings ok\n")];
 
-const BAD: [(&str, &str); 5] = [
+const BAD: [(&str, &str); 7] = [
     (
         "plates = 5\n\n[watch.press_one]\nlimit = 2000\n",
-        "settings OutOfRange watch.press_one.limit\nline 4: watch.press_one.limit: a whole number above leave, to 1000\n",
+        "settings OutOfRange watch.press_one.limit\nline 4: watch.press_one.limit: a whole number above leave, to 1000; 20 where none is given\n",
+    ),
+    (
+        "plates = 5\nwatch.table_turn.leave = 30\n",
+        "settings OutOfRange watch.table_turn.limit\nwatch.table_turn.limit: a whole number above leave, to 1000; 20 where none is given\n",
+    ),
+    (
+        "plates = 5\n\"watch.press_one.limit\" = 1\n",
+        "settings UnknownKey watch.press_one.limit\nwatch.press_one.limit: in quotes this is one key, which settings don't have: it is written without quotes\n",
     ),
     (
         "turns = 5\n",
