@@ -109,10 +109,16 @@ refuse_calls() {
     wrong=$((wrong + $(awk '{ sum += $1 } END { print sum + 0 }' "$folder/tally") + $(wc -l < "$folder/tests") - $(wc -l < "$folder/tally")))
 }
 
+# Standard error has `out of memory`, and below it nothing or the line of the file for which there was none.
+has_want() {
+    [ "$(head -n 1 "$1")" = "out of memory" ] && ! tail -n +2 "$1" | grep -v -q '^cellctl: /.*: no memory for it$' &&
+        [ "$(wc -l < "$1")" -le 2 ]
+}
+
 # The program told want of memory: by its status and on standard error, and it had written a first part of what is due, or
 # the lines of a run that ended so.
 tells_want() {
-    [ "$status" = 4 ] && [ "$(cat "$folder/errors")" = "out of memory" ] || return 1
+    [ "$status" = 4 ] && has_want "$folder/errors" || return 1
     wanted=1
     [ "$(sed 's/ [0-9]*$//' "$folder/output" | tr '\n' ' ')" = "memory admitted forged quarantined delivered " ] ||
         head -c "$(wc -c < "$folder/output")" "$folder/due.output" | cmp -s - "$folder/output"
@@ -127,6 +133,11 @@ answer_is_right() {
     [ "$refused" != 0 ] && tells_want
 }
 
+# What was said of a run's end, but for how often a machine set out: that isn't the same each time where the run is on threads.
+without_motions() {
+    sed 's/: it set out [0-9]* times\{0,1\}$/: it set out/' "$1"
+}
+
 # What was said of a run's end before `out of memory`: a first part of what is due, after all that is due on standard output; or,
 # where the run ended for want of memory, lines on that end.
 is_part_of_ending() {
@@ -137,14 +148,19 @@ is_part_of_ending() {
             -e "^[0-9]* plates\{0,1\} w[a-z]*n't admitted$" -e '^[0-9]* plates\{0,1\} w[a-z]* laid back$' \
             "$folder/ending"
     else
+        without_motions "$folder/ending" > "$folder/said"
         cmp -s "$folder/output" "$folder/due.output" &&
-            head -c "$(wc -c < "$folder/ending")" "$folder/due.errors" | cmp -s - "$folder/ending"
+            without_motions "$folder/due.errors" | head -c "$(wc -c < "$folder/said")" | cmp -s - "$folder/said"
     fi
 }
 
 # The same of a run whose end is explained: where memory is refused, a part of that may stand before `out of memory`.
 ending_is_right() {
-    answer_is_right && return 0
+    if [ "$status" = "$due" ] && cmp -s "$folder/output" "$folder/due.output" &&
+        [ "$(without_motions "$folder/errors")" = "$(without_motions "$folder/due.errors")" ]; then
+        return 0
+    fi
+    [ "$refused" != 0 ] && tells_want && return 0
     [ "$refused" != 0 ] && [ "$status" = 4 ] && [ "$(tail -n 1 "$folder/errors")" = "out of memory" ] || return 1
     wanted=1
     is_part_of_ending
@@ -157,7 +173,7 @@ journal_is_right() {
     if [ "$status" = "$due" ] && tail -n +2 "$folder/audited" | cmp -s - "$folder/due.totals"; then
         return 0
     fi
-    [ "$refused" != 0 ] && [ "$status" = 4 ] && [ "$(cat "$folder/errors")" = "out of memory" ] || return 1
+    [ "$refused" != 0 ] && [ "$status" = 4 ] && has_want "$folder/errors" || return 1
     wanted=1
     ! grep -q '^refused' "$folder/audited"
 }
@@ -195,6 +211,10 @@ refuse_shown() {
     refuse_words answer_is_right "explain (a refused journal)" explain
     cp "$folder/unreadable.journal" "$folder/input"
     refuse_words answer_is_right "explain (an unreadable journal)" explain
+    refuse_words answer_is_right "audit (a file)" audit "$examples/whole.journal"
+    refuse_words answer_is_right "show --file" show --file "$examples/whole.journal" 30
+    refuse_words answer_is_right "show --file (more digits than any number)" show -f "$examples/whole.journal" 99999999999999999999
+    refuse_words answer_is_right "explain (a file)" explain "$examples/refused.journal"
     refuse_words answer_is_right "explain --settings (out of range)" explain --settings "$folder/refused.toml"
     refuse_words answer_is_right "explain --settings (no TOML)" explain --settings "$examples/press_fails.faults"
     refuse_words answer_is_right "explain --faults" explain --faults "$examples/press_fails.operator"

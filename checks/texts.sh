@@ -1,6 +1,6 @@
 #!/bin/bash
-# Gives the program hostile texts and outputs that fail, and looks for the answer that is due, within so many megabytes
-# and seconds, and never a signal. It prints a line for each with what it took, and fails where one is another.
+# Gives the program hostile texts, words, and files and outputs that fail, and looks for the answer that is due, within so many
+# megabytes and seconds, and never a signal. It prints a line for each with what it took, and fails where one is another.
 # Usage: checks/texts.sh     Build the program first: ./cellctl --prove does. CELLCTL names another one.
 set -u
 here=$(cd "$(dirname "$0")/.." && pwd) || exit 1
@@ -48,50 +48,102 @@ audit_texts() {
     measure '5 MB of commas after a quoted field' 'unreadable 1' 1 160 20 audit < <(printf "$good\"a\""; bytes $((5 * mega)) ,)
     measure 'a migration of 100 MB of letters' '' 1 12 20 migrate < <(printf "$good"; bytes $((100 * mega)) a)
     measure 'a picture of 100 MB of letters' 'After 0 entries: the opening' 1 12 20 show < <(printf "$good"; bytes $((100 * mega)) a)
-    measure 'an explanation of 50 MB of commas' 'line 2, entry 1: 52428801 fields, and not four' 1 150 20 explain < <(printf "$good"; bytes $((50 * mega)) ,)
-    measure 'an explanation of 10 MB of random bytes' 'line 1: the first record is profile,1,, or profile,2,,' 1 40 20 explain < <(head -c $((10 * mega)) /dev/urandom)
+    measure 'an explanation of 50 MB of commas' 'line 2, entry 1: a record of more than 65536 bytes' 1 8 20 explain < <(printf "$good"; bytes $((50 * mega)) ,)
+    measure 'an explanation of 60,000 commas' 'line 2, entry 1: 60001 fields, and not four' 1 8 20 explain < <(printf "$good"; bytes 60000 ,)
+    measure 'an explanation of 10 MB of random bytes' 'line 1: the first record is profile,1,, or profile,2,,' 1 32 20 explain < <(head -c $((10 * mega)) /dev/urandom)
 }
 
+# Settings of a million bytes, and longer ones.
 settings_texts() {
-    head -c $((10 * mega)) /dev/urandom > random
-    bytes $((10 * mega)) '"' > quotes
-    bytes $((10 * mega)) '\0' > zeros
-    { printf 'plates = '; bytes $((50 * mega)) 1; } > digits
-    { printf 'plates = "'; bytes $((50 * mega)) a; printf '"\n'; } > string
+    head -c 1000000 /dev/urandom > random
+    bytes 1000000 '"' > quotes
+    bytes 1000000 '\0' > zeros
+    { printf 'plates = '; bytes 1000000 1; } > digits
+    { printf 'plates = "'; bytes 1000000 a; printf '"\n'; } > string
     { printf 'plates = '; bytes 1000000 '['; } > arrays
-    { printf 'plates = '; bytes 1000000 '['; bytes 1000000 ']'; } > closed
+    { printf 'plates = '; bytes 500000 '['; bytes 500000 ']'; } > closed
     { bytes 1000000 '['; } > headers
     { printf 'plates = '; awk 'BEGIN { for (i = 0; i < 300000; i++) printf "{a=" }'; } > tables
     awk 'BEGIN { printf "a"; for (i = 0; i < 300000; i++) printf ".a"; print " = 1" }' > dotted
-    awk 'BEGIN { for (i = 0; i < 1000000; i++) print "key" i " = 1" }' > keys
-    awk 'BEGIN { print "plates = 1"; for (i = 0; i < 1000000; i++) print "[watch.w" i "]" }' > many
-    measure 'settings of 10 MB of random bytes' 'settings NotToml' 1 32 20 check random
-    measure '10 MB of quotes' 'settings NotToml' 1 32 20 check quotes
-    measure '10 MB of bytes 0' 'settings NotToml' 1 32 20 check zeros
-    measure 'a number of 50 MB' 'settings NotToml' 1 100 20 check digits
-    measure 'a string of 50 MB' 'settings NotNumber plates' 1 200 20 check string
+    awk 'BEGIN { for (i = 0; i < 80000; i++) print "key" i " = 1" }' > keys
+    awk 'BEGIN { print "plates = 1"; for (i = 0; i < 60000; i++) print "[watch.w" i "]" }' > many
+    awk 'BEGIN { for (i = 0; i < 6000; i++) { printf "k" i; for (j = 0; j < 79; j++) printf ".a"; print " = 1" } }' > parts
+    { printf 'plates = 1\n#'; bytes $((mega - 12)) a; } > longest
+    { cat longest; printf '\n'; } > longer
+    measure 'settings of 1 MB of random bytes' 'settings NotToml' 1 16 20 check random
+    measure '1 MB of quotes' 'settings NotToml' 1 16 20 check quotes
+    measure '1 MB of bytes 0' 'settings NotToml' 1 16 20 check zeros
+    measure 'a number of 1 MB' 'settings NotToml' 1 16 20 check digits
+    measure 'a string of 1 MB' 'settings NotNumber plates' 1 16 20 check string
     measure 'arrays 1,000,000 deep' 'settings NotToml' 1 16 20 check arrays
-    measure 'the same, closed' 'settings NotToml' 1 16 20 check closed
+    measure 'arrays 500,000 deep, closed' 'settings NotToml' 1 16 20 check closed
     measure 'a header of 1,000,000 brackets' 'settings NotToml' 1 16 20 check headers
     measure 'inline tables 300,000 deep' 'settings NotToml' 1 16 20 check tables
     measure 'a dotted key of 300,000 parts' 'settings NotToml' 1 16 20 check dotted
-    measure '1,000,000 keys' 'settings UnknownKey key0' 1 400 60 check keys
-    measure '1,000,000 tables' 'settings UnknownKey watch.w0' 1 400 60 check many
+    measure '80,000 keys' 'settings UnknownKey key0' 1 64 20 check keys
+    measure '60,000 tables' 'settings UnknownKey watch.w0' 1 64 20 check many
+    measure '6,000 keys of 80 parts' 'settings UnknownKey k0' 1 600 20 check parts
+    measure 'the longest settings' 'settings ok' 0 16 20 check longest
+    measure 'settings with one byte more' 'settings TooLong' 1 16 20 check longer
+    measure 'the same, explained' 'settings TooLong' 1 16 20 explain --settings longer
 }
 
 script_texts() {
     printf 'plates = 1\n' > good
     : > none
+    head -c $((10 * mega)) /dev/urandom > random
+    bytes $((10 * mega)) '"' > quotes
+    bytes $((10 * mega)) '\0' > zeros
     bytes $((50 * mega)) , > commas
     bytes $((100 * mega)) a > letters
     bytes $((50 * mega)) '\n' > blank
     for script in random quotes zeros commas letters; do
-        measure "faults of $script" 'faults unreadable 1' 1 200 20 sim good $script none
-        measure "operator's lines of $script" 'operator unreadable 1' 1 200 20 sim good none $script
+        measure "faults of $script" 'faults unreadable 1' 1 16 20 sim good $script none
+        measure "operator's lines of $script" 'operator unreadable 1' 1 16 20 sim good none $script
     done
     awk 'BEGIN { for (i = 0; i < 1000; i++) print "always,,stop,press1"; printf ",,,,,,,," }' > long
     measure 'a line too many, unfit' 'operator too long' 1 8 20 sim good none long
     measure 'scripts of 50 MB of blank lines' 'finished' 0 200 20 run good blank blank
+}
+
+# Texts without an end, each of which is answered within a second and in little memory.
+endless_texts() {
+    printf 'profile,1,,\n' > first
+    quoted() { yes '"a' | tr -d '\n'; }
+    measure 'an explanation of yes' 'line 1: the first record is profile,1,, or profile,2,,' 1 8 1 explain < <(yes)
+    measure 'of yes, behind the first record' 'line 2, entry 1: one field, and not four' 1 8 1 explain < <(cat first; yes)
+    measure 'of an entry that is refused again and again' 'line 2, entry 1: repaired,feed,,: MachineHealthy feed: the f' 1 8 1 explain < <(cat first; yes repaired,feed,,)
+    measure 'of bytes 0' 'line 1: the first record is profile,1,, or profile,2,,' 1 8 1 explain < /dev/zero
+    measure 'of bytes 0, behind the first record' 'line 2, entry 1: a record of more than 65536 bytes' 1 8 1 explain < <(cat first; cat /dev/zero)
+    measure 'of commas' 'line 2, entry 1: a record of more than 65536 bytes' 1 8 1 explain < <(cat first; tr '\0' , < /dev/zero)
+    measure 'of a legal journal' 'line 1000002, entry 1000001: claimed,robot,z3,: JournalFull:' 1 64 5 explain < <(cat first; yes $'claimed,robot,z3,\nyielded,robot,z3,')
+    measure 'an audit of a named file of bytes 0' 'unreadable 0' 1 8 1 audit /dev/zero
+    measure 'a migration of it' '' 1 8 1 migrate /dev/zero
+    measure 'an explanation of it' 'line 1: the first record is profile,1,, or profile,2,,' 1 8 1 explain /dev/zero
+    measure 'an audit of a named file of yes' 'unreadable 0' 1 8 1 audit <(yes)
+    measure 'an audit of a named journal without an end' 'refused 1000001 JournalFull' 1 64 5 audit <(cat first; yes $'claimed,robot,z3,\nyielded,robot,z3,')
+    for command in sim run; do
+        measure "$command, settings of bytes 0" 'settings TooLong' 1 16 1 $command /dev/zero none none
+        measure "$command, settings of yes" 'settings TooLong' 1 16 1 $command <(yes) none none
+        measure "$command, faults of bytes 0" 'faults unreadable 1' 1 16 1 $command good /dev/zero none
+        measure "$command, faults of yes" 'faults unreadable 1' 1 16 1 $command good <(yes) none
+        measure "$command, faults of a quoted field" 'faults unreadable 1' 1 16 1 $command good <(quoted) none
+        measure "$command, faults that are good" 'faults unreadable 2' 1 16 1 $command good <(yes press_two,1,slow,3) none
+        measure "$command, operator's lines of bytes 0" 'operator unreadable 1' 1 16 1 $command good none /dev/zero
+        measure "$command, operator's lines of yes" 'operator unreadable 1' 1 16 1 $command good none <(yes)
+        measure "$command, operator's lines of a quoted field" 'operator unreadable 1' 1 16 1 $command good none <(quoted)
+        measure "$command, operator's lines that are good" 'operator too long' 1 16 1 $command good none <(yes always,,expect,1)
+    done
+    measure 'check of bytes 0' 'settings TooLong' 1 16 1 check /dev/zero
+    measure 'check of yes' 'settings TooLong' 1 16 1 check <(yes)
+    measure 'an explanation of settings of bytes 0' 'settings TooLong' 1 16 1 explain --settings /dev/zero
+    measure 'of settings of yes' 'settings TooLong' 1 16 1 explain --settings <(yes)
+    for script in faults operator; do
+        measure "of the script $script of bytes 0" 'line 1, record 1: a record of more than 65536 bytes' 1 16 1 explain --$script /dev/zero
+        measure "of the script $script of yes" 'line 1, record 1: one field, and not four' 1 16 1 explain --$script <(yes)
+        measure "of the script $script of a quoted field" 'line 1, record 1: a record of more than 65536 bytes' 1 16 1 explain --$script <(quoted)
+    done
+    measure 'of good lines of the operator' 'line 1001: more than 1000 lines' 1 16 1 explain --operator <(yes always,,expect,1)
 }
 
 # The program by a path that isn't UTF-8, and a word that isn't.
@@ -116,41 +168,137 @@ small_stack() {
     done
 }
 
-# Looks for status 3 and the words `read fault` where standard output can't be written.
-# unwritten NAME STATUS
-unwritten() {
-    printf '%-60s status %s, %s\n' "$1" "$2" "$(head -n 1 told)"
-    if [ "$2" != 3 ] || [ "$(cat told)" != 'read fault' ]; then
-        echo '  wanted: status 3, read fault'
+# Looks for a status, and for the lines on standard error that are due.
+# ended NAME STATUS WANTED LINES
+ended() {
+    printf '%-60s status %s, %s\n' "$1" "$2" "$(tail -n 1 told | cut -c 1-100)"
+    if [ "$2" != "$3" ] || [ "$(cat told)" != "$4" ]; then
+        echo "  wanted: status $3, $4"
         failed=1
     fi
+}
+
+# Looks for status 3, the words `read fault` and the reason, where standard output can't be written.
+# unwritten NAME STATUS REASON
+unwritten() {
+    ended "$1" "$2" 3 $'read fault\ncellctl: standard output: '"$3"
 }
 
 # Each command with standard output closed, full, and a pipe that nobody reads.
 outputs_that_fail() {
     printf 'profile,1,,\n' > journal
     for words in 'audit' 'migrate' 'show' 'show --svg' 'show --html' 'explain' 'explain --settings good' '--help' '--version' 'check good' \
-        'sim good none none' 'sim --explain good none none' 'sim --journal good none none' 'run good none none' 'run --journal good none none'; do
+        'audit journal' 'migrate journal' 'show --file journal' 'explain journal' 'sim good none none' 'sim --explain good none none' \
+        'sim --journal good none none' 'run good none none' 'run --journal good none none'; do
         # The words of a command are parted at blanks.
         # shellcheck disable=SC2086
         {
             "$cellctl" $words < journal 2> told >&-
-            unwritten "cellctl $words, output closed" $?
+            unwritten "cellctl $words, output closed" $? 'not open for writing'
             "$cellctl" $words < journal 2> told > /dev/full
-            unwritten "cellctl $words, output full" $?
+            unwritten "cellctl $words, output full" $? 'no space left'
             { sleep 1; "$cellctl" $words < journal 2> told; echo $? > status; } | true
             while [ ! -s status ]; do sleep 0.1; done
-            unwritten "cellctl $words, a pipe that ended" "$(cat status)"
+            unwritten "cellctl $words, a pipe that ended" "$(cat status)" 'nobody reads it any more'
             : > status
         }
+    done
+}
+
+# Files that can't be read, each named to a command, and the reason that is due. Nothing comes out.
+files_that_fail() {
+    : > none
+    printf 'plates = 1\n' > good
+    mkdir folder
+    ln -s circle circle
+    long=$(printf 'n%.0s' {1..300})
+    escape=$'\e[31m\xc2\x9b'
+    for words in 'audit' 'migrate' 'show --file' 'show 3 -f' 'show --html --file' 'explain' 'explain --settings' 'explain --faults' \
+        'explain --operator' 'check' 'sim good none' 'run good none'; do
+        while read -r file reason; do
+            # The words of a command are parted at blanks.
+            # shellcheck disable=SC2086
+            "$cellctl" $words "$file" > said 2> told < /dev/null
+            got=$?
+            ended "cellctl $words ${file:0:20}" $got 3 $'read fault\ncellctl: '"$file: $reason"
+            [ ! -s said ] || { echo '  wanted: nothing on standard output'; failed=1; }
+        done << END
+missing no such file
+folder is a folder
+good/missing its path goes through a file
+circle its links go in a circle
+$long its name is too long
+END
+    done
+    "$cellctl" audit "$escape" 2> told < /dev/null
+    ended 'a file whose name is an escape sequence' $? 3 $'read fault\ncellctl: \\u001B[31m\\u009B: no such file'
+    for words in 'audit' 'migrate' 'show' 'explain'; do
+        "$cellctl" $words > said 2> told < folder
+        ended "cellctl $words, input is a folder" $? 3 $'read fault\ncellctl: standard input: is a folder'
+        "$cellctl" $words > said 2> told <&-
+        ended "cellctl $words, input closed" $? 3 $'read fault\ncellctl: standard input: not open for reading'
+        "$cellctl" $words > said 2> told 0> written
+        ended "cellctl $words, input open for writing" $? 3 $'read fault\ncellctl: standard input: not open for reading'
+    done
+    "$cellctl" audit missing > said 2>&-
+    [ $? = 3 ] || { echo 'a missing file, errors closed: wanted: status 3'; failed=1; }
+}
+
+# A file that is named gives what standard input gives.
+named_files() {
+    printf 'profile,1,,\nlamp,feed,green,\nadmitted,1,,\n' > legal
+    printf 'profile,1,,\nlamp,feed,green,\nlamp,feed,green,\n' > refused
+    for file in legal refused none; do
+        for words in 'audit' 'migrate' 'show' 'show 1' 'show --svg' 'show --html' 'show --unicode 9' 'show 4294967296' 'explain'; do
+            # shellcheck disable=SC2086
+            "$cellctl" $words < $file > said 2> told
+            got=$?
+            case $words in show*) named=--file ;; *) named= ;; esac
+            # shellcheck disable=SC2086
+            "$cellctl" $words $named $file > said2 2> told2 < folder
+            ended "cellctl $words $named $file" $? $got "$(cat told2)"
+            cmp -s said said2 && cmp -s told told2 || { echo '  wanted: what standard input gives'; failed=1; }
+        done
+    done
+    bytes $((50 * mega)) , > commas
+    { printf 'profile,1,,\n'; bytes $((100 * mega)) a; } > long_line
+    measure 'a named journal of 50 MB of commas' 'unreadable 0' 1 8 20 audit commas
+    measure 'a named journal with 100 MB of letters' 'unreadable 1' 1 8 20 audit long_line
+}
+
+# Words that are printed back have no control characters.
+words_back() {
+    "$cellctl" show $'\e[31mc' 2> told < /dev/null
+    ended 'an ENTRY with an escape sequence' $? 2 "error: ENTRY is a whole number, and not '\\u001B[31mc'"
+    "$cellctl" show 4294967296 2> told < legal
+    ended 'an ENTRY of 2 ^ 32' $? 2 'error: NoSuchEntry: the journal has 2 entries'
+    "$cellctl" show --html 99999999999999999999999999999999999999999999999999 2> told < legal
+    ended 'an ENTRY of 50 digits' $? 2 'error: NoSuchEntry: the journal has 2 entries'
+    "$cellctl" show 99999999999999999999999999999999999999999999999999x 2> told < legal
+    ended 'an ENTRY of 50 digits and a letter' $? 2 \
+        "error: ENTRY is a whole number, and not '99999999999999999999999999999999999999999999999999x'"
+    for words in $'brew\e[31m' $'audit --\e[31m' $'audit one \e[31m' $'show -\e' $'show 1 \xc2\x9b31m' \
+        $'explain --settings a --settings \e[31m\x7f\r'; do
+        # shellcheck disable=SC2086
+        "$cellctl" $words > said 2> told < /dev/null
+        got=$?
+        printf '%-60s status %s\n' "$(printf 'cellctl %q' "$words")" "$got"
+        if [ "$got" != 2 ] || LC_ALL=C grep -q $'[\x01-\x09\x0b-\x1f\x7f]\|\xc2[\x80-\x9f]' told; then
+            echo '  wanted: status 2, and no control characters but line feeds'
+            failed=1
+        fi
     done
 }
 
 audit_texts
 settings_texts
 script_texts
+endless_texts
 odd_names
 small_stack
 outputs_that_fail
+files_that_fail
+named_files
+words_back
 echo "hostile texts and outputs: $([ $failed = 0 ] && echo all as due || echo some are another)"
 exit $failed

@@ -34,23 +34,25 @@ HasPaths rows paths = HasPath rows (codes "settings") paths.settings.now
 abbrev pub IsRun : List Row → Running → Type 0
 IsRun rows r = HasFlag rows (codes "journal") r.journal × HasFlag rows (codes "explain") r.explain × HasPaths rows r.paths
 
--- the flags of a picture, and how many entries it takes
+-- the flags of a picture, the journal's file, and how many entries it takes
 abbrev pub IsShown : List Row → Showing → Type 0
 IsShown rows s = HasFlag rows (codes "svg") s.svg
     × HasFlag rows (codes "html") s.html
     × HasFlag rows (codes "unicode") s.unicode
+    × HasValue rows (codes "file") s.file
     × HasValue rows (codes "entry") s.entry
 
 -- the files that are explained
 abbrev pub IsExplained : List Row → Explaining → Type 0
-IsExplained rows e = HasValue rows (codes "settings") e.settings
+IsExplained rows e = HasValue rows (codes "file") e.journal
+    × HasValue rows (codes "settings") e.settings
     × HasValue rows (codes "faults") e.faults
     × HasValue rows (codes "operator") e.operator
 
 -- the order of a command's name and what is matched below it
 abbrev pub Fits : Text → List Row → Order → Type 0
-Fits name rows order.Audit = name ≡ codes "audit"
-Fits name rows order.Migrate = name ≡ codes "migrate"
+Fits name rows (order.Audit file) = (name ≡ codes "audit") × HasValue rows (codes "file") file
+Fits name rows (order.Migrate file) = (name ≡ codes "migrate") × HasValue rows (codes "file") file
 Fits name rows (order.Show showing) = (name ≡ codes "show") × IsShown rows showing
 Fits name rows (order.Explain explaining) = (name ≡ codes "explain") × IsExplained rows explaining
 Fits name rows (order.Check path) = (name ≡ codes "check") × HasPath rows (codes "settings") path.now

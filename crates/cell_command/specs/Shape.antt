@@ -7,11 +7,19 @@ use Rattle.clap.specs.declared.builder.ArgAction.TheVariants.{SetTrue}
 abbrev pub for_people : Shape → Shape
 for_people s = record s { subcommand_required = true; arg_required_else_help = true; has_version = true }
 
+-- a word that may be given
+abbrev pub optional_rule : Text → Rule
+optional_rule id = record (new_rule id) { value_names = 1 }
+
+-- a command with the name of a file, which may be given
+abbrev pub with_input : App → App
+with_input a = with_rule a (optional_rule (codes "file"))
+
 abbrev pub audit : App
-audit = new_app (codes "audit")
+audit = with_input (new_app (codes "audit"))
 
 abbrev pub migrate : App
-migrate = new_app (codes "migrate")
+migrate = with_input (new_app (codes "migrate"))
 
 -- a path that has to be given
 abbrev pub path_rule : Text → Rule
@@ -28,19 +36,21 @@ flag_rule id = record (new_rule id) { long = Some id; action = Some SetTrue }
 abbrev pub file_rule : Text → Rule
 file_rule id = record (new_rule id) { long = Some id; value_names = 1 }
 
--- how many entries are shown, which may be given
-abbrev pub entry_rule : Rule
-entry_rule = record (new_rule (codes "entry")) { value_names = 1 }
+-- the option with the name of a journal's file, which has a short form, `-f`
+abbrev pub journal_rule : Rule
+journal_rule = record (file_rule (codes "file")) { short = Some 102 }
 
 -- the command that shows the cell, with the flags for a picture and a page
 unfoldable pub pictured : App
 pictured = with_rule (with_rule (new_app (codes "show")) (flag_rule (codes "svg"))) (flag_rule (codes "html"))
 
+-- the same with the flag for other signs, the option for a file, and how many entries are shown, which may be given
 unfoldable pub show : App
-show = with_rule (with_rule pictured (flag_rule (codes "unicode"))) entry_rule
+show = with_rule (with_rule (with_rule pictured (flag_rule (codes "unicode"))) journal_rule) (optional_rule (codes "entry"))
 
 unfoldable pub explain : App
-explain = with_rule (with_rule (with_rule (new_app (codes "explain")) (file_rule (codes "settings"))) (file_rule (codes "faults"))) (file_rule (codes "operator"))
+explain =
+    with_input (with_rule (with_rule (with_rule (new_app (codes "explain")) (file_rule (codes "settings"))) (file_rule (codes "faults"))) (file_rule (codes "operator")))
 
 -- a command with the flags of those that run the cell
 unfoldable pub flagged : App → App

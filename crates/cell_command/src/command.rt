@@ -2,15 +2,15 @@
 ghost use Rattle.std.specs.Prelude.{◌≡◌, IfOk, codes, false};
 ghost use Rattle.clap.specs.Words.{app_of, new_app, with_rule, with_subcommand};
 ghost use Rattle.clap.specs.declared.builder.command.Command.TheViews.{out-Command};
-ghost use Rattle.cell_command.specs.Shape.{audit, cellctl, check, checking, entry_rule, explain, file_rule, flag_rule, flagged, judging, migrate, path_rule, pictured, reading, running, scripted, show, showing, simulating};
+ghost use Rattle.cell_command.specs.Shape.{audit, cellctl, check, checking, explain, file_rule, flag_rule, flagged, journal_rule, judging, migrate, optional_rule, path_rule, pictured, reading, running, scripted, show, showing, simulating, with_input};
 
 use crate::help::{
-    ABOUT, AFTER, AUDIT_ABOUT, AUDIT_EXAMPLE, AUDIT_HELP, AUDIT_USAGE, CHECK_ABOUT, CHECK_EXAMPLE,
-    CHECK_HELP, ENTRY_HELP, EXPLAIN_ABOUT, EXPLAIN_EXAMPLE, EXPLAIN_HELP, EXPLAIN_USAGE,
-    FAULTS_HELP, HTML_HELP, JOURNAL_HELP, MIGRATE_ABOUT, MIGRATE_EXAMPLE, MIGRATE_HELP,
-    MIGRATE_USAGE, OPERATOR_HELP, RUN_ABOUT, RUN_EXAMPLE, RUN_HELP, SETTINGS_HELP, SHOW_ABOUT,
-    SHOW_EXAMPLE, SHOW_HELP, SHOW_USAGE, SIM_ABOUT, SIM_EXAMPLE, SIM_HELP, SVG_HELP, UNICODE_HELP,
-    VERSION, WHY_HELP,
+    ABOUT, AFTER, AUDIT_ABOUT, AUDIT_EXAMPLE, AUDIT_HELP, CHECK_ABOUT, CHECK_EXAMPLE, CHECK_HELP,
+    ENTRY_HELP, EXPLAIN_ABOUT, EXPLAIN_EXAMPLE, EXPLAIN_HELP, EXPLAIN_USAGE, FAULTS_HELP,
+    FILE_HELP, HTML_HELP, JOURNAL_HELP, MIGRATE_ABOUT, MIGRATE_EXAMPLE, MIGRATE_HELP,
+    OPERATOR_HELP, RUN_ABOUT, RUN_EXAMPLE, RUN_HELP, SETTINGS_HELP, SHOW_ABOUT, SHOW_EXAMPLE,
+    SHOW_HELP, SHOW_USAGE, SIM_ABOUT, SIM_EXAMPLE, SIM_HELP, SVG_HELP, UNICODE_HELP, VERSION,
+    WHY_HELP,
 };
 use clap::{Arg, ArgAction, Command};
 use std::alloc::{AllocError, Global};
@@ -90,37 +90,64 @@ fn with_file<'a>(
     command.arg(Arg::new(alloc, id).long(id).value_name("FILE").help(help))
 }
 
-// Adds how many entries are shown, which may be given.
-fn with_entry<'a>(alloc: Global, command: Command<'a>) -> Result<Command<'a>, AllocError>
+// Adds a word that may be given.
+fn with_word<'a>(
+    alloc: Global,
+    command: Command<'a>,
+    id: &'a str,
+    name: &'a str,
+    help: &'a str,
+) -> Result<Command<'a>, AllocError>
     requires local { (out-Command command).has_globals ≡ false }
-    ensures app { IfOk result (λ c. app_of c ≡ with_rule (app_of command.entry) entry_rule) }
+    ensures app { IfOk result (λ c. app_of c ≡ with_rule (app_of command.entry) (optional_rule id.entry.now)) }
     ensures local { IfOk result (λ c. (out-Command c).has_globals ≡ false) }
 {
-    let entry = Arg::new(alloc, "entry")
-        .value_name("ENTRY")
-        .help(ENTRY_HELP);
-    command.arg(entry)
+    command.arg(Arg::new(alloc, id).value_name(name).help(help))
 }
 
-fn audit_command<'a>(alloc: Global) -> Command<'a>
-    ensures app { app_of result ≡ audit }
-    ensures local { (out-Command result).has_globals ≡ false }
+// Adds the name of a journal's file, which may be given.
+fn with_journal<'a>(alloc: Global, command: Command<'a>) -> Result<Command<'a>, AllocError>
+    requires local { (out-Command command).has_globals ≡ false }
+    ensures app { IfOk result (λ c. app_of c ≡ with_input (app_of command.entry)) }
+    ensures local { IfOk result (λ c. (out-Command c).has_globals ≡ false) }
 {
-    described(alloc, "audit", AUDIT_ABOUT, AUDIT_HELP, AUDIT_EXAMPLE).override_usage(AUDIT_USAGE)
+    with_word(alloc, command, "file", "FILE", FILE_HELP)
 }
 
-fn migrate_command<'a>(alloc: Global) -> Command<'a>
-    ensures app { app_of result ≡ migrate }
-    ensures local { (out-Command result).has_globals ≡ false }
+// Adds the option with the name of a journal's file.
+fn with_journal_option<'a>(alloc: Global, command: Command<'a>) -> Result<Command<'a>, AllocError>
+    requires local { (out-Command command).has_globals ≡ false }
+    ensures app { IfOk result (λ c. app_of c ≡ with_rule (app_of command.entry) journal_rule) }
+    ensures local { IfOk result (λ c. (out-Command c).has_globals ≡ false) }
 {
-    described(
+    let file = Arg::new(alloc, "file")
+        .short('f')
+        .long("file")
+        .value_name("FILE")
+        .help(FILE_HELP);
+    command.arg(file)
+}
+
+fn audit_command<'a>(alloc: Global) -> Result<Command<'a>, AllocError>
+    ensures app { IfOk result (λ c. app_of c ≡ audit) }
+    ensures local { IfOk result (λ c. (out-Command c).has_globals ≡ false) }
+{
+    let command = described(alloc, "audit", AUDIT_ABOUT, AUDIT_HELP, AUDIT_EXAMPLE);
+    with_journal(alloc, command)
+}
+
+fn migrate_command<'a>(alloc: Global) -> Result<Command<'a>, AllocError>
+    ensures app { IfOk result (λ c. app_of c ≡ migrate) }
+    ensures local { IfOk result (λ c. (out-Command c).has_globals ≡ false) }
+{
+    let command = described(
         alloc,
         "migrate",
         MIGRATE_ABOUT,
         MIGRATE_HELP,
         MIGRATE_EXAMPLE,
-    )
-    .override_usage(MIGRATE_USAGE)
+    );
+    with_journal(alloc, command)
 }
 
 fn check_command<'a>(alloc: Global) -> Result<Command<'a>, AllocError>
@@ -151,7 +178,8 @@ fn show_command<'a>(alloc: Global) -> Result<Command<'a>, AllocError>
 {
     let pictured = pictured_command(alloc)?;
     let unicode = with_flag(alloc, pictured, "unicode", UNICODE_HELP)?;
-    with_entry(alloc, unicode)
+    let file = with_journal_option(alloc, unicode)?;
+    with_word(alloc, file, "entry", "ENTRY", ENTRY_HELP)
 }
 
 #[tactic(auto, unfolding(crate::specs::Shape::explain))]
@@ -169,7 +197,8 @@ fn explain_command<'a>(alloc: Global) -> Result<Command<'a>, AllocError>
     .override_usage(EXPLAIN_USAGE);
     let settings = with_file(alloc, command, "settings", SETTINGS_HELP)?;
     let faults = with_file(alloc, settings, "faults", FAULTS_HELP)?;
-    with_file(alloc, faults, "operator", OPERATOR_HELP)
+    let operator = with_file(alloc, faults, "operator", OPERATOR_HELP)?;
+    with_journal(alloc, operator)
 }
 
 // Adds the flags of a command that runs the cell.
@@ -225,8 +254,10 @@ fn judging_commands<'a>(alloc: Global) -> Result<Command<'a>, AllocError>
     ensures app { IfOk result (λ c. app_of c ≡ judging) }
     ensures local { IfOk result (λ c. (out-Command c).has_globals ≡ false) }
 {
-    let auditing = add(Command::new(alloc, "cellctl"), audit_command(alloc))?;
-    add(auditing, migrate_command(alloc))
+    let audit = audit_command(alloc)?;
+    let auditing = add(Command::new(alloc, "cellctl"), audit)?;
+    let migrate = migrate_command(alloc)?;
+    add(auditing, migrate)
 }
 
 // The program with the commands that judge and show a journal.

@@ -16,15 +16,15 @@ Exit status, of each command:
   2  wrong arguments
   3  a read or a write failed: 'read fault' on standard error
   4  memory was refused: 'out of memory' on standard error
+Where it is known which file failed, a second line says which, and why.
 
-Example: cellctl audit < examples/whole.journal";
+Example: cellctl audit examples/whole.journal";
 
 pub(crate) const AUDIT_ABOUT: &str = "Say whether a journal is legal, and what it counts";
 
-pub(crate) const AUDIT_USAGE: &str = "cellctl audit < JOURNAL";
-
 pub(crate) const AUDIT_HELP: &str = "\
-Judges a journal's text, which it reads on standard input.
+Judges a journal's text, which it reads from FILE, or on standard input where
+no file is named.
 
 Its first record is profile,2,, or profile,1,, and then each entry has a record
 of four fields, by the rules of CSV, with no heading and no comments:
@@ -80,16 +80,14 @@ The refusals, in their order:
 Exit status: 0 legal, 1 refused or unreadable, 2 wrong arguments, 3 a read or a
 write failed, 4 out of memory.";
 
-pub(crate) const AUDIT_EXAMPLE: &str = "Example: cellctl audit < examples/whole.journal";
+pub(crate) const AUDIT_EXAMPLE: &str = "Example: cellctl audit examples/whole.journal";
 
 pub(crate) const MIGRATE_ABOUT: &str = "Write a journal of profile 1 in profile 2";
 
-pub(crate) const MIGRATE_USAGE: &str = "cellctl migrate < JOURNAL";
-
 pub(crate) const MIGRATE_HELP: &str = "\
-Reads a journal's text of profile 1 on standard input, and prints the same
-journal's text of profile 2: the record profile,2,, and then the same entries'
-records.
+Reads a journal's text of profile 1 from FILE, or on standard input where no
+file is named, and prints the same journal's text of profile 2: the record
+profile,2,, and then the same entries' records.
 
 The whole text is judged before anything is printed. Where it isn't a legal
 journal's, nothing is, and standard error has the line of the command audit:
@@ -102,7 +100,7 @@ profile 2
 Exit status: 0 migrated, 1 refused or unreadable, 2 wrong arguments, 3 a read
 or a write failed, 4 out of memory.";
 
-pub(crate) const MIGRATE_EXAMPLE: &str = "Example: cellctl migrate < examples/whole.journal";
+pub(crate) const MIGRATE_EXAMPLE: &str = "Example: cellctl migrate examples/whole.journal";
 
 pub(crate) const CHECK_ABOUT: &str = "Say whether a run's settings are good";
 
@@ -230,15 +228,18 @@ Example: cellctl run examples/press_fails.toml \\
 
 pub(crate) const SHOW_ABOUT: &str = "Draw the cell as a journal's first entries left it";
 
-pub(crate) const SHOW_USAGE: &str = "cellctl show [--svg | --html | --unicode] [ENTRY] < JOURNAL";
+pub(crate) const SHOW_USAGE: &str = "\
+cellctl show [--svg | --html | --unicode] [--file FILE] [ENTRY]";
 
 pub(crate) const SHOW_HELP: &str = "\
-Reads a journal's text on standard input, as the command audit does, and draws
-the cell as its first ENTRY entries left it, or all of them where no ENTRY is
-given: each station with its plate, a forged one with a star, each axis with
-its pose and where it is going, who holds each zone, which machines are failed
-or asked to stop, the lights, what was counted, the expected plate, how many
-plates are in quarantine, and the last entry in words.
+Reads a journal's text from FILE, or on standard input where no file is named,
+as the command audit does, and draws the cell as its first ENTRY entries left
+it, or all of them where no ENTRY is given: each station with its plate, a
+forged one with a star, each axis with its pose and where it is going, who
+holds each zone, which machines are failed or asked to stop, the lights, what
+was counted, the expected plate, how many plates are in quarantine, and the
+last entry in words. ENTRY is a whole number in decimal digits; a file is named
+by --file alone.
 
 Prints at most 24 lines of 78 characters, plain ASCII or with --unicode also
 other signs; with --svg one picture file; with --html one page for a browser,
@@ -250,17 +251,18 @@ and below stands the line of the command audit.
 Exit status: 0 legal, 1 refused or unreadable, 2 wrong arguments, no such entry
 or too many entries for a page, 3 a read or a write failed, 4 out of memory.";
 
-pub(crate) const SHOW_EXAMPLE: &str = "Example: cellctl show 20 < examples/whole.journal";
+pub(crate) const SHOW_EXAMPLE: &str = "Example: cellctl show --file examples/whole.journal 20";
 
 pub(crate) const EXPLAIN_ABOUT: &str = "Say why a journal, settings or a script is refused";
 
 pub(crate) const EXPLAIN_USAGE: &str = "\
-cellctl explain < JOURNAL
+cellctl explain [FILE]
        cellctl explain --settings FILE | --faults FILE | --operator FILE";
 
 pub(crate) const EXPLAIN_HELP: &str = "\
-Reads a journal's text on standard input, or with an option a file with
-settings, with the script of faults or with the operator's script.
+Reads a journal's text from FILE, or on standard input where no file is named,
+or with an option a file with settings, with the script of faults or with the
+operator's script.
 
 Prints, for a legal journal, the lines of the command audit; for another one
 the line and the entry at which it stops, its record, the refusal, what is so
@@ -275,7 +277,7 @@ be read and what may stand there.
 Exit status: 0 good, 1 refused or unreadable, 2 wrong arguments, 3 a read or a
 write failed, 4 out of memory.";
 
-pub(crate) const EXPLAIN_EXAMPLE: &str = "Example: cellctl explain < examples/refused.journal";
+pub(crate) const EXPLAIN_EXAMPLE: &str = "Example: cellctl explain examples/refused.journal";
 
 pub(crate) const JOURNAL_HELP: &str = "Print the run's journal alone";
 
@@ -286,6 +288,8 @@ pub(crate) const SVG_HELP: &str = "Print one picture file in SVG";
 pub(crate) const HTML_HELP: &str = "Print one page in HTML with all states";
 
 pub(crate) const UNICODE_HELP: &str = "Draw with signs beyond ASCII";
+
+pub(crate) const FILE_HELP: &str = "The file with the journal; with none it is on standard input";
 
 pub(crate) const ENTRY_HELP: &str = "How many of the first entries to take";
 

@@ -1,8 +1,15 @@
-//! The command line of the program: its commands with their helps, and the order that its words give.
+//! The command line of the program: its commands with their helps, the order that its words give, and what is told where a file
+//! or a stream fails.
 #![tactic(auto)]
 
 mod command;
+mod count;
+mod escaped;
+mod failure;
 mod help;
 mod order;
 
+pub use count::{Count, read_count};
+pub use escaped::Escaped;
+pub use failure::{Place, tell_failure};
 pub use order::{Explaining, Order, Paths, Running, Showing, read_words};

@@ -26,18 +26,21 @@ pub struct Running<'a> {
     pub paths: Paths<'a>,
 }
 
-/// How a journal is to be shown: which flags are given, and the number of entries as it is written.
+/// How a journal is to be shown: which flags are given, the file that has it, if it isn't on standard input, and the number of
+/// entries as it is written.
 #[derive(Clone, Copy, Debug, PartialEq, Eq)]
 pub struct Showing<'a> {
     pub svg: bool,
     pub html: bool,
     pub unicode: bool,
+    pub file: Option<&'a str>,
     pub entry: Option<&'a str>,
 }
 
 /// The files that are to be explained; with none the journal on standard input is.
 #[derive(Clone, Copy, Debug, PartialEq, Eq)]
 pub struct Explaining<'a> {
+    pub journal: Option<&'a str>,
     pub settings: Option<&'a str>,
     pub faults: Option<&'a str>,
     pub operator: Option<&'a str>,
@@ -46,11 +49,11 @@ pub struct Explaining<'a> {
 /// What the program is to do.
 #[derive(Clone, Copy, Debug, PartialEq, Eq)]
 pub enum Order<'a> {
-    /// Audit the journal's text on standard input.
-    Audit,
-    /// Write the text of profile 1 on standard input in profile 2.
-    Migrate,
-    /// Draw the cell as the journal's text on standard input leaves it.
+    /// Audit the journal's text in the file of this path, or with none that on standard input.
+    Audit(Option<&'a str>),
+    /// Write the text of profile 1 in the file of this path, or with none that on standard input, in profile 2.
+    Migrate(Option<&'a str>),
+    /// Draw the cell as a journal's text leaves it.
     Show(Showing<'a>),
     /// Say why a text is refused.
     Explain(Explaining<'a>),
@@ -102,6 +105,7 @@ fn show_words<'a>(matches: &ArgMatches<'a>) -> Showing<'a>
         svg: flag(matches, "svg"),
         html: flag(matches, "html"),
         unicode: flag(matches, "unicode"),
+        file: value(matches, "file"),
         entry: value(matches, "entry"),
     }
 }
@@ -111,6 +115,7 @@ fn explain_words<'a>(matches: &ArgMatches<'a>) -> Explaining<'a>
     ensures { IsExplained (rows_of (found_of matches.now)) result }
 {
     Explaining {
+        journal: value(matches, "file"),
         settings: value(matches, "settings"),
         faults: value(matches, "faults"),
         operator: value(matches, "operator"),
@@ -136,8 +141,8 @@ fn order_of<'a>(name: &str, matches: &ArgMatches<'a>) -> Option<Order<'a>>
     ensures { IfSome result (Fits name.now (rows_of (found_of matches.now))) }
 {
     match name {
-        "audit" => Some(Order::Audit),
-        "migrate" => Some(Order::Migrate),
+        "audit" => Some(Order::Audit(value(matches, "file"))),
+        "migrate" => Some(Order::Migrate(value(matches, "file"))),
         "show" => Some(Order::Show(show_words(matches))),
         "explain" => Some(Order::Explain(explain_words(matches))),
         "check" => Some(Order::Check(path(matches, "settings")?)),

@@ -1,16 +1,18 @@
 -- What is written for the words of a command line, and the status with which the program ends
-use Rattle.std.specs.Prelude.{◌≡◌, ◌⊎◌, ◌<◌, ◌≤◌, ◌++◌, ◌∷◌, [], ℕ, Bool, true, false, List, Option, Some, None, ⊤, Result, Ok, Err, IfOk, IfSome, MatchResult, codes}
+use Rattle.std.specs.Prelude.{◌≡◌, ◌≢◌, ◌⊎◌, ◌<◌, ◌≤◌, ◌++◌, ◌∷◌, [], ℕ, Bool, true, false, List, Option, Some, None, Result, Ok, Err, IfOk, IfSome, MatchOption, MatchResult, codes}
 use Rattle.std.specs.Borrow.{Bor}
 use Rattle.std.specs.Io.KnownBytes.{Appends, Keeps}
-use Rattle.std.specs.Str.Parse.{ParsesUnsigned}
-use Rattle.clap.specs.Words.{HasKind, Text, fault_of, kind_of}
+use Rattle.clap.specs.Words.{HasKind, Text as Word, fault_of, kind_of}
 use Rattle.clap.specs.declared.error.Error.{Error}
 use Rattle.clap.specs.declared.error.kind.ErrorKind.{ErrorKind}
 use Rattle.clap.specs.declared.error.kind.ErrorKind.TheVariants as kind
 use Rattle.cell_audit.specs.Migrated.{rows_in}
+use Rattle.cell_audit.specs.Watched.{WritesPart}
 use Rattle.cell_audit.specs.declared.watched.WriteFault.{WriteFault}
+use Rattle.cell_command.specs.Counts.{Counts, IsNumber}
 use Rattle.cell_command.specs.Orders.{IsOrdered}
 use Rattle.cell_command.specs.Shape.{cellctl}
+use Rattle.cell_command.specs.declared.count.Count.{Count}
 use Rattle.cell_command.specs.declared.order.Explaining.{Explaining}
 use Rattle.cell_command.specs.declared.order.Running.{Running}
 use Rattle.cell_command.specs.declared.order.Showing.{Showing}
@@ -22,8 +24,16 @@ use Rattle.cell_runs.specs.Runs.{TellsRun, TellsPart as PartOfRun}
 use Rattle.cell_settings.specs.Checked.{TellsCheck, TellsPart as PartOfCheck}
 use Rattle.cell_show.specs.Shown.{AsksPast, HasEntry, TellsEntries, TellsStatus}
 use Rattle.cell_show.specs.declared.error.ShowError.{ShowError}
+use Rattle.cell_show.specs.declared.error.ShowError.TheVariants as error
 use Rattle.cell_show.specs.declared.show.Form.{Form}
 use Rattle.cell_show.specs.declared.show.Form.TheVariants as form
+use Rattle.cellctl.specs.declared.explain.Text.{Text}
+use Rattle.cellctl.specs.declared.explain.Text.TheVariants as explained
+
+-- what holds of the text that is read: that of the file that is named, which may be any, or else that of the input
+abbrev pub OfText : Option (Bor (List ℕ)) → Option (List ℕ) → (Option (List ℕ) → Type 0) → Type 0
+OfText None input P = P input
+OfText (Some path) input P = (text : List ℕ) × P (Some text)
 
 -- the form that the flags for a picture, a page and box-drawing characters ask for, if they ask for one alone
 abbrev pub form_of : Bool → Bool → Bool → Option Form
@@ -43,16 +53,17 @@ IsShown entry text old new status = TellsStatus (rows_in text) status × (1 < st
 
 -- a text has fewer good entries than these, or too many for a page
 abbrev pub HasNone : Option ℕ → Option (List ℕ) → Type 0
-HasNone entry text = (why : ShowError) × AsksPast entry why × IfSome (rows_in text) (TellsEntries why)
+HasNone entry text = (why : ShowError) × (why ≢ error.WriteFault) × AsksPast entry why × IfSome (rows_in text) (TellsEntries why)
 
 -- the cell is shown; or the text hasn't got what was asked for, which is told
 abbrev pub Shows : Option ℕ → Option (List ℕ) → Option (List ℕ) → Option (List ℕ) → Option (List ℕ) → Option (List ℕ) → ℕ → Type 0
 Shows entry text old new old_errors new_errors status =
     IsShown entry text old new status ⊎ (IsWrong old new old_errors new_errors status × HasNone entry text)
 
--- the decimal digits of a word, before which a plus may stand, write a number below 2 ^ 32
-abbrev pub IsNumber : List ℕ → ℕ → Type 0
-IsNumber word n = ParsesUnsigned {E = ⊤} 32 10 word (Ok n)
+-- a number of entries, or all of them, is that of a count
+abbrev pub IsAsked : Option Count → Option ℕ → Type 0
+IsAsked None entry = entry ≡ None
+IsAsked (Some count) entry = (n : ℕ) × (entry ≡ Some n) × Counts count n
 
 -- the number of entries that a word asks for, or all where there is none
 abbrev pub AsksFor : Option (Bor (List ℕ)) → Option ℕ → Type 0
@@ -66,37 +77,78 @@ IsNoNumber (Some word) = (n : ℕ) → IsNumber word.now n → ⊥
 
 -- the flags ask for one form and the words for a number of entries or for all, which are shown; or the words are wrong
 abbrev pub ShowsWords : Showing → Option (List ℕ) → Option (List ℕ) → Option (List ℕ) → Option (List ℕ) → Option (List ℕ) → ℕ → Type 0
-ShowsWords showing text old new old_errors new_errors status =
-    ((entry : Option ℕ) × AsksFor showing.entry entry × Shows entry text old new old_errors new_errors status)
+ShowsWords showing input old new old_errors new_errors status =
+    ((entry : Option ℕ) × AsksFor showing.entry entry × OfText showing.file input (λ text. Shows entry text old new old_errors new_errors status))
     ⊎ (IsWrong old new old_errors new_errors status × ((form_of showing.svg showing.html showing.unicode ≡ None) ⊎ IsNoNumber showing.entry))
 
--- a text is explained, and the status is that of what reads it
-abbrev pub Explains : Option (Bor (List ℕ)) → Option (Bor (List ℕ)) → Option (Bor (List ℕ)) → Option (List ℕ) → Option (List ℕ) → Option (List ℕ) → Option (List ℕ) → Option (List ℕ) → ℕ → Type 0
-Explains None None None text old new old_errors new_errors status = IfSome text (λ journal. EndsAsAudit journal status)
-Explains (Some path) None None text old new old_errors new_errors status = (settings : List ℕ) × EndsAsCheck settings status
-Explains None (Some path) None text old new old_errors new_errors status = (faults : List ℕ) × EndsAsFaults faults status
-Explains None None (Some path) text old new old_errors new_errors status = (operator : List ℕ) × EndsAsScript operator status
-Explains _ _ _ text old new old_errors new_errors status = IsWrong old new old_errors new_errors status
+-- that settings are longer than they may be is told by name
+abbrev pub TellsTooLong : Option (List ℕ) → Option (List ℕ) → Result ℕ WriteFault → Type 0
+TellsTooLong old new written =
+    MatchResult written (λ status. Appends old new (codes "settings TooLong\n") × (status ≡ 1)) (λ _. WritesPart old new (codes "settings TooLong\n"))
 
--- what a run by the texts of its files writes
+-- the text that is to be explained: a journal on the input, or that of the one file that is named for a journal, for settings, for
+-- the script of faults or for the operator's
+abbrev pub text_of : Option (Bor (List ℕ)) → Option (Bor (List ℕ)) → Option (Bor (List ℕ)) → Option (Bor (List ℕ)) → Option Text
+text_of None None None None = Some explained.Input
+text_of (Some path) None None None = Some (explained.Journal path)
+text_of None (Some path) None None = Some (explained.Settings path)
+text_of None None (Some path) None = Some (explained.Faults path)
+text_of None None None (Some path) = Some (explained.Operator path)
+text_of _ _ _ _ = None
+
+-- settings are explained, and the status is that of their check; or they are too long
+abbrev pub ExplainsSettings : Option (List ℕ) → Option (List ℕ) → ℕ → Type 0
+ExplainsSettings old new status = ((settings : List ℕ) × EndsAsCheck settings status) ⊎ TellsTooLong old new (Ok status)
+
+-- a text is explained, and the status is that of what reads it
+abbrev pub ExplainsText : Text → Option (List ℕ) → Option (List ℕ) → Option (List ℕ) → ℕ → Type 0
+ExplainsText explained.Input input old new status = IfSome input (λ journal. EndsAsAudit journal status)
+ExplainsText (explained.Journal path) input old new status = (journal : List ℕ) × EndsAsAudit journal status
+ExplainsText (explained.Settings path) input old new status = ExplainsSettings old new status
+ExplainsText (explained.Faults path) input old new status = (faults : List ℕ) × EndsAsFaults faults status
+ExplainsText (explained.Operator path) input old new status = (operator : List ℕ) × EndsAsScript operator status
+
+-- the text that is named is explained, or the words are wrong
+abbrev pub Explains : Explaining → Option (List ℕ) → Option (List ℕ) → Option (List ℕ) → Option (List ℕ) → Option (List ℕ) → ℕ → Type 0
+Explains explaining input old new old_errors new_errors status =
+    MatchOption (text_of explaining.journal explaining.settings explaining.faults explaining.operator)
+    (IsWrong old new old_errors new_errors status) (λ text. ExplainsText text input old new status)
+
+-- what is written for a check of settings in a file, unless they are too long
+abbrev pub ChecksSettings : Option (List ℕ) → Option (List ℕ) → Result ℕ WriteFault → Type 0
+ChecksSettings old new written =
+    ((settings : List ℕ) × MatchResult written (TellsCheck settings old new) (λ _. PartOfCheck settings old new)) ⊎ TellsTooLong old new written
+
+-- what a run by the texts of its files writes, unless the settings are too long
 abbrev pub RunsFiles : Bool → Running → Option (List ℕ) → Option (List ℕ) → Result ℕ WriteFault → Type 0
 RunsFiles threads running old new written =
-    (settings : List ℕ) × (faults : List ℕ) × (operator : List ℕ)
-    × MatchResult written (TellsRun settings faults operator threads running.journal old new) (λ _. PartOfRun settings faults operator threads running.journal old new)
+    ((settings : List ℕ) × (faults : List ℕ) × (operator : List ℕ)
+    × MatchResult written (TellsRun settings faults operator threads running.journal old new) (λ _. PartOfRun settings faults operator threads running.journal old new))
+    ⊎ TellsTooLong old new written
 
--- what is written for an order, with `text` to read: to the output, which had `old`, and to the errors. Files may have any text.
-abbrev pub CarriesOut : Order → Option (List ℕ) → Option (List ℕ) → Option (List ℕ) → Option (List ℕ) → Option (List ℕ) → Result ℕ WriteFault → Type 0
-CarriesOut order.Audit text old new old_errors new_errors written = MatchResult written (TellsAudit text old new) (λ _. PartOfAudit text old new) × (new_errors ≡ old_errors)
-CarriesOut order.Migrate text old new old_errors new_errors written =
+-- what is written for the audit of a text
+abbrev pub Audits : Option (List ℕ) → Option (List ℕ) → Option (List ℕ) → Result ℕ WriteFault → Type 0
+Audits text old new written = MatchResult written (TellsAudit text old new) (λ _. PartOfAudit text old new)
+
+-- what is written for the migration of a text
+abbrev pub MigratesText : Option (List ℕ) → Option (List ℕ) → Option (List ℕ) → Option (List ℕ) → Option (List ℕ) → Result ℕ WriteFault → Type 0
+MigratesText text old new old_errors new_errors written =
     MatchResult written (TellsMigration (rows_in text) old new old_errors new_errors) (λ _. StopsMigration (rows_in text) old new old_errors new_errors)
-CarriesOut (order.Show showing) text old new old_errors new_errors written =
-    IfOk written (ShowsWords showing text old new old_errors new_errors)
-CarriesOut (order.Explain explaining) text old new old_errors new_errors written =
-    IfOk written (Explains explaining.settings explaining.faults explaining.operator text old new old_errors new_errors)
-CarriesOut (order.Check path) text old new old_errors new_errors written =
-    ((settings : List ℕ) × MatchResult written (TellsCheck settings old new) (λ _. PartOfCheck settings old new)) × (new_errors ≡ old_errors)
-CarriesOut (order.Sim running) text old new old_errors new_errors written = RunsFiles false running old new written × (new_errors ≡ old_errors)
-CarriesOut (order.Run running) text old new old_errors new_errors written = RunsFiles true running old new written × (new_errors ≡ old_errors)
+
+-- what is written for an order, with what `input` has to read: to the output, which had `old`, and to the errors. A file that is
+-- named may have any text.
+abbrev pub CarriesOut : Order → Option (List ℕ) → Option (List ℕ) → Option (List ℕ) → Option (List ℕ) → Option (List ℕ) → Result ℕ WriteFault → Type 0
+CarriesOut (order.Audit file) input old new old_errors new_errors written = OfText file input (λ text. Audits text old new written) × (new_errors ≡ old_errors)
+CarriesOut (order.Migrate file) input old new old_errors new_errors written =
+    OfText file input (λ text. MigratesText text old new old_errors new_errors written)
+CarriesOut (order.Show showing) input old new old_errors new_errors written =
+    IfOk written (ShowsWords showing input old new old_errors new_errors)
+CarriesOut (order.Explain explaining) input old new old_errors new_errors written =
+    IfOk written (Explains explaining input old new old_errors new_errors)
+CarriesOut (order.Check path) input old new old_errors new_errors written =
+    ChecksSettings old new written × (new_errors ≡ old_errors)
+CarriesOut (order.Sim running) input old new old_errors new_errors written = RunsFiles false running old new written × (new_errors ≡ old_errors)
+CarriesOut (order.Run running) input old new old_errors new_errors written = RunsFiles true running old new written × (new_errors ≡ old_errors)
 
 -- the status of an order for which this was written
 abbrev pub ended : Result ℕ WriteFault → ℕ
@@ -105,13 +157,13 @@ ended (Err _) = 3
 
 -- the words are an order's, which was carried out. What was written to the output was written out. Where the end of a run is to
 -- be explained, the errors may go on after that.
-pub record Obeys (words : List Text) (text old new old_errors : Option (List ℕ)) (status : ℕ) : Type 0 where
+pub record Obeys (words : List Word) (input old new old_errors : Option (List ℕ)) (status : ℕ) : Type 0 where
   pub order : Order
   pub ordered : IsOrdered words order
   pub out : Option (List ℕ)
   pub errors : Option (List ℕ)
   pub written : Result ℕ WriteFault
-  pub carried : CarriesOut order text old out old_errors errors written
+  pub carried : CarriesOut order input old out old_errors errors written
   pub kept : Keeps out new
   pub ends : status ≡ ended written
 
@@ -123,7 +175,7 @@ status_of_error kind.OutOfMemory = 4
 status_of_error _ = 2
 
 -- the words are refused by the first fault that clap finds in them, or memory was refused
-pub record IsTurnedAway (words : List Text) (status : ℕ) : Type 0 where
+pub record IsTurnedAway (words : List Word) (status : ℕ) : Type 0 where
   pub error : Error
   pub fault : HasKind (fault_of cellctl words) error
   pub ends : status ≡ status_of_error (kind_of error)

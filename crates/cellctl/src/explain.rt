@@ -1,61 +1,96 @@
 //! The command that says why a text is refused.
-ghost use Rattle.std.specs.Prelude.{◌≡◌, IfOk, IfSome};
-ghost use Rattle.cell_explain.specs.Explained.{EndsAsAudit};
-ghost use Rattle.cellctl.specs.Carried.{Explains};
+ghost use Rattle.std.specs.Prelude.{◌≡◌, IfOk};
+ghost use Rattle.cellctl.specs.Carried.{Explains, ExplainsSettings, ExplainsText, text_of};
 
+use crate::failure::Failure;
+use crate::texts::{
+    explain_faults_in, explain_input, explain_journal_in, explain_operator_in, settings_in,
+    tell_too_long,
+};
 use crate::wrong::wrong;
 use cell_command::Explaining;
-use cell_explain::{explain_faults, explain_journal, explain_operator, explain_settings};
+use cell_explain::explain_settings;
 use cell_lines::WriteFault;
-use std::alloc::Global;
 use std::io::{Read, Write};
 use std::rt::Files;
-use std::{fs, io};
+
+/// A text that is to be explained: a journal on the input, or what is in the file of a path.
+#[derive(Clone, Copy, Debug)]
+pub(crate) enum Text<'a> {
+    Input,
+    Journal(&'a str),
+    Settings(&'a str),
+    Faults(&'a str),
+    Operator(&'a str),
+}
 
 // What is told where more than one text is named.
-const ONE_ALONE: &str = "of --settings, --faults and --operator one alone can be given";
+const ONE_ALONE: &str = "of FILE, --settings, --faults and --operator one alone can be given";
 
-// Explains the journal on the input.
-fn explain_input<I: Read, W: Write>(
-    alloc: Global,
-    input: &mut I,
-    output: &mut W,
-) -> io::Result<Result<u8, WriteFault>>
-    ensures { IfOk result (λ written. IfOk written (λ status. IfSome (I.remaining input.old) (λ text. EndsAsAudit text status))) }
+// The text that the words of the command line name, if they name one alone.
+fn text_of<'a>(explaining: Explaining<'a>) -> Option<Text<'a>>
+    ensures { result ≡ text_of explaining.entry.journal explaining.entry.settings explaining.entry.faults explaining.entry.operator }
 {
-    let mut text: Vec<u8> = Vec::new(alloc);
-    input.read_to_end(&mut text)?;
-    Ok(explain_journal(alloc, text.as_slice(), output))
+    let Explaining {
+        journal,
+        settings,
+        faults,
+        operator,
+    } = explaining;
+    match (journal, settings, faults, operator) {
+        (None, None, None, None) => Some(Text::Input),
+        (Some(path), None, None, None) => Some(Text::Journal(path)),
+        (None, Some(path), None, None) => Some(Text::Settings(path)),
+        (None, None, Some(path), None) => Some(Text::Faults(path)),
+        (None, None, None, Some(path)) => Some(Text::Operator(path)),
+        _ => None,
+    }
+}
+
+// Explains the settings in a file, or tells that they are too long.
+fn explain_settings_in<'a, R: AllocGlobal + Files, W: Write>(
+    rt: &R,
+    path: &'a str,
+    output: &mut W,
+) -> Result<Result<u8, WriteFault>, Failure<'a>>
+    ensures { IfOk result (λ written. IfOk written (ExplainsSettings (W.contents output.old) (W.contents output.new))) }
+{
+    match settings_in(rt, path)? {
+        Some(text) => Ok(explain_settings(rt.alloc(), text.as_slice(), output)),
+        None => Ok(tell_too_long(output)),
+    }
+}
+
+// Explains a text.
+fn explain_text<'a, R: AllocGlobal + Files, I: Read + Drop, W: Write>(
+    rt: &R,
+    input: I,
+    output: &mut W,
+    text: Text<'a>,
+) -> Result<Result<u8, WriteFault>, Failure<'a>>
+    ensures { IfOk result (λ written. IfOk written (ExplainsText text.entry (I.remaining input) (W.contents output.old) (W.contents output.new))) }
+{
+    match text {
+        Text::Input => Ok(explain_input(rt.alloc(), input, output)?),
+        Text::Journal(path) => explain_journal_in(rt, path, output),
+        Text::Settings(path) => explain_settings_in(rt, path, output),
+        Text::Faults(path) => explain_faults_in(rt, path, output),
+        Text::Operator(path) => explain_operator_in(rt, path, output),
+    }
 }
 
 /// Explains the text that the words of the command line name.
-pub(crate) fn explain_words<R: AllocGlobal + Files, I: Read + Drop, W: Write, E: Write>(
+pub(crate) fn explain_words<'a, R: AllocGlobal + Files, I: Read + Drop, W: Write, E: Write>(
     rt: &R,
-    mut input: I,
+    input: I,
     output: &mut W,
     errors: &mut E,
-    explaining: Explaining<'_>,
-) -> io::Result<Result<u8, WriteFault>>
-    ensures { IfOk result (λ written. IfOk written (Explains explaining.entry.settings explaining.entry.faults explaining.entry.operator (I.remaining input)
-        (W.contents output.old) (W.contents output.new) (E.contents errors.old) (E.contents errors.new))) }
+    explaining: Explaining<'a>,
+) -> Result<Result<u8, WriteFault>, Failure<'a>>
+    ensures { IfOk result (λ written. IfOk written (Explains explaining.entry (I.remaining input) (W.contents output.old) (W.contents output.new) (E.contents errors.old) (E.contents errors.new))) }
 {
-    let alloc = rt.alloc();
-    match (explaining.settings, explaining.faults, explaining.operator) {
-        (None, None, None) => explain_input(alloc, &mut input, output),
-        (Some(path), None, None) => {
-            let text = fs::read(rt, path)?;
-            Ok(explain_settings(alloc, text.as_slice(), output))
-        }
-        (None, Some(path), None) => {
-            let text = fs::read(rt, path)?;
-            Ok(explain_faults(alloc, text.as_slice(), output))
-        }
-        (None, None, Some(path)) => {
-            let text = fs::read(rt, path)?;
-            Ok(explain_operator(alloc, text.as_slice(), output))
-        }
-        (Some(_), Some(_), _) => wrong(errors, ONE_ALONE),
-        (Some(_), None, Some(_)) => wrong(errors, ONE_ALONE),
-        (None, Some(_), Some(_)) => wrong(errors, ONE_ALONE),
+    match text_of(explaining) {
+        Some(text) => explain_text(rt, input, output, text),
+        None => Ok(wrong(errors, ONE_ALONE)?),
     }
 }

@@ -2,11 +2,15 @@
 //! settings, and the runs of the simulated cell.
 #![tactic(auto)]
 
+mod end;
 mod explain;
+mod failure;
 mod fault;
 mod named;
+mod noted;
 mod orders;
 mod show;
+mod texts;
 mod wrong;
 
 ghost use Rattle.std.specs.Prelude.{◌≡◌, ◌⊎◌, IfOk, map};
@@ -14,13 +18,16 @@ ghost use Rattle.std.specs.Io.KnownBytes.{Keeps};
 ghost use Rattle.clap.specs.Words.{kind_of};
 ghost use Rattle.cellctl.specs.Carried.{IsTurnedAway, Obeys, ended, status_of_error};
 
-use cell_command::read_words;
+use cell_command::{Escaped, Place, read_words};
 use cell_endings::write_ending;
 use cell_lines::status;
 use clap::Error;
 use clap::error::ErrorKind;
+use end::{Failed, Faults, tell_end};
+use failure::Failure;
 use fault::status_of;
 use named::Named;
+use noted::Noted;
 use orders::{Carried, carry_out};
 use std::alloc::{AllocError, Global};
 use std::env::Env;
@@ -31,15 +38,30 @@ use std::sync::Wait;
 use std::thread::Threads;
 use std::{env, io};
 
+// Writes clap's words to the errors. What they print of the command line has no control characters but line feeds.
+fn write_refusal<E: Write>(alloc: Global, errors: &mut E, error: &Error) -> io::Result<()> {
+    let text = error.to_string(alloc)?;
+    for line in text.as_str().split_terminator('\n') {
+        let line = Escaped(line);
+        writeln!(errors, "{line}")?;
+    }
+    Ok(())
+}
+
 // Writes clap's words to the errors, or the help that was asked for to the output, and gives the status.
-fn refuse<W: Write, E: Write>(output: &mut W, errors: &mut E, error: &Error) -> io::Result<u8>
+fn refuse<W: Write, E: Write>(
+    alloc: Global,
+    output: &mut W,
+    errors: &mut E,
+    error: &Error,
+) -> io::Result<u8>
     ensures { IfOk result (λ status. status ≡ status_of_error (kind_of error.now)) }
 {
     if error.kind() == ErrorKind::OutOfMemory {
         return Ok(status::OUT_OF_MEMORY);
     }
     if error.use_stderr() {
-        write!(errors, "{error}")?;
+        write_refusal(alloc, errors, error)?;
         Ok(status::WRONG_ARGUMENTS)
     } else {
         write!(output, "{error}")?;
@@ -79,22 +101,22 @@ fn finish<W: Write, E: Write>(
 }
 
 // Reads words, does what they say over any reader and writers, and gives the status.
-fn main_over<R: AllocGlobal + Files + Threads + Wait + Sync, I: Read + Drop, W: Write, E: Write>(
-    rt: &R,
-    input: I,
-    output: &mut W,
-    errors: &mut E,
-    words: &[&str],
-) -> io::Result<u8>
+fn main_over<
+    'a,
+    R: AllocGlobal + Files + Threads + Wait + Sync,
+    I: Read + Drop,
+    W: Write,
+    E: Write,
+>(rt: &R, input: I, output: &mut W, errors: &mut E, words: &'a [&'a str]) -> Result<u8, Failure<'a>>
     ensures { IfOk result (λ status. Obeys (map (λ w. w.now) words.now) (I.remaining input) (W.contents output.old) (W.contents output.new) (E.contents errors.old) status
         ⊎ IsTurnedAway (map (λ w. w.now) words.now) status) }
 {
     match read_words(rt.alloc(), words) {
         Ok(order) => {
             let carried = carry_out(rt, input, output, errors, order)?;
-            finish(rt.alloc(), output, errors, carried)
+            Ok(finish(rt.alloc(), output, errors, carried)?)
         }
-        Err(error) => refuse(output, errors, &error),
+        Err(error) => Ok(refuse(rt.alloc(), output, errors, &error)?),
     }
 }
 
@@ -114,42 +136,77 @@ fn texts_of(alloc: Global, words: &[String]) -> Result<Vec<&str>, AllocError> {
     Ok(texts)
 }
 
-// Reads the words of the command line, does what they say, and gives the status.
-fn run<R: AllocGlobal + Env + Files + Input + Print + Eprint + Threads + Wait + Sync, E: Print>(
+// Reads words, does what they say over the standard streams, notes the errors of those, and gives the status.
+fn over_streams<'a, R: AllocGlobal + Files + Input + Print + Threads + Wait + Sync, E: Print>(
     rt: &R,
     errors: &E,
-) -> io::Result<u8> {
-    match words_of(rt) {
-        Ok(words) => {
-            let texts = texts_of(rt.alloc(), words.as_slice())?;
-            let mut output = io::BufWriter::new(rt.alloc(), io::writer(rt))?;
-            main_over(
-                rt,
-                rt.reader(),
-                &mut output,
-                &mut io::writer(errors),
-                texts.as_slice(),
-            )
+    words: &'a [&'a str],
+    faults: &mut Faults,
+) -> Result<u8, Failure<'a>> {
+    let input = Noted::new(rt.reader(), &mut faults.input);
+    let buffer = io::BufWriter::new(rt.alloc(), io::writer(rt))?;
+    let mut output = Noted::new(buffer, &mut faults.output);
+    let mut errors = Noted::new(io::writer(errors), &mut faults.errors);
+    main_over(rt, input, &mut output, &mut errors, words)
+}
+
+// Reads words, does what they say, tells where it failed, and gives the status.
+fn obey<R: AllocGlobal + Files + Input + Print + Threads + Wait + Sync, E: Print>(
+    rt: &R,
+    errors: &E,
+    words: &[&str],
+) -> u8 {
+    let mut faults = Faults::NONE;
+    match over_streams(rt, errors, words, &mut faults) {
+        Ok(status) => told(errors, status, faults.failed(status)),
+        Err(Failure { file, error }) => {
+            let status = status_of(&error);
+            let failed = match file {
+                Some(path) => Some(Failed {
+                    place: Place::File(path),
+                    error: Some(error),
+                }),
+                None => faults.failed(status),
+            };
+            told(errors, status, failed)
         }
+    }
+}
+
+// Tells where the program failed, if it did, and gives the status. Where standard error fails too the status alone tells.
+fn told<E: Print>(errors: &E, status: u8, failed: Option<Failed<'_>>) -> u8
+    ensures { result ≡ status }
+{
+    let _ = tell_end(&mut io::writer(errors), status, failed);
+    status
+}
+
+// Tells that a word isn't UTF-8, and gives the status.
+fn refuse_bytes<E: Write>(errors: &mut E) -> u8 {
+    match writeln!(errors, "error: an argument isn't UTF-8") {
+        Ok(()) => status::WRONG_ARGUMENTS,
+        Err(_) => status::DEVICE_FAULT,
+    }
+}
+
+// Reads the words of the command line, does what they say, tells where it failed, and gives the status.
+fn run<R: AllocGlobal + Env + Files + Input + Print + Threads + Wait + Sync, E: Print>(
+    rt: &R,
+    errors: &E,
+) -> u8 {
+    let words = match words_of(rt) {
+        Ok(words) => words,
         Err(e) if e.kind() == io::ErrorKind::InvalidData => {
-            eprintln!(rt; "error: an argument isn't UTF-8")?;
-            Ok(status::WRONG_ARGUMENTS)
+            return refuse_bytes(&mut io::writer(errors));
         }
-        Err(e) => Err(e),
+        Err(e) => return told(errors, status_of(&e), None),
+    };
+    match texts_of(rt.alloc(), words.as_slice()) {
+        Ok(texts) => obey(rt, errors, texts.as_slice()),
+        Err(_) => told(errors, status::OUT_OF_MEMORY, None),
     }
 }
 
 fn main(rt: HostRuntime) -> ExitCode {
-    let status = match run(&rt, &rt.stderr()) {
-        Ok(status) => status,
-        Err(error) => status_of(&error),
-    };
-    let message = match status {
-        status::DEVICE_FAULT => "read fault",
-        status::OUT_OF_MEMORY => "out of memory",
-        _ => return ExitCode::from(status),
-    };
-    // Where standard error fails too, the status alone tells.
-    let _ = eprintln!(rt; "{message}");
-    ExitCode::from(status)
+    ExitCode::from(run(&rt, &rt.stderr()))
 }

@@ -1,9 +1,11 @@
 //! What is done for an order, over any reader and writers.
 ghost use Rattle.std.specs.Prelude.{◌≡◌, IfOk};
-ghost use Rattle.cellctl.specs.Carried.{CarriesOut, RunsFiles};
+ghost use Rattle.cellctl.specs.Carried.{Audits, CarriesOut, ChecksSettings, MigratesText, OfText, RunsFiles};
 
 use crate::explain::explain_words;
+use crate::failure::Failure;
 use crate::show::show_words;
+use crate::texts::{journal_in, script_in, settings_in, tell_too_long};
 use cell_command::{Order, Paths, Running};
 use cell_lines::{WriteFault, audit_lines, migrate_lines};
 use cell_runs::{KeptRun, run_texts_kept};
@@ -12,7 +14,6 @@ use std::io::{Read, Write};
 use std::rt::Files;
 use std::sync::Wait;
 use std::thread::Threads;
-use std::{fs, io};
 
 /// What was done for an order.
 #[derive(Drop)]
@@ -34,7 +35,8 @@ pub(crate) struct Ending {
 // What a run's files say.
 #[derive(Drop)]
 struct Texts {
-    settings: Vec<u8>,
+    // None where they are too long.
+    settings: Option<Vec<u8>>,
     faults: Vec<u8>,
     operator: Vec<u8>,
 }
@@ -50,24 +52,24 @@ fn without_ending(written: Result<u8, WriteFault>) -> Carried
 }
 
 // Reads the files of a run.
-fn read_files<R: AllocGlobal + Files>(rt: &R, paths: Paths<'_>) -> io::Result<Texts> {
-    let settings = fs::read(rt, paths.settings)?;
-    let faults = fs::read(rt, paths.faults)?;
-    let operator = fs::read(rt, paths.operator)?;
+fn read_files<'a, R: AllocGlobal + Files>(rt: &R, paths: Paths<'a>) -> Result<Texts, Failure<'a>> {
+    let settings = settings_in(rt, paths.settings)?;
+    let faults = script_in(rt, paths.faults)?;
+    let operator = script_in(rt, paths.operator)?;
     Ok(Texts {
         settings,
-        faults,
-        operator,
+        faults: faults.bytes,
+        operator: operator.bytes,
     })
 }
 
 // Runs the simulated cell by what three files say, on threads or in rounds. The files are all read before any is judged.
-fn run_files<R: AllocGlobal + Files + Threads + Wait + Sync, W: Write>(
+fn run_files<'a, R: AllocGlobal + Files + Threads + Wait + Sync, W: Write>(
     rt: &R,
     output: &mut W,
     threads: bool,
-    running: Running<'_>,
-) -> io::Result<Carried>
+    running: Running<'a>,
+) -> Result<Carried, Failure<'a>>
     ensures { IfOk result (λ c. RunsFiles threads running.entry (W.contents output.old) (W.contents output.new) c.written) }
 {
     let Texts {
@@ -75,6 +77,9 @@ fn run_files<R: AllocGlobal + Files + Threads + Wait + Sync, W: Write>(
         faults,
         operator,
     } = read_files(rt, running.paths)?;
+    let Some(settings) = settings else {
+        return Ok(without_ending(tell_too_long(output)));
+    };
     let ran = run_texts_kept(
         rt,
         settings.as_slice(),
@@ -102,33 +107,79 @@ fn run_files<R: AllocGlobal + Files + Threads + Wait + Sync, W: Write>(
     })
 }
 
+// Audits the journal in a file, or that on the input where no file is named.
+fn audit<'a, R: AllocGlobal + Files, I: Read + Drop, W: Write>(
+    rt: &R,
+    input: I,
+    output: &mut W,
+    file: Option<&'a str>,
+) -> Result<Result<u8, WriteFault>, Failure<'a>>
+    ensures { IfOk result (λ written. OfText file.entry (I.remaining input) (λ text. Audits text (W.contents output.old) (W.contents output.new) written)) }
+{
+    let Some(path) = file else {
+        return Ok(audit_lines(rt.alloc(), input, output));
+    };
+    let text = journal_in(rt, path)?.bytes;
+    Ok(audit_lines(rt.alloc(), text.as_slice(), output))
+}
+
+// Migrates the journal in a file, or that on the input where no file is named.
+fn migrate<'a, R: AllocGlobal + Files, I: Read + Drop, W: Write, E: Write>(
+    rt: &R,
+    input: I,
+    output: &mut W,
+    errors: &mut E,
+    file: Option<&'a str>,
+) -> Result<Result<u8, WriteFault>, Failure<'a>>
+    ensures { IfOk result (λ written. OfText file.entry (I.remaining input)
+        (λ text. MigratesText text (W.contents output.old) (W.contents output.new) (E.contents errors.old) (E.contents errors.new) written)) }
+{
+    let Some(path) = file else {
+        return Ok(migrate_lines(rt.alloc(), input, output, errors));
+    };
+    let text = journal_in(rt, path)?.bytes;
+    Ok(migrate_lines(rt.alloc(), text.as_slice(), output, errors))
+}
+
+// Checks the settings in a file, or tells that they are too long.
+fn check<'a, R: AllocGlobal + Files, W: Write>(
+    rt: &R,
+    output: &mut W,
+    path: &'a str,
+) -> Result<Result<u8, WriteFault>, Failure<'a>>
+    ensures { IfOk result (ChecksSettings (W.contents output.old) (W.contents output.new)) }
+{
+    match settings_in(rt, path)? {
+        Some(text) => Ok(check_lines(rt.alloc(), text.as_slice(), output)),
+        None => Ok(tell_too_long(output)),
+    }
+}
+
 /// Does what an order says: reads the input or the files that it names, and writes to the output and the errors. What is written
 /// isn't written out yet, and the end of a run isn't explained yet.
 pub(crate) fn carry_out<
+    'a,
     R: AllocGlobal + Files + Threads + Wait + Sync,
     I: Read + Drop,
     W: Write,
     E: Write,
->(rt: &R, mut input: I, output: &mut W, errors: &mut E, order: Order<'_>) -> io::Result<Carried>
+>(
+    rt: &R,
+    input: I,
+    output: &mut W,
+    errors: &mut E,
+    order: Order<'a>,
+) -> Result<Carried, Failure<'a>>
     ensures { IfOk result (λ c. CarriesOut order.entry (I.remaining input) (W.contents output.old) (W.contents output.new) (E.contents errors.old) (E.contents errors.new) c.written) }
 {
     match order {
-        Order::Audit => Ok(without_ending(audit_lines(rt.alloc(), input, output))),
-        Order::Migrate => Ok(without_ending(migrate_lines(rt.alloc(), input, output, errors))),
-        Order::Show(showing) => Ok(without_ending(show_words(
-            rt.alloc(),
-            input,
-            output,
-            errors,
-            showing,
-        )?)),
+        Order::Audit(file) => Ok(without_ending(audit(rt, input, output, file)?)),
+        Order::Migrate(file) => Ok(without_ending(migrate(rt, input, output, errors, file)?)),
+        Order::Show(showing) => Ok(without_ending(show_words(rt, input, output, errors, showing)?)),
         Order::Explain(explaining) => Ok(without_ending(explain_words(
             rt, input, output, errors, explaining,
         )?)),
-        Order::Check(path) => {
-            let text = fs::read(rt, path)?;
-            Ok(without_ending(check_lines(rt.alloc(), text.as_slice(), output)))
-        }
+        Order::Check(path) => Ok(without_ending(check(rt, output, path)?)),
         Order::Sim(running) => run_files(rt, output, false, running),
         Order::Run(running) => run_files(rt, output, true, running),
     }

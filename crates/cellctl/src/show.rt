@@ -1,14 +1,17 @@
 //! The command that shows the cell.
-ghost use Rattle.std.specs.Prelude.{◌≡◌, IfOk};
-ghost use Rattle.cellctl.specs.Carried.{Shows, ShowsWords, form_of};
+ghost use Rattle.std.specs.Prelude.{◌≡◌, ◌≤◌, ◌^◌, ℕ, IfOk, List, Option, Some};
+ghost use Rattle.cellctl.specs.Carried.{IsAsked, OfText, Shows, ShowsWords, form_of};
 
+use crate::failure::Failure;
+use crate::texts::journal_in;
 use crate::wrong::wrong;
-use cell_command::Showing;
+use cell_command::{Count, Escaped, Showing, read_count};
 use cell_lines::{WriteFault, status};
 use cell_show::{Form, ShowError, show_journal};
 use std::alloc::Global;
 use std::io;
 use std::io::{Read, Write};
+use std::rt::Files;
 
 // The form that the flags ask for, if they ask for one alone.
 fn form_of(showing: &Showing<'_>) -> Option<Form>
@@ -23,8 +26,9 @@ fn form_of(showing: &Showing<'_>) -> Option<Form>
     }
 }
 
-// Shows a journal's text. An entry that isn't there, or a page of too many, is told among the errors.
-fn show<I: Read + Drop, W: Write, E: Write>(
+// Shows so many entries of a journal's text, or all of them. An entry that isn't there, or a page of too many, is told among
+// the errors.
+fn show_entries<I: Read + Drop, W: Write, E: Write>(
     alloc: Global,
     input: I,
     output: &mut W,
@@ -44,30 +48,90 @@ fn show<I: Read + Drop, W: Write, E: Write>(
     }
 }
 
-/// Shows the journal on the input, as the words of the command line ask.
-pub(crate) fn show_words<I: Read + Drop, W: Write, E: Write>(
+// Tells among the errors that a journal's text hasn't so many entries as no journal has. Nothing is shown.
+fn show_beyond<I: Read + Drop, E: Write>(
+    alloc: Global,
+    input: I,
+    errors: &mut E,
+    form: Form,
+) -> io::Result<Result<u8, WriteFault>>
+    ensures { (n : ℕ) (old : Option (List ℕ)) → 2 ^ 32 ≤ n → IfOk result (λ written. IfOk written (Shows (Some n) (I.remaining input) old old (E.contents errors.old) (E.contents errors.new))) }
+{
+    let error = match show_journal(alloc, input, form, Some(u32::MAX), &mut io::sink()) {
+        Ok(status) if status > status::REFUSED => return Ok(Ok(status)),
+        // More entries than a page shows.
+        Ok(_) => ShowError::TooManyEntries,
+        Err(ShowError::WriteFault) => return Ok(Err(WriteFault)),
+        Err(error) => error,
+    };
+    writeln!(errors, "error: {error}")?;
+    Ok(Ok(status::WRONG_ARGUMENTS))
+}
+
+// Shows so many entries of a journal's text, or all of them where there is no count.
+fn show_count<I: Read + Drop, W: Write, E: Write>(
     alloc: Global,
     input: I,
     output: &mut W,
     errors: &mut E,
-    showing: Showing<'_>,
+    form: Form,
+    count: Option<Count>,
 ) -> io::Result<Result<u8, WriteFault>>
+    ensures { (entry : Option ℕ) → IsAsked count entry → IfOk result (λ written. IfOk written (Shows entry (I.remaining input) (W.contents output.old) (W.contents output.new) (E.contents errors.old) (E.contents errors.new))) }
+{
+    match count {
+        None => show_entries(alloc, input, output, errors, form, None),
+        Some(Count::Number(entry)) => {
+            show_entries(alloc, input, output, errors, form, Some(entry))
+        }
+        Some(Count::Beyond) => show_beyond(alloc, input, errors, form),
+    }
+}
+
+// Shows so many entries of the journal in a file, or of that on the input where no file is named.
+fn show_text<'a, R: AllocGlobal + Files, I: Read + Drop, W: Write, E: Write>(
+    rt: &R,
+    input: I,
+    output: &mut W,
+    errors: &mut E,
+    form: Form,
+    count: Option<Count>,
+    file: Option<&'a str>,
+) -> Result<Result<u8, WriteFault>, Failure<'a>>
+    ensures { (entry : Option ℕ) → IsAsked count entry → IfOk result (λ written. IfOk written (λ status. OfText file.entry (I.remaining input)
+        (λ text. Shows entry text (W.contents output.old) (W.contents output.new) (E.contents errors.old) (E.contents errors.new) status))) }
+{
+    let alloc = rt.alloc();
+    let Some(path) = file else {
+        return Ok(show_count(alloc, input, output, errors, form, count)?);
+    };
+    let text = journal_in(rt, path)?.bytes;
+    Ok(show_count(alloc, text.as_slice(), output, errors, form, count)?)
+}
+
+/// Shows a journal, as the words of the command line ask.
+pub(crate) fn show_words<'a, R: AllocGlobal + Files, I: Read + Drop, W: Write, E: Write>(
+    rt: &R,
+    input: I,
+    output: &mut W,
+    errors: &mut E,
+    showing: Showing<'a>,
+) -> Result<Result<u8, WriteFault>, Failure<'a>>
     ensures { IfOk result (λ written. IfOk written (ShowsWords showing.entry (I.remaining input) (W.contents output.old) (W.contents output.new) (E.contents errors.old) (E.contents errors.new))) }
 {
     let Some(form) = form_of(&showing) else {
-        return wrong(
+        return Ok(wrong(
             errors,
             "of --svg, --html and --unicode one alone can be given",
-        );
+        )?);
     };
     let Some(word) = showing.entry else {
-        return show(alloc, input, output, errors, form, None);
+        return show_text(rt, input, output, errors, form, None, showing.file);
     };
-    match word.parse::<u32>() {
-        Ok(entry) => show(alloc, input, output, errors, form, Some(entry)),
-        Err(_) => {
-            writeln!(errors, "error: ENTRY is a whole number, and not '{word}'")?;
-            Ok(Ok(status::WRONG_ARGUMENTS))
-        }
-    }
+    let Some(count) = read_count(word) else {
+        let word = Escaped(word);
+        writeln!(errors, "error: ENTRY is a whole number, and not '{word}'")?;
+        return Ok(Ok(status::WRONG_ARGUMENTS));
+    };
+    show_text(rt, input, output, errors, form, Some(count), showing.file)
 }

@@ -4,4 +4,6 @@
 #[cfg(test)]
 mod refused;
 #[cfg(test)]
+mod told;
+#[cfg(test)]
 mod words;

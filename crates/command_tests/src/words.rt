@@ -7,13 +7,17 @@ use std::test::Fail;
 // A case: the words of the command line, parted by blanks, and after the bar the order as which they are read, or clap's kind
 // of error.
 
-const ORDERS: [&str; 3] = [
-    "cellctl audit|Audit",
-    "cellctl migrate|Migrate",
+const ORDERS: [&str; 7] = [
+    "cellctl audit|Audit(None)",
+    "cellctl audit whole.journal|Audit(Some(\"whole.journal\"))",
+    "cellctl audit -- --help|Audit(Some(\"--help\"))",
+    "cellctl audit -|Audit(Some(\"-\"))",
+    "cellctl migrate|Migrate(None)",
+    "cellctl migrate whole.journal|Migrate(Some(\"whole.journal\"))",
     "cellctl check settings.toml|Check(\"settings.toml\")",
 ];
 
-const REFUSED: [&str; 17] = [
+const REFUSED: [&str; 19] = [
     "cellctl brew|InvalidSubcommand",
     "cellctl run|MissingRequiredArgument",
     "cellctl sim|MissingRequiredArgument",
@@ -22,10 +26,12 @@ const REFUSED: [&str; 17] = [
     "cellctl run a b c d|UnknownArgument",
     "cellctl check|MissingRequiredArgument",
     "cellctl check one.toml two.toml|UnknownArgument",
-    "cellctl audit journal.csv|UnknownArgument",
-    "cellctl migrate journal.csv|UnknownArgument",
+    "cellctl audit one.journal two.journal|UnknownArgument",
+    "cellctl migrate one.journal two.journal|UnknownArgument",
     "cellctl show 1 2|UnknownArgument",
-    "cellctl explain journal.csv|UnknownArgument",
+    "cellctl show --file|InvalidValue",
+    "cellctl show -f a -f b|ArgumentConflict",
+    "cellctl explain one.journal two.journal|UnknownArgument",
     "cellctl --help|DisplayHelp",
     "cellctl audit --help|DisplayHelp",
     "cellctl --version|DisplayVersion",
@@ -42,11 +48,29 @@ const RUNS: [&str; 3] = [
         paths: Paths { settings: \"cell.toml\", faults: \"none.faults\", operator: \"none.operator\" } })",
 ];
 
-const SHOWN_AND_EXPLAINED: [&str; 3] = [
-    "cellctl show --svg 20|Show(Showing { svg: true, html: false, unicode: false, entry: Some(\"20\") })",
-    "cellctl show|Show(Showing { svg: false, html: false, unicode: false, entry: None })",
+const SHOWN: [&str; 7] = [
+    "cellctl show --svg 20|Show(Showing { svg: true, html: false, unicode: false, file: None, entry: Some(\"20\") })",
+    "cellctl show|Show(Showing { svg: false, html: false, unicode: false, file: None, entry: None })",
+    "cellctl show whole.journal|\
+        Show(Showing { svg: false, html: false, unicode: false, file: None, entry: Some(\"whole.journal\") })",
+    "cellctl show --file whole.journal|\
+        Show(Showing { svg: false, html: false, unicode: false, file: Some(\"whole.journal\"), entry: None })",
+    "cellctl show --html --file=20|Show(Showing { svg: false, html: true, unicode: false, file: Some(\"20\"), entry: None })",
+    "cellctl show -f 20 30|Show(Showing { svg: false, html: false, unicode: false, file: Some(\"20\"), entry: Some(\"30\") })",
+    "cellctl show --unicode 30 -f20|\
+        Show(Showing { svg: false, html: false, unicode: true, file: Some(\"20\"), entry: Some(\"30\") })",
+];
+
+const EXPLAINED: [&str; 5] = [
+    "cellctl explain|Explain(Explaining { journal: None, settings: None, faults: None, operator: None })",
+    "cellctl explain whole.journal|\
+        Explain(Explaining { journal: Some(\"whole.journal\"), settings: None, faults: None, operator: None })",
+    "cellctl explain --settings cell.toml|\
+        Explain(Explaining { journal: None, settings: Some(\"cell.toml\"), faults: None, operator: None })",
     "cellctl explain --faults press_fails.faults|\
-        Explain(Explaining { settings: None, faults: Some(\"press_fails.faults\"), operator: None })",
+        Explain(Explaining { journal: None, settings: None, faults: Some(\"press_fails.faults\"), operator: None })",
+    "cellctl explain --operator a b|\
+        Explain(Explaining { journal: Some(\"b\"), settings: None, faults: None, operator: Some(\"a\") })",
 ];
 
 // What words are read as.
@@ -72,7 +96,7 @@ fn check<R: AllocGlobal + Abort>(rt: &R, case: &str) -> Result<(), Fail> {
 
 #[test]
 fn reads_the_words_of_the_command_line(rt: HostRuntime) -> Result<(), Fail> {
-    for cases in [ORDERS.as_slice(), &REFUSED, &RUNS, &SHOWN_AND_EXPLAINED] {
+    for cases in [ORDERS.as_slice(), &REFUSED, &RUNS, &SHOWN, &EXPLAINED] {
         for case in cases {
             check(&rt, case)?;
         }
