@@ -235,6 +235,8 @@ refuse_program() {
     refuse_words answer_is_right "sim" sim "${short[@]}"
     refuse_words answer_is_right "sim --journal" sim --journal "${short[@]}"
     cp "$folder/due.output" "$folder/input"
+    cp "$folder/due.output" "$folder/short.journal"
+    refuse_words answer_is_right "sim --follow" sim --follow "$folder/short.journal" "${short[@]}"
     refuse_words answer_is_right "audit" audit
     sed -i '3,$s/^\([a-z_]*\),/"\1",/' "$folder/input"
     refuse_words answer_is_right "audit (quoted fields)" audit

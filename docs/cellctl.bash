@@ -7,12 +7,13 @@ _cellctl() {
         words='audit migrate show explain check sim run help --help --version'
     else
         case "${COMP_WORDS[1]} $before" in
-            'explain --settings' | 'explain --faults' | 'explain --operator' | 'show --file' | 'show -f') return ;;
+            'explain --settings' | 'explain --faults' | 'explain --operator' | 'show --file' | 'show -f' | 'sim --follow') return ;;
         esac
         case ${COMP_WORDS[1]} in
             show) words='--svg --html --unicode --file --help' ;;
             explain) words='--settings --faults --operator --help' ;;
-            sim | run) words='--journal --explain --help' ;;
+            sim) words='--journal --explain --follow --help' ;;
+            run) words='--journal --explain --help' ;;
             audit | migrate | check) words='--help' ;;
             help) words='audit migrate show explain check sim run' ;;
         esac

@@ -56,7 +56,8 @@ Fits name rows (order.Migrate file) = (name ≡ codes "migrate") × HasValue row
 Fits name rows (order.Show showing) = (name ≡ codes "show") × IsShown rows showing
 Fits name rows (order.Explain explaining) = (name ≡ codes "explain") × IsExplained rows explaining
 Fits name rows (order.Check path) = (name ≡ codes "check") × HasPath rows (codes "settings") path.now
-Fits name rows (order.Sim running) = (name ≡ codes "sim") × IsRun rows running
+Fits name rows (order.Sim running) = (name ≡ codes "sim") × HasValue rows (codes "follow") None × IsRun rows running
+Fits name rows (order.Follow path running) = (name ≡ codes "sim") × HasValue rows (codes "follow") (Some path) × IsRun rows running
 Fits name rows (order.Run running) = (name ≡ codes "run") × IsRun rows running
 
 -- the words have a command that clap matches in them, and the order is of it

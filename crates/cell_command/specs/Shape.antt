@@ -60,9 +60,17 @@ flagged a = with_rule (with_rule a (flag_rule (codes "journal"))) (flag_rule (co
 unfoldable pub scripted : App → App
 scripted a = with_rule (with_rule a (path_rule (codes "faults"))) (path_rule (codes "operator"))
 
--- a command that runs the cell by three files
-abbrev pub running : Text → App
-running name = scripted (with_rule (flagged (new_app name)) (path_rule (codes "settings")))
+-- a command with the paths of a run's three files
+abbrev pub filed : App → App
+filed a = scripted (with_rule a (path_rule (codes "settings")))
+
+-- the command that runs the cell on one thread, with the option for the file of a journal that is followed
+abbrev pub sim : App
+sim = filed (with_rule (flagged (new_app (codes "sim"))) (file_rule (codes "follow")))
+
+-- the command that runs the cell on threads
+abbrev pub run : App
+run = filed (flagged (new_app (codes "run")))
 
 -- the program with the commands that judge a journal
 unfoldable pub judging : App
@@ -82,9 +90,9 @@ checking = with_subcommand reading check.top
 
 -- the program with all commands but that which runs the cell on threads
 unfoldable pub simulating : App
-simulating = with_subcommand checking (running (codes "sim")).top
+simulating = with_subcommand checking sim.top
 
 abbrev pub cellctl : App
 cellctl =
-    let whole = with_subcommand simulating (running (codes "run")).top in
+    let whole = with_subcommand simulating run.top in
     record whole { top = for_people whole.top }

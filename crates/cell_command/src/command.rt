@@ -1,13 +1,13 @@
 //! The command line that the program knows, and its help.
-ghost use Rattle.std.specs.Prelude.{◌≡◌, IfOk, codes, false};
+ghost use Rattle.std.specs.Prelude.{◌≡◌, IfOk, false};
 ghost use Rattle.clap.specs.Words.{app_of, new_app, with_rule, with_subcommand};
 ghost use Rattle.clap.specs.declared.builder.command.Command.TheViews.{out-Command};
-ghost use Rattle.cell_command.specs.Shape.{audit, cellctl, check, checking, explain, file_rule, flag_rule, flagged, journal_rule, judging, migrate, optional_rule, path_rule, pictured, reading, running, scripted, show, showing, simulating, with_input};
+ghost use Rattle.cell_command.specs.Shape.{audit, cellctl, check, checking, explain, file_rule, filed, flag_rule, flagged, journal_rule, judging, migrate, optional_rule, path_rule, pictured, reading, run, scripted, show, showing, sim, simulating, with_input};
 
 use crate::help::{
     ABOUT, AFTER, AUDIT_ABOUT, AUDIT_EXAMPLE, AUDIT_HELP, CHECK_ABOUT, CHECK_EXAMPLE, CHECK_HELP,
     ENTRY_HELP, EXPLAIN_ABOUT, EXPLAIN_EXAMPLE, EXPLAIN_HELP, EXPLAIN_USAGE, FAULTS_HELP,
-    FILE_HELP, HTML_HELP, JOURNAL_HELP, MIGRATE_ABOUT, MIGRATE_EXAMPLE, MIGRATE_HELP,
+    FILE_HELP, FOLLOW_HELP, HTML_HELP, JOURNAL_HELP, MIGRATE_ABOUT, MIGRATE_EXAMPLE, MIGRATE_HELP,
     OPERATOR_HELP, RUN_ABOUT, RUN_EXAMPLE, RUN_HELP, SETTINGS_HELP, SHOW_ABOUT, SHOW_EXAMPLE,
     SHOW_HELP, SHOW_USAGE, SIM_ABOUT, SIM_EXAMPLE, SIM_HELP, SVG_HELP, UNICODE_HELP, VERSION,
     WHY_HELP,
@@ -81,13 +81,14 @@ fn with_file<'a>(
     alloc: Global,
     command: Command<'a>,
     id: &'a str,
+    name: &'a str,
     help: &'a str,
 ) -> Result<Command<'a>, AllocError>
     requires local { (out-Command command).has_globals ≡ false }
     ensures app { IfOk result (λ c. app_of c ≡ with_rule (app_of command.entry) (file_rule id.entry.now)) }
     ensures local { IfOk result (λ c. (out-Command c).has_globals ≡ false) }
 {
-    command.arg(Arg::new(alloc, id).long(id).value_name("FILE").help(help))
+    command.arg(Arg::new(alloc, id).long(id).value_name(name).help(help))
 }
 
 // Adds a word that may be given.
@@ -195,9 +196,9 @@ fn explain_command<'a>(alloc: Global) -> Result<Command<'a>, AllocError>
         EXPLAIN_EXAMPLE,
     )
     .override_usage(EXPLAIN_USAGE);
-    let settings = with_file(alloc, command, "settings", SETTINGS_HELP)?;
-    let faults = with_file(alloc, settings, "faults", FAULTS_HELP)?;
-    let operator = with_file(alloc, faults, "operator", OPERATOR_HELP)?;
+    let settings = with_file(alloc, command, "settings", "FILE", SETTINGS_HELP)?;
+    let faults = with_file(alloc, settings, "faults", "FILE", FAULTS_HELP)?;
+    let operator = with_file(alloc, faults, "operator", "FILE", OPERATOR_HELP)?;
     with_journal(alloc, operator)
 }
 
@@ -222,20 +223,35 @@ fn with_scripts<'a>(alloc: Global, command: Command<'a>) -> Result<Command<'a>, 
     with_path(alloc, faults, "operator", "OPERATOR", OPERATOR_HELP)
 }
 
-// A command that runs the cell by three files, with its texts.
-fn running_command<'a>(
-    alloc: Global,
-    name: &'a str,
-    about: &'a str,
-    help: &'a str,
-    example: &'a str,
-) -> Result<Command<'a>, AllocError>
-    ensures app { IfOk result (λ c. app_of c ≡ running name.entry.now) }
+// Adds the paths of a run's three files.
+fn with_files<'a>(alloc: Global, command: Command<'a>) -> Result<Command<'a>, AllocError>
+    requires local { (out-Command command).has_globals ≡ false }
+    ensures app { IfOk result (λ c. app_of c ≡ filed (app_of command.entry)) }
     ensures local { IfOk result (λ c. (out-Command c).has_globals ≡ false) }
 {
-    let flagged = with_flags(alloc, described(alloc, name, about, help, example))?;
-    let settings = with_path(alloc, flagged, "settings", "SETTINGS", SETTINGS_HELP)?;
+    let settings = with_path(alloc, command, "settings", "SETTINGS", SETTINGS_HELP)?;
     with_scripts(alloc, settings)
+}
+
+// The command that runs the cell on one thread, with the option for a journal that is followed.
+fn sim_command<'a>(alloc: Global) -> Result<Command<'a>, AllocError>
+    ensures app { IfOk result (λ c. app_of c ≡ sim) }
+    ensures local { IfOk result (λ c. (out-Command c).has_globals ≡ false) }
+{
+    let command = described(alloc, "sim", SIM_ABOUT, SIM_HELP, SIM_EXAMPLE);
+    let flagged = with_flags(alloc, command)?;
+    let follow = with_file(alloc, flagged, "follow", "JOURNAL", FOLLOW_HELP)?;
+    with_files(alloc, follow)
+}
+
+// The command that runs the cell on threads.
+fn run_command<'a>(alloc: Global) -> Result<Command<'a>, AllocError>
+    ensures app { IfOk result (λ c. app_of c ≡ run) }
+    ensures local { IfOk result (λ c. (out-Command c).has_globals ≡ false) }
+{
+    let command = described(alloc, "run", RUN_ABOUT, RUN_HELP, RUN_EXAMPLE);
+    let flagged = with_flags(alloc, command)?;
+    with_files(alloc, flagged)
 }
 
 // Adds a command.
@@ -300,17 +316,17 @@ fn simulating_commands<'a>(alloc: Global) -> Result<Command<'a>, AllocError>
     ensures local { IfOk result (λ c. (out-Command c).has_globals ≡ false) }
 {
     let checking = checking_commands(alloc)?;
-    let sim = running_command(alloc, "sim", SIM_ABOUT, SIM_HELP, SIM_EXAMPLE)?;
+    let sim = sim_command(alloc)?;
     add(checking, sim)
 }
 
 // The program with all commands.
 fn all_commands<'a>(alloc: Global) -> Result<Command<'a>, AllocError>
-    ensures app { IfOk result (λ c. app_of c ≡ with_subcommand simulating (running (codes "run")).top) }
+    ensures app { IfOk result (λ c. app_of c ≡ with_subcommand simulating run.top) }
     ensures local { IfOk result (λ c. (out-Command c).has_globals ≡ false) }
 {
     let simulating = simulating_commands(alloc)?;
-    let run = running_command(alloc, "run", RUN_ABOUT, RUN_HELP, RUN_EXAMPLE)?;
+    let run = run_command(alloc)?;
     add(simulating, run)
 }
 

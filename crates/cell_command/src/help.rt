@@ -193,8 +193,21 @@ With --explain there stand besides, on standard error, the failed machines with
 their causes, the plates in the cell and what each waits for, the operator's
 first record that isn't done, and the faults whose motions were never reached.
 
-Exit status: 0 finished, 1 another end or a text refused, 2 wrong arguments, 3
-a read or a write failed, 4 out of memory.";
+With --follow it takes the run of a journal again, as one that the command run
+printed with --journal, by the same three files: for each entry of JOURNAL in
+order its machine alone takes readings until it books an entry, at most as many
+as the settings allow, or the operator does his next record. Where each entry
+came again the first line is
+  followed
+and else that of the first in whose place another came, or none:
+  entry 43: declared,press1,no_departure, in place of forged,press1,1,
+  entry 43: nothing in place of forged,press1,1,
+or memory. The lines below it count what was booked, of which --journal prints
+the text alone. A journal that is refused or can't be read is told by the line
+of the command audit, and nothing runs.
+
+Exit status: 0 finished or followed, 1 another end, another or no entry, or a
+text refused, 2 wrong arguments, 3 a read or a write failed, 4 out of memory.";
 
 pub(crate) const SIM_EXAMPLE: &str = "\
 Example: cellctl sim examples/press_fails.toml \\
@@ -280,6 +293,8 @@ write failed, 4 out of memory.";
 pub(crate) const EXPLAIN_EXAMPLE: &str = "Example: cellctl explain examples/refused.journal";
 
 pub(crate) const JOURNAL_HELP: &str = "Print the run's journal alone";
+
+pub(crate) const FOLLOW_HELP: &str = "Take the run of this journal again";
 
 pub(crate) const WHY_HELP: &str = "Say on standard error why the run ended so";
 

@@ -1,5 +1,5 @@
 //! The words of the command line.
-ghost use Rattle.std.specs.Prelude.{IfOk, IfSome, map};
+ghost use Rattle.std.specs.Prelude.{IfOk, IfSome, codes, map};
 ghost use Rattle.clap.specs.Kinds.{FailsBy};
 ghost use Rattle.clap.specs.Words.{fault_of, found_of, rows_of};
 ghost use Rattle.cell_command.specs.Shape.{cellctl};
@@ -61,6 +61,8 @@ pub enum Order<'a> {
     Check(&'a str),
     /// Run the simulated cell on one thread.
     Sim(Running<'a>),
+    /// Follow the journal in the file of this path on one thread, with the simulated cell.
+    Follow(&'a str, Running<'a>),
     /// Run the simulated cell by workers on threads.
     Run(Running<'a>),
 }
@@ -95,6 +97,17 @@ fn run_words<'a>(matches: &ArgMatches<'a>) -> Option<Running<'a>>
         explain: flag(matches, "explain"),
         paths: three_paths(matches)?,
     })
+}
+
+// How the simulated cell is to be run on one thread: in rounds, or after the journal that is named.
+fn sim_words<'a>(matches: &ArgMatches<'a>) -> Option<Order<'a>>
+    ensures { IfSome result (Fits (codes "sim") (rows_of (found_of matches.now))) }
+{
+    let running = run_words(matches)?;
+    match value(matches, "follow") {
+        Some(path) => Some(Order::Follow(path, running)),
+        None => Some(Order::Sim(running)),
+    }
 }
 
 // How a journal is to be shown.
@@ -146,7 +159,7 @@ fn order_of<'a>(name: &str, matches: &ArgMatches<'a>) -> Option<Order<'a>>
         "show" => Some(Order::Show(show_words(matches))),
         "explain" => Some(Order::Explain(explain_words(matches))),
         "check" => Some(Order::Check(path(matches, "settings")?)),
-        "sim" => Some(Order::Sim(run_words(matches)?)),
+        "sim" => sim_words(matches),
         "run" => Some(Order::Run(run_words(matches)?)),
         _ => None,
     }

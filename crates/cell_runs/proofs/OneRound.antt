@@ -1,5 +1,5 @@
 -- What the steps of a round lead to
-use Rattle.std.proofs.Common.{◌≡◌, ◌≢◌, ◌⊎◌, inl, inr, ℕ, ◌+◌, List, [], ◌∷◌, ◌++◌, map, length, Bool, true, false, not, Option, Some, None, refl, sym, ap, subst, ◌∙◌, append_assoc, append-nil, arith, length-append, Result, Ok, Err, IfErr, option_to_list, eqb-true}
+use Rattle.std.proofs.Common.{◌≡◌, ◌≢◌, ◌⊎◌, inl, inr, ℕ, ◌+◌, ◌<◌, List, [], ◌∷◌, ◌++◌, map, length, Bool, true, false, not, Option, Some, None, refl, sym, ap, subst, ◌∙◌, append_assoc, append-nil, arith, length-append, Result, Ok, Err, IfErr, option_to_list, eqb-true}
 use Rattle.std.specs.Prelude.{if◌then◌else◌, nat_eq}
 use Rattle.std.specs.Result.{IsErrAnd}
 use Rattle.std.proofs.Math.Nat.{zero-add}
@@ -52,6 +52,44 @@ leads_nowhere l p s _ _ r f (one_hand {steps = ys} e b d) h = absurd (no_snoc ys
 leads_nowhere l p s t _ r f (one_spared {steps = ys} e b d) h = absurd (no_snoc ys (Hand e) h)
 leads_nowhere l p s t _ r _ (one_failed {steps = ys} e b d c) h = absurd (no_snoc ys (Hand e) h)
 
+none_refused : (l : BookLimits) (p : Plan) (s t : Now) (zs : List Step) (r f : ℕ) → Leads l p s zs r f t → zs ≡ [] → r ≡ 0
+none_refused l p s _ _ _ _ stays h = refl
+none_refused l p s t _ r f (one_turn {steps = ys} m x b d) h = absurd (no_snoc ys (Turn m x) h)
+none_refused l p s t _ _ f (one_refused {steps = ys} m x why b d) h = absurd (no_snoc ys (Turn m x) h)
+none_refused l p s _ _ r f (one_hand {steps = ys} e b d) h = absurd (no_snoc ys (Hand e) h)
+none_refused l p s t _ r f (one_spared {steps = ys} e b d) h = absurd (no_snoc ys (Hand e) h)
+none_refused l p s t _ r _ (one_failed {steps = ys} e b d c) h = absurd (no_snoc ys (Hand e) h)
+
+-- one step with a refused turn changes nothing
+not_refused : (r : ℕ) → r ≡ 0 → 0 < r → ⊥
+not_refused r none some = omega (arith, none, some)
+
+refused_still : (l : BookLimits) (p : Plan) (s t : Now) (zs : List Step) (r f : ℕ) (x : Step) → Leads l p s zs r f t → zs ≡ x ∷ [] → 0 < r → s ≡ t
+refused_still l p s _ _ _ _ x stays h some = refl
+refused_still l p s t _ r f x (one_turn {t = v} {steps = ys} m y b d) h some = absurd (not_refused r (none_refused l p s v ys r f b (one_of ys (Turn m y) x h).0) some)
+refused_still l p s t _ _ f x (one_refused {steps = ys} {refused = r} m y why b d) h some = leads_nowhere l p s t ys r f b (one_of ys (Turn m y) x h).0
+refused_still l p s _ _ r f x (one_hand {t = v} {steps = ys} e b d) h some = absurd (not_refused r (none_refused l p s v ys r f b (one_of ys (Hand e) x h).0) some)
+refused_still l p s t _ r f x (one_spared {steps = ys} e b d) h some = absurd (not_refused r (none_refused l p s t ys r f b (one_of ys (Hand e) x h).0) some)
+refused_still l p s t _ r _ x (one_failed {steps = ys} {failed = f} e b d c) h some = absurd (not_refused r (none_refused l p s t ys r f b (one_of ys (Hand e) x h).0) some)
+
+pub unchanged_if_refused : (p : Plan) (x : Step) (refused : ℕ) (a b : History) (ws ws' : Six Watch) (told : Bool) (acts acts' : ActLog) (minds : Six Mind)
+    → 0 < refused → Scheduled p (x ∷ []) refused a b ws ws' told acts acts' → FitAll ws minds → b.entries ≡ a.entries
+unchanged_if_refused p x refused a b ws ws' told acts acts' minds some s fits =
+    let led = s.led minds fits in
+    ap (λ (u : Now). u.journal) (sym (refused_still a.limits p (now a.entries minds) (now b.entries led.minds) (x ∷ []) refused s.failed x led.leads refl some))
+
+-- memory that is refused at a first step leaves all as it was
+before_first : (x y : Step) (done left : List Step) → x ∷ [] ≡ done ++ y ∷ left → done ≡ []
+before_first x y [] left h = refl
+before_first x y (z ∷ []) left h = cc
+before_first x y (z ∷ w ∷ done) left h = cc
+
+pub unchanged_if_stopped : (p : Plan) (x y : Step) (done left : List Step) (refused : ℕ) (a b : History) (ws ws' : Six Watch) (told : Bool) (acts acts' : ActLog) (minds : Six Mind)
+    → x ∷ [] ≡ done ++ y ∷ left → Scheduled p done refused a b ws ws' told acts acts' → FitAll ws minds → b.entries ≡ a.entries
+unchanged_if_stopped p x y done left refused a b ws ws' told acts acts' minds is s fits =
+    let led = s.led minds fits in
+    ap (λ (u : Now). u.journal) (sym (leads_nowhere a.limits p (now a.entries minds) (now b.entries led.minds) done refused s.failed led.leads (before_first x y done left is)))
+
 -- one step by hand books that entry, which is the operator's, or nothing
 abbrev HandsOver : Now → Now → Entry → Type 0
 HandsOver s t e = ((t.journal ≡ s.journal ++ e ∷ []) × (actor_of e ≡ actor.Operator)) ⊎ (t.journal ≡ s.journal)
@@ -76,6 +114,20 @@ by_hand l p s _ _ r f e (one_hand {t = v} {steps = ys} x b d) h =
     same_entry q = cc
 by_hand l p s t _ r f e (one_spared {steps = ys} x b d) h = inr (ap (λ (u : Now). u.journal) (sym (leads_nowhere l p s t ys r f b (one_of ys (Hand x) (Hand e) h).0)))
 by_hand l p s t _ r _ e (one_failed {steps = ys} {failed = f} x b d c) h = inr (ap (λ (u : Now). u.journal) (sym (leads_nowhere l p s t ys r f b (one_of ys (Hand x) (Hand e) h).0)))
+
+-- one step books one entry at most
+pub one_booked : (l : BookLimits) (p : Plan) (s t : Now) (zs : List Step) (r f : ℕ) (x : Step) → Leads l p s zs r f t → zs ≡ x ∷ [] → (b : Option Entry) × (t.journal ≡ s.journal ++ option_to_list b)
+one_booked l p s _ _ _ _ x stays h = (None, sym (append-nil s.journal))
+one_booked l p s t _ r f x (one_turn {t = v} {steps = ys} m y b d) h =
+    (d.booked, d.journal ∙ ap (λ (u : Now). u.journal ++ option_to_list d.booked) (sym (leads_nowhere l p s v ys r f b (one_of ys (Turn m y) x h).0)))
+one_booked l p s t _ _ f x (one_refused {steps = ys} {refused = r} m y why b d) h =
+    (None, ap (λ (u : Now). u.journal) (sym (leads_nowhere l p s t ys r f b (one_of ys (Turn m y) x h).0)) ∙ sym (append-nil s.journal))
+one_booked l p s _ _ r f x (one_hand {t = v} {steps = ys} e b d) h =
+    (Some e, ap (λ (u : Now). u.journal ++ e ∷ []) (sym (leads_nowhere l p s v ys r f b (one_of ys (Hand e) x h).0)))
+one_booked l p s t _ r f x (one_spared {steps = ys} e b d) h =
+    (None, ap (λ (u : Now). u.journal) (sym (leads_nowhere l p s t ys r f b (one_of ys (Hand e) x h).0)) ∙ sym (append-nil s.journal))
+one_booked l p s t _ r _ x (one_failed {steps = ys} {failed = f} e b d c) h =
+    (None, ap (λ (u : Now). u.journal) (sym (leads_nowhere l p s t ys r f b (one_of ys (Hand e) x h).0)) ∙ sym (append-nil s.journal))
 
 own_entry : (e : Entry) → actor_of e ≡ actor.Operator → entries_of actor.Operator (e ∷ []) ≡ e ∷ []
 own_entry e h = ap (λ (a : Actor). if same_actor actor.Operator a then e ∷ [] else []) h

@@ -1,4 +1,4 @@
--- A run in rounds as one schedule
+-- A run on one thread as one schedule
 use Rattle.std.proofs.Common.{ℕ, ◌+◌, List, [], ◌∷◌, ◌++◌, subst, sym}
 use Rattle.std.proofs.Math.Nat.{zero-add}
 use Rattle.cell_types.specs.declared.words.Entry.{Entry}
@@ -19,16 +19,16 @@ use Rattle.cell_runs.specs.Rounds.Operates.{rests, waits, books, fails}
 use Rattle.cell_runs.specs.Rounds.Rounds.{none as no_round, more as one_more}
 
 -- some steps lead from one state to another, and none of them is a refused turn
-abbrev Led : BookLimits → Plan → Now → Now → Type 0
+abbrev pub Led : BookLimits → Plan → Now → Now → Type 0
 Led l p s t = (steps : List Step) × (failed : ℕ) × Leads l p s steps 0 failed t
 
-operates_lead : (l : BookLimits) (p : Plan) (s t : Place) → Operates l p s t → Led l p s.now t.now
+pub operates_lead : (l : BookLimits) (p : Plan) (s t : Place) → Operates l p s t → Led l p s.now t.now
 operates_lead l p _ _ rests = ([], 0, stays)
 operates_lead l p _ _ (waits h) = ([], 0, stays)
 operates_lead l p _ _ (books {failed = f} a h b grew) = (Hand (entry_of a) ∷ [], f, b)
 operates_lead l p _ _ (fails {failed = f} a h b same) = (Hand (entry_of a) ∷ [], f, b)
 
-then_led : (l : BookLimits) (p : Plan) (s t u : Now) → Led l p s t → Led l p t u → Led l p s u
+pub then_led : (l : BookLimits) (p : Plan) (s t u : Now) → Led l p s t → Led l p t u → Led l p s u
 then_led l p s t u (xs, f, a) (ys, g, b) = (xs ++ ys, f + g, leads_join l p s t u xs ys 0 0 f g a b)
 
 round_leads : (l : BookLimits) (p : Plan) (s t : Place) → Round l p s t → Led l p s.now t.now
@@ -39,7 +39,7 @@ rounds_lead l p s _ _ no_round = ([], 0, stays)
 rounds_lead l p s u _ (one_more {n = n} {t = t} h r) = then_led l p s.now t.now u.now (rounds_lead l p s t n h) (round_leads l p t u r)
 
 -- some steps lead to a journal
-abbrev Reached : BookLimits → Plan → Now → List Entry → Type 0
+abbrev pub Reached : BookLimits → Plan → Now → List Entry → Type 0
 Reached l p s J = (steps : List Step) × (refused : ℕ) × (failed : ℕ) × (minds : Six Mind) × Leads l p s steps refused failed (now J minds)
 
 then_breaks : (l : BookLimits) (p : Plan) (s t : Now) (J : List Entry) (r : ℕ) → Led l p s t → Breaks l p round_steps t J r → Reached l p s J

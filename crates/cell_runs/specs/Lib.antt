@@ -1,3 +1,5 @@
+pub mod Followed
 pub mod Inputs
 pub mod Rounds
 pub mod Runs
+pub mod Told

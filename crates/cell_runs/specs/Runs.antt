@@ -35,11 +35,15 @@ status_of end.TurnLimit = 1
 status_of end.Memory = 4
 status_of end.Full = 1
 
+-- a first line, and the lines of these totals
+abbrev pub counts_after : List ℕ → Totals → List ℕ
+counts_after first t =
+    (first ++ 10 ∷ []) ++ (number_line (codes "admitted") t.admitted ++ (number_line (codes "forged") t.forged
+    ++ (number_line (codes "quarantined") t.quarantined ++ number_line (codes "delivered") t.delivered)))
+
 -- the lines of a run that ended so and counted these totals
 abbrev pub run_lines : End → Totals → List ℕ
-run_lines e t =
-    (word_of e ++ 10 ∷ []) ++ (number_line (codes "admitted") t.admitted ++ (number_line (codes "forged") t.forged
-    ++ (number_line (codes "quarantined") t.quarantined ++ number_line (codes "delivered") t.delivered)))
+run_lines e t = counts_after (word_of e) t
 
 -- what is printed of a run with this journal: its lines, or the journal's text alone
 abbrev pub shown : Bool → End → Totals → List Entry → List ℕ

@@ -1,7 +1,13 @@
-//! What holds of runs in rounds. The function's contract is the law, and its body is empty.
+//! What holds of runs on one thread. Each function's contract is the law, and its body is empty.
+ghost use Rattle.cell_runs.specs.Followed.{FollowedAreSchedules};
 ghost use Rattle.cell_runs.specs.Rounds.{RunsAreSchedules};
 
 /// A run in rounds is a schedule: there are steps that lead from the empty journal to the run's.
 pub fn runs_are_schedules()
     ensures { RunsAreSchedules }
+{}
+
+/// What is booked while a journal is followed is a schedule: there are steps that lead from the empty journal to it.
+pub fn followed_are_schedules()
+    ensures { FollowedAreSchedules }
 {}

@@ -1,6 +1,9 @@
 //! Runs of the simulated cell by their texts, in rounds on one thread or by workers on threads, and what is printed of them.
 #![tactic(auto)]
 
+mod follow;
+mod followed;
+mod following;
 mod inputs;
 pub mod laws;
 mod refused;
@@ -9,7 +12,9 @@ mod rounds;
 mod simulation;
 mod texts;
 
+pub use follow::{Followed, Following};
+pub use following::{follow_texts, follow_texts_kept, follow_texts_kept_watched};
 pub use inputs::{InputError, Inputs, read_inputs};
 pub use rounds::Outcome;
-pub use simulation::simulate;
+pub use simulation::{follow_journal, simulate};
 pub use texts::{KeptRun, run_texts, run_texts_kept, run_texts_kept_watched, run_texts_watched};

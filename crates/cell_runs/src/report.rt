@@ -7,7 +7,7 @@ ghost use Rattle.cell_turns.specs.declared.plan.Plan.{Plan as PlanValue};
 ghost use Rattle.cell_workers.specs.Report.{IsReport};
 ghost use Rattle.operator_desk.specs.declared.line.Line.{Line};
 ghost use Rattle.cell_runs.specs.Rounds.{IsRun};
-ghost use Rattle.cell_runs.specs.Runs.{PartOfReport, PartOfRounds, PrintsOrStops, WritesReport, WritesRounds, WritesRunError, disagrees_line, kept, limits_of, run_lines, shown, status_of, word_of};
+ghost use Rattle.cell_runs.specs.Runs.{PartOfReport, PartOfRounds, PrintsOrStops, WritesReport, WritesRounds, WritesRunError, counts_after, disagrees_line, kept, limits_of, shown, status_of, word_of};
 
 use crate::rounds::Outcome;
 use cell_audit::{WatchedWriter, WriteError, WriteFault, write_journal_watched};
@@ -43,15 +43,15 @@ fn status_of(end: End) -> u8
     }
 }
 
-// Writes the five lines of a run that counted these totals.
-fn write_counts<W: Write>(
+/// Writes a first line, and the four lines of these totals.
+pub(crate) fn write_counts<W: Write>(
     writer: &mut WatchedWriter<'_, W>,
-    end: End,
+    first: &str,
     totals: Totals,
 ) -> Result<(), WriteFault>
     ensures writer { IsSameWriter writer.old writer.new }
-    ensures whole { OnOk result (Appends (bytes_held W.contents writer.old) (bytes_held W.contents writer.new) (run_lines end totals)) }
-    ensures part { IsErr result → WritesPart (bytes_held W.contents writer.old) (bytes_held W.contents writer.new) (run_lines end totals) }
+    ensures whole { OnOk result (Appends (bytes_held W.contents writer.old) (bytes_held W.contents writer.new) (counts_after first.now totals)) }
+    ensures part { IsErr result → WritesPart (bytes_held W.contents writer.old) (bytes_held W.contents writer.new) (counts_after first.now totals) }
     ensures fault { IsErr result → has_refused writer.new ≡ true }
 {
     let mut admitted = Buffer::new();
@@ -59,7 +59,7 @@ fn write_counts<W: Write>(
     let mut quarantined = Buffer::new();
     let mut delivered = Buffer::new();
     writer.write_pieces(&[
-        word_of(end).as_bytes(),
+        first.as_bytes(),
         b"\nadmitted ",
         admitted.format(totals.admitted).as_bytes(),
         b"\nforged ",
@@ -94,7 +94,7 @@ fn write_run<W: Write>(
             Err(WriteError::OutOfMemory) => Ok(status::OUT_OF_MEMORY),
         };
     }
-    write_counts(writer, end, totals)?;
+    write_counts(writer, word_of(end), totals)?;
     Ok(status_of(end))
 }
 

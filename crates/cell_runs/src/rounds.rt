@@ -28,19 +28,19 @@ pub struct Outcome {
     pub end: End,
 }
 
-// What a run has from round to round.
+/// What a run has from step to step.
 #[derive(Drop)]
-struct Progress<R: Run> {
-    kept: Kept<R>,
-    shares: Shares<R>,
-    watches: Watches,
-    script: Script,
-    // The operator's port failed.
-    lost: bool,
+pub(crate) struct Progress<R: Run> {
+    pub(crate) kept: Kept<R>,
+    pub(crate) shares: Shares<R>,
+    pub(crate) watches: Watches,
+    pub(crate) script: Script,
+    /// The operator's port failed.
+    pub(crate) lost: bool,
 }
 
-// One step. It answers whether the operator booked an entry in it, or the end that the step sets.
-fn take_step<P: Port, O: OperatorPort, R: Run>(
+/// One step. It answers whether the operator booked an entry in it, or the end that the step sets.
+pub(crate) fn take_step<P: Port, O: OperatorPort, R: Run>(
     alloc: Global,
     step: Step,
     ports: &mut Ports<P>,
@@ -55,6 +55,7 @@ fn take_step<P: Port, O: OperatorPort, R: Run>(
     ensures took { IfOk result (λ _. (minds : SixValue Mind) → FitAll cell.old.watches minds → Takes cell.old.kept.limits plan.now (step ∷ []) (now cell.old.kept.entries minds) cell.new.kept.entries cell.new.watches) }
     ensures booked { IfOk result (λ booked. (minds : SixValue Mind) → FitAll cell.old.watches minds → (e : EntryValue) → step ≡ steps.Hand e → cell.new.kept.entries ≡ cell.old.kept.entries ++ (if booked then e ∷ [] else [])) }
     ensures stops { IfErr result (λ e. (minds : SixValue Mind) → FitAll cell.old.watches minds → Stops cell.old.kept.limits plan.now (turn_of step ∷ []) (now cell.old.kept.entries minds) cell.new.kept.entries e) }
+    ensures unchanged { IfErr result (λ _. (minds : SixValue Mind) → FitAll cell.old.watches minds → cell.new.kept.entries ≡ cell.old.kept.entries) }
 {
     let ran = run_schedule(
         alloc,
@@ -102,8 +103,8 @@ fn take_turns<P: Port, O: OperatorPort, R: Run>(
     Ok(())
 }
 
-// The operator's next action, if there is one. Where his port fails, nothing is booked and he does nothing more.
-fn act<P: Port, O: OperatorPort, R: Run>(
+/// The operator's next action, if there is one. Where his port fails, nothing is booked and he does nothing more.
+pub(crate) fn act<P: Port, O: OperatorPort, R: Run>(
     alloc: Global,
     ports: &mut Ports<P>,
     hands: &mut O,
@@ -115,6 +116,7 @@ fn act<P: Port, O: OperatorPort, R: Run>(
     ensures limits { cell.new.kept.limits ≡ cell.old.kept.limits }
     ensures operates { IfOk result (λ _. (minds : SixValue Mind) → FitAll cell.old.watches minds → Reaches (Operates cell.old.kept.limits plan.now (place (now cell.old.kept.entries minds) cell.old.script cell.old.lost)) cell.new.kept.entries cell.new.watches cell.new.script cell.new.lost) }
     ensures stops { IfErr result (λ e. (minds : SixValue Mind) → FitAll cell.old.watches minds → Stops cell.old.kept.limits plan.now (None ∷ []) (now cell.old.kept.entries minds) cell.new.kept.entries e) }
+    ensures unchanged { IfErr result (λ _. (minds : SixValue Mind) → FitAll cell.old.watches minds → cell.new.kept.entries ≡ cell.old.kept.entries) }
 {
     if cell.lost {
         return Ok(());

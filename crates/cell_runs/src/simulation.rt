@@ -1,16 +1,19 @@
-//! A run over the simulated cell on one thread.
-ghost use Rattle.std.specs.Prelude.{◌≡◌, IfOk};
+//! Runs over the simulated cell on one thread.
+ghost use Rattle.std.specs.Prelude.{◌≡◌, [], IfOk};
+ghost use Rattle.cell_runs.specs.Followed.{IsFollowed};
 ghost use Rattle.cell_runs.specs.Rounds.{IsRun};
 ghost use Rattle.cell_runs.specs.Runs.{limits_of};
 
+use crate::follow::{Following, follow_over};
 use crate::rounds::{Outcome, run_over};
+use cell_journal::Journal;
 use cell_ledger::Blanks;
 use cell_sim::{FaultScript, SimPort, World};
 use cell_types::Machine;
 use cell_workers::{OperatorPort, Plan, Ports, Six};
 use operator_desk::Script;
 use plate_book::Book;
-use std::alloc::AllocError;
+use std::alloc::{AllocError, Global};
 use std::marker::Brand;
 use std::sync::{Mutex, Wait};
 
@@ -30,6 +33,16 @@ pub(crate) fn ports_of<'a, R: Wait>(
     }
 }
 
+// An empty book within a plan's limits.
+fn empty_book(alloc: Global, plan: &Plan) -> Result<Book, AllocError>
+    ensures { IfOk result (λ book. book ≡ record { limits = limits_of plan.now; entries = [] }) }
+{
+    match Book::new(alloc, plan.journal_limit, plan.plates) {
+        Ok(book) => Ok(book),
+        Err(_) => Err(AllocError),
+    }
+}
+
 /// Runs the simulated cell over a world on one thread, in rounds, with these hands of the operator. The error is that the
 /// book's memory was refused.
 pub fn simulate<R: AllocGlobal + Wait, O: OperatorPort>(
@@ -44,9 +57,30 @@ pub fn simulate<R: AllocGlobal + Wait, O: OperatorPort>(
     ensures run { IfOk result (λ outcome. IsRun (limits_of plan.now) plan.now script outcome.book.entries outcome.end) }
 {
     let alloc = rt.alloc();
-    let Ok(book) = Book::new(alloc, plan.journal_limit, plan.plates) else {
-        return Err(AllocError);
-    };
+    let book = empty_book(alloc, plan)?;
     let mut ports = ports_of(rt, world, faults);
     Ok(run_over::<_, _, Brand>(alloc, book, Blanks::new(1), &mut ports, hands, script, plan))
+}
+
+/// Follows a journal over a world of the simulated cell on one thread, with these hands of the operator: for each of its entries the
+/// entry's actor alone acts, until he books one. The error is that the book's memory was refused.
+pub fn follow_journal<R: AllocGlobal + Wait, O: OperatorPort>(
+    rt: &R,
+    plan: &Plan,
+    faults: &FaultScript,
+    script: Script,
+    world: &Mutex<World>,
+    hands: &mut O,
+    journal: &Journal,
+) -> Result<Following, AllocError>
+    ensures limits { IfOk result (λ following. following.book.limits ≡ limits_of plan.now) }
+    ensures followed { IfOk result (λ following. IsFollowed (limits_of plan.now) plan.now script journal.now.entries following.book.entries following.followed) }
+{
+    let alloc = rt.alloc();
+    let book = empty_book(alloc, plan)?;
+    let mut ports = ports_of(rt, world, faults);
+    let blanks = Blanks::new(1);
+    Ok(follow_over::<_, _, Brand>(
+        alloc, book, blanks, &mut ports, hands, script, plan, journal,
+    ))
 }

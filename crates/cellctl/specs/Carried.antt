@@ -21,6 +21,7 @@ use Rattle.cell_command.specs.declared.order.Order.TheVariants as order
 use Rattle.cell_explain.specs.Explained.{EndsAsAudit, EndsAsCheck, EndsAsFaults, EndsAsScript}
 use Rattle.cell_lines.specs.Lines.{TellsAudit, TellsMigration, StopsMigration, TellsPart as PartOfAudit}
 use Rattle.cell_runs.specs.Runs.{TellsRun, TellsPart as PartOfRun}
+use Rattle.cell_runs.specs.Told.{TellsFollowed, TellsPartFollowed}
 use Rattle.cell_settings.specs.Checked.{TellsCheck, TellsPart as PartOfCheck}
 use Rattle.cell_show.specs.Shown.{AsksPast, HasEntry, TellsEntries, TellsStatus}
 use Rattle.cell_show.specs.declared.error.ShowError.{ShowError}
@@ -126,6 +127,13 @@ RunsFiles threads running old new written =
     × MatchResult written (TellsRun settings faults operator threads running.journal old new) (λ _. PartOfRun settings faults operator threads running.journal old new))
     ⊎ TellsTooLong old new written
 
+-- what is written where the journal of a file is followed by the texts of three others, unless the settings are too long
+abbrev pub FollowsFiles : Running → Option (List ℕ) → Option (List ℕ) → Result ℕ WriteFault → Type 0
+FollowsFiles running old new written =
+    ((journal : List ℕ) × (settings : List ℕ) × (faults : List ℕ) × (operator : List ℕ)
+    × MatchResult written (TellsFollowed journal settings faults operator running.journal old new) (λ _. TellsPartFollowed journal settings faults operator running.journal old new))
+    ⊎ TellsTooLong old new written
+
 -- what is written for the audit of a text
 abbrev pub Audits : Option (List ℕ) → Option (List ℕ) → Option (List ℕ) → Result ℕ WriteFault → Type 0
 Audits text old new written = MatchResult written (TellsAudit text old new) (λ _. PartOfAudit text old new)
@@ -148,6 +156,7 @@ CarriesOut (order.Explain explaining) input old new old_errors new_errors writte
 CarriesOut (order.Check path) input old new old_errors new_errors written =
     ChecksSettings old new written × (new_errors ≡ old_errors)
 CarriesOut (order.Sim running) input old new old_errors new_errors written = RunsFiles false running old new written × (new_errors ≡ old_errors)
+CarriesOut (order.Follow path running) input old new old_errors new_errors written = FollowsFiles running old new written × (new_errors ≡ old_errors)
 CarriesOut (order.Run running) input old new old_errors new_errors written = RunsFiles true running old new written × (new_errors ≡ old_errors)
 
 -- the status of an order for which this was written

@@ -1,6 +1,6 @@
 //! What is done for an order, over any reader and writers.
-ghost use Rattle.std.specs.Prelude.{◌≡◌, IfOk};
-ghost use Rattle.cellctl.specs.Carried.{Audits, CarriesOut, ChecksSettings, MigratesText, OfText, RunsFiles};
+ghost use Rattle.std.specs.Prelude.{◌≡◌, IfErr, IfOk};
+ghost use Rattle.cellctl.specs.Carried.{Audits, CarriesOut, ChecksSettings, FollowsFiles, MigratesText, OfText, RunsFiles};
 
 use crate::explain::explain_words;
 use crate::failure::Failure;
@@ -8,7 +8,7 @@ use crate::show::show_words;
 use crate::texts::{journal_in, script_in, settings_in, tell_too_long};
 use cell_command::{Order, Paths, Running};
 use cell_lines::{WriteFault, audit_lines, migrate_lines};
-use cell_runs::{KeptRun, run_texts_kept};
+use cell_runs::{KeptRun, follow_texts_kept, run_texts_kept};
 use cell_settings::check_lines;
 use std::io::{Read, Write};
 use std::rt::Files;
@@ -63,6 +63,34 @@ fn read_files<'a, R: AllocGlobal + Files>(rt: &R, paths: Paths<'a>) -> Result<Te
     })
 }
 
+// What was done where a run was written so. Its end is to be explained, if that is wanted and a run is kept.
+fn with_ending(
+    ran: Result<(u8, Option<KeptRun>), WriteFault>,
+    explain: bool,
+    faults: Vec<u8>,
+    operator: Vec<u8>,
+) -> Carried
+    ensures ok { IfOk ran (λ told. result.written ≡ Ok told.0) }
+    ensures err { IfErr ran (λ e. result.written ≡ Err e) }
+{
+    let (status, kept) = match ran {
+        Ok(ran) => ran,
+        Err(WriteFault) => return without_ending(Err(WriteFault)),
+    };
+    let ending = match kept {
+        Some(run) if explain => Some(Ending {
+            run,
+            faults,
+            operator,
+        }),
+        _ => None,
+    };
+    Carried {
+        written: Ok(status),
+        ending,
+    }
+}
+
 // Runs the simulated cell by what three files say, on threads or in rounds. The files are all read before any is judged.
 fn run_files<'a, R: AllocGlobal + Files + Threads + Wait + Sync, W: Write>(
     rt: &R,
@@ -89,22 +117,37 @@ fn run_files<'a, R: AllocGlobal + Files + Threads + Wait + Sync, W: Write>(
         running.journal,
         output,
     );
-    let (status, kept) = match ran {
-        Ok(ran) => ran,
-        Err(WriteFault) => return Ok(without_ending(Err(WriteFault))),
+    Ok(with_ending(ran, running.explain, faults, operator))
+}
+
+// Follows the journal in a file by what three files say. All files are read before any is judged.
+fn follow_files<'a, R: AllocGlobal + Files + Wait, W: Write>(
+    rt: &R,
+    output: &mut W,
+    path: &'a str,
+    running: Running<'a>,
+) -> Result<Carried, Failure<'a>>
+    ensures { IfOk result (λ c. FollowsFiles running.entry (W.contents output.old) (W.contents output.new) c.written) }
+{
+    let Texts {
+        settings,
+        faults,
+        operator,
+    } = read_files(rt, running.paths)?;
+    let followed = journal_in(rt, path)?.bytes;
+    let Some(settings) = settings else {
+        return Ok(without_ending(tell_too_long(output)));
     };
-    let ending = match kept {
-        Some(run) if running.explain => Some(Ending {
-            run,
-            faults,
-            operator,
-        }),
-        _ => None,
-    };
-    Ok(Carried {
-        written: Ok(status),
-        ending,
-    })
+    let told = follow_texts_kept(
+        rt,
+        followed.as_slice(),
+        settings.as_slice(),
+        faults.as_slice(),
+        operator.as_slice(),
+        running.journal,
+        output,
+    );
+    Ok(with_ending(told, running.explain, faults, operator))
 }
 
 // Audits the journal in a file, or that on the input where no file is named.
@@ -181,6 +224,7 @@ pub(crate) fn carry_out<
         )?)),
         Order::Check(path) => Ok(without_ending(check(rt, output, path)?)),
         Order::Sim(running) => run_files(rt, output, false, running),
+        Order::Follow(path, running) => follow_files(rt, output, path, running),
         Order::Run(running) => run_files(rt, output, true, running),
     }
 }

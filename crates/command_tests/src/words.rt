@@ -17,13 +17,16 @@ const ORDERS: [&str; 7] = [
     "cellctl check settings.toml|Check(\"settings.toml\")",
 ];
 
-const REFUSED: [&str; 19] = [
+const REFUSED: [&str; 22] = [
     "cellctl brew|InvalidSubcommand",
     "cellctl run|MissingRequiredArgument",
     "cellctl sim|MissingRequiredArgument",
     "cellctl sim one.toml two.faults|MissingRequiredArgument",
     "cellctl sim --journey a b c|UnknownArgument",
+    "cellctl sim --follow a b c|MissingRequiredArgument",
+    "cellctl sim a b c --follow|InvalidValue",
     "cellctl run a b c d|UnknownArgument",
+    "cellctl run --follow a b c d|UnknownArgument",
     "cellctl check|MissingRequiredArgument",
     "cellctl check one.toml two.toml|UnknownArgument",
     "cellctl audit one.journal two.journal|UnknownArgument",
@@ -39,10 +42,13 @@ const REFUSED: [&str; 19] = [
     "cellctl|DisplayHelpOnMissingArgumentOrSubcommand",
 ];
 
-const RUNS: [&str; 3] = [
+const RUNS: [&str; 4] = [
     "cellctl sim cell.toml none.faults none.operator|Sim(Running { journal: false, explain: false, \
         paths: Paths { settings: \"cell.toml\", faults: \"none.faults\", operator: \"none.operator\" } })",
     "cellctl sim cell.toml none.faults none.operator --journal|Sim(Running { journal: true, explain: false, \
+        paths: Paths { settings: \"cell.toml\", faults: \"none.faults\", operator: \"none.operator\" } })",
+    "cellctl sim --follow run.journal --journal cell.toml none.faults none.operator|\
+        Follow(\"run.journal\", Running { journal: true, explain: false, \
         paths: Paths { settings: \"cell.toml\", faults: \"none.faults\", operator: \"none.operator\" } })",
     "cellctl run --explain cell.toml none.faults none.operator|Run(Running { journal: false, explain: true, \
         paths: Paths { settings: \"cell.toml\", faults: \"none.faults\", operator: \"none.operator\" } })",

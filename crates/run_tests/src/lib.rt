@@ -3,6 +3,8 @@
 #![tactic(auto)]
 
 #[cfg(test)]
+mod follow;
+#[cfg(test)]
 mod refusals;
 #[cfg(test)]
 mod rounds;

@@ -1,5 +1,5 @@
 use Rattle.std.proofs.Common.{◌≡◌, ◌∙◌, ℕ, [], ◌∷◌, length, nat_eq, ap, arith}
-use Rattle.cell_runs.proofs.OneRound.{takes_of, step_booked, breaks_of}
+use Rattle.cell_runs.proofs.OneRound.{takes_of, step_booked, breaks_of, unchanged_if_refused, unchanged_if_stopped}
 use Rattle.cell_runs.proofs.rounds.take_step.Goals as goal
 
 pub returns-in-Ok-2-clause-took : goal.returns-in-Ok-2-clause-took
@@ -17,3 +17,12 @@ pub returns-in-Err-clause-stops : goal.returns-in-Err-clause-stops
 returns-in-Err-clause-stops g c = λ minds fits.
     let s = c.in-Err.ensures.stopped in
     (s.refused, breaks_of c.args.plan.now (c.args.step ∷ []) s.taken (s.next ∷ s.left) s.refused c.args.cell.now.kept c.run_schedule-ran.new.kept c.args.cell.now.watches c.run_schedule-ran.new.watches _ _ _ minds s.in_order s.scheduled fits)
+
+pub returns-in-Ok-clause-unchanged : goal.returns-in-Ok-clause-unchanged
+returns-in-Ok-clause-unchanged g c = λ minds fits.
+    unchanged_if_refused c.args.plan.now c.args.step c.in-Ok.ran.refused c.args.cell.now.kept c.run_schedule-ran.new.kept c.args.cell.now.watches c.run_schedule-ran.new.watches _ _ _ minds c.if-ran-gt0.true c.in-Ok.ensures.scheduled fits
+
+pub returns-in-Err-clause-unchanged : goal.returns-in-Err-clause-unchanged
+returns-in-Err-clause-unchanged g c = λ minds fits.
+    let s = c.in-Err.ensures.stopped in
+    unchanged_if_stopped c.args.plan.now c.args.step s.next s.taken s.left s.refused c.args.cell.now.kept c.run_schedule-ran.new.kept c.args.cell.now.watches c.run_schedule-ran.new.watches _ _ _ minds s.in_order s.scheduled fits

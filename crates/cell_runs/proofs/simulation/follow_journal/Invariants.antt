@@ -1,0 +1,13 @@
+use Rattle.cell_runs.proofs.simulation.follow_journal.Given as goal
+
+abbrev pub ghosts-follow_over : goal.ghosts-follow_over
+ghosts-follow_over g a = record {
+  parts = a.blanks.entries.parts;
+  limits = a.book.limits;
+  entries_name = a.blanks.entries.name;
+  admitted_name = a.blanks.admitted.name;
+  forged_name = a.blanks.forged.name;
+  quarantined_name = a.blanks.quarantined.name;
+  delivered_name = a.blanks.delivered.name;
+  reinstated_name = a.blanks.reinstated.name;
+}

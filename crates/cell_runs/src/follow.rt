@@ -1,0 +1,225 @@
+//! A run on one thread that follows a journal: for each of its entries the entry's actor alone acts, until he books one.
+ghost use Rattle.std.specs.Prelude.{◌≡◌, ◌<◌, ◌+◌, ◌++◌, [], ℕ, List, true, false, Some, IfOk, IfErr, option_to_list, length, slice_get};
+ghost use Rattle.cell_types.specs.Entries.{actor_of};
+ghost use Rattle.cell_types.specs.declared.words.Machine.{Machine as MachineValue};
+ghost use Rattle.cell_types.specs.declared.words.Entry.{Entry as EntryValue};
+ghost use Rattle.cell_types.specs.declared.words.Actor.TheVariants as actors;
+ghost use Rattle.cell_turns.specs.declared.six.Six.{Six as SixValue};
+ghost use Rattle.cell_turns.specs.Minds.{Mind, machine_of_watch};
+ghost use Rattle.cell_turns.specs.Six.{at};
+ghost use Rattle.cell_turns.specs.Schedules.{FitAll, now};
+ghost use Rattle.cell_ledger.specs.New.{AreBlank};
+ghost use Rattle.cell_runs.specs.Rounds.{Reaches, place};
+ghost use Rattle.cell_runs.specs.Followed.{Acts, Ends, EndsAt, Halts, IsFollowed};
+
+use crate::rounds::{Progress, act, take_step};
+use cell_journal::Journal;
+use cell_ledger::{Blanks, Kept, Run};
+use cell_types::same::is_entry;
+use cell_types::{Actor, Entry, Machine, actor_of};
+use cell_workers::{End, OperatorPort, Plan, Port, Ports, Step, Watches};
+use operator_desk::Script;
+use plate_book::Book;
+use std::alloc::Global;
+
+/// How a journal was followed.
+#[derive(Clone, Copy, PartialEq, Eq, Debug)]
+pub enum Followed {
+    /// Each of its entries was booked, and no other.
+    Whole,
+    /// In place of this entry, counted from 1, its actor booked another one, or none.
+    Parted {
+        number: u32,
+        wanted: Entry,
+        booked: Option<Entry>,
+    },
+    /// Memory was refused.
+    Memory,
+}
+
+/// What is left where a journal was followed: the book, and how it was.
+#[derive(Drop)]
+pub struct Following {
+    pub book: Book,
+    pub followed: Followed,
+}
+
+// Turns of a machine, each at a reading of its port, until one books an entry, and at most the plan's. It answers the entry.
+fn work<P: Port, O: OperatorPort, R: Run>(
+    alloc: Global,
+    machine: Machine,
+    ports: &mut Ports<P>,
+    hands: &mut O,
+    cell: &mut Progress<R>,
+    plan: &Plan,
+) -> Result<Option<Entry>, End>
+    requires { (m : MachineValue) → machine_of_watch (at cell.old.watches m) ≡ m }
+    ensures machines { (m : MachineValue) → machine_of_watch (at cell.new.watches m) ≡ m }
+    ensures limits { cell.new.kept.limits ≡ cell.old.kept.limits }
+    ensures works { IfOk result (λ booked. (minds : SixValue Mind) → FitAll cell.old.watches minds → Reaches (Acts cell.old.kept.limits plan.now (actors.Machine machine) (place (now cell.old.kept.entries minds) cell.old.script cell.old.lost) booked) cell.new.kept.entries cell.new.watches cell.new.script cell.new.lost) }
+    ensures grown { IfOk result (λ booked. (minds : SixValue Mind) → FitAll cell.old.watches minds → cell.new.kept.entries ≡ cell.old.kept.entries ++ option_to_list booked) }
+    ensures halts { IfErr result (λ e. (minds : SixValue Mind) → FitAll cell.old.watches minds → Halts cell.old.kept.limits plan.now (actors.Machine machine) (place (now cell.old.kept.entries minds) cell.old.script cell.old.lost) cell.new.kept.entries e) }
+    ensures unchanged { IfErr result (λ _. (minds : SixValue Mind) → FitAll cell.old.watches minds → cell.new.kept.entries ≡ cell.old.kept.entries) }
+{
+    let before = cell.kept.book().journal().len();
+    for _turn in 0..plan.turns {
+        let reading = ports.pick(machine).read();
+        take_step(
+            alloc,
+            Step::Turn(machine, reading),
+            ports,
+            hands,
+            cell,
+            plan,
+        )?;
+        let booked = cell.kept.book().journal().get(before);
+        if booked.is_some() {
+            return Ok(booked);
+        }
+    }
+    Ok(None)
+}
+
+// The operator's next action, if there is one. It answers the entry that he booked.
+fn operate<P: Port, O: OperatorPort, R: Run>(
+    alloc: Global,
+    ports: &mut Ports<P>,
+    hands: &mut O,
+    cell: &mut Progress<R>,
+    plan: &Plan,
+) -> Result<Option<Entry>, End>
+    requires { (m : MachineValue) → machine_of_watch (at cell.old.watches m) ≡ m }
+    ensures machines { (m : MachineValue) → machine_of_watch (at cell.new.watches m) ≡ m }
+    ensures limits { cell.new.kept.limits ≡ cell.old.kept.limits }
+    ensures operates { IfOk result (λ booked. (minds : SixValue Mind) → FitAll cell.old.watches minds → Reaches (Acts cell.old.kept.limits plan.now actors.Operator (place (now cell.old.kept.entries minds) cell.old.script cell.old.lost) booked) cell.new.kept.entries cell.new.watches cell.new.script cell.new.lost) }
+    ensures grown { IfOk result (λ booked. (minds : SixValue Mind) → FitAll cell.old.watches minds → cell.new.kept.entries ≡ cell.old.kept.entries ++ option_to_list booked) }
+    ensures halts { IfErr result (λ e. (minds : SixValue Mind) → FitAll cell.old.watches minds → Halts cell.old.kept.limits plan.now actors.Operator (place (now cell.old.kept.entries minds) cell.old.script cell.old.lost) cell.new.kept.entries e) }
+    ensures unchanged { IfErr result (λ _. (minds : SixValue Mind) → FitAll cell.old.watches minds → cell.new.kept.entries ≡ cell.old.kept.entries) }
+{
+    let before = cell.kept.book().journal().len();
+    act(alloc, ports, hands, cell, plan)?;
+    Ok(cell.kept.book().journal().get(before))
+}
+
+// Lets the actor of an entry act. It answers the entry that he booked.
+fn let_act<P: Port, O: OperatorPort, R: Run>(
+    alloc: Global,
+    wanted: &Entry,
+    ports: &mut Ports<P>,
+    hands: &mut O,
+    cell: &mut Progress<R>,
+    plan: &Plan,
+) -> Result<Option<Entry>, End>
+    requires { (m : MachineValue) → machine_of_watch (at cell.old.watches m) ≡ m }
+    ensures machines { (m : MachineValue) → machine_of_watch (at cell.new.watches m) ≡ m }
+    ensures limits { cell.new.kept.limits ≡ cell.old.kept.limits }
+    ensures acts { IfOk result (λ booked. (minds : SixValue Mind) → FitAll cell.old.watches minds → Reaches (Acts cell.old.kept.limits plan.now (actor_of wanted.now) (place (now cell.old.kept.entries minds) cell.old.script cell.old.lost) booked) cell.new.kept.entries cell.new.watches cell.new.script cell.new.lost) }
+    ensures grown { IfOk result (λ booked. (minds : SixValue Mind) → FitAll cell.old.watches minds → cell.new.kept.entries ≡ cell.old.kept.entries ++ option_to_list booked) }
+    ensures halts { IfErr result (λ e. (minds : SixValue Mind) → FitAll cell.old.watches minds → Halts cell.old.kept.limits plan.now (actor_of wanted.now) (place (now cell.old.kept.entries minds) cell.old.script cell.old.lost) cell.new.kept.entries e) }
+    ensures unchanged { IfErr result (λ _. (minds : SixValue Mind) → FitAll cell.old.watches minds → cell.new.kept.entries ≡ cell.old.kept.entries) }
+{
+    match actor_of(*wanted) {
+        Actor::Machine(machine) => work(alloc, machine, ports, hands, cell, plan),
+        Actor::Operator => operate(alloc, ports, hands, cell, plan),
+    }
+}
+
+// In place of an entry of this number another one was booked, or none.
+fn parted(number: u32, wanted: &Entry, booked: Option<Entry>) -> Followed
+    ensures { result ≡ Followed.Parted number wanted.now booked }
+{
+    Followed::Parted {
+        number,
+        wanted: *wanted,
+        booked,
+    }
+}
+
+// Follows one entry of a journal, of this number. The error is how the journal was followed where this entry wasn't booked.
+fn follow_entry<P: Port, O: OperatorPort, R: Run>(
+    alloc: Global,
+    number: u32,
+    wanted: &Entry,
+    ports: &mut Ports<P>,
+    hands: &mut O,
+    cell: &mut Progress<R>,
+    plan: &Plan,
+) -> Result<(), Followed>
+    requires { (m : MachineValue) → machine_of_watch (at cell.old.watches m) ≡ m }
+    ensures machines { (m : MachineValue) → machine_of_watch (at cell.new.watches m) ≡ m }
+    ensures limits { cell.new.kept.limits ≡ cell.old.kept.limits }
+    ensures acts { IfOk result (λ _. (minds : SixValue Mind) → FitAll cell.old.watches minds → Reaches (Acts cell.old.kept.limits plan.now (actor_of wanted.now) (place (now cell.old.kept.entries minds) cell.old.script cell.old.lost) (Some wanted.now)) cell.new.kept.entries cell.new.watches cell.new.script cell.new.lost) }
+    ensures ends { IfErr result (λ how. (minds : SixValue Mind) → FitAll cell.old.watches minds → EndsAt cell.old.kept.limits plan.now (place (now cell.old.kept.entries minds) cell.old.script cell.old.lost) number wanted.now cell.new.kept.entries how) }
+{
+    match let_act(alloc, wanted, ports, hands, cell, plan) {
+        Ok(Some(booked)) => {
+            if is_entry(&booked, wanted) {
+                Ok(())
+            } else {
+                Err(parted(number, wanted, Some(booked)))
+            }
+        }
+        Ok(None) => Err(parted(number, wanted, None)),
+        Err(End::Memory) => Err(Followed::Memory),
+        Err(_) => Err(parted(number, wanted, None)),
+    }
+}
+
+// Follows the entries of a journal, until one isn't booked.
+fn follow_entries<P: Port, O: OperatorPort, R: Run>(
+    alloc: Global,
+    journal: &Journal,
+    ports: &mut Ports<P>,
+    hands: &mut O,
+    cell: &mut Progress<R>,
+    plan: &Plan,
+) -> Followed
+    requires { (m : MachineValue) → machine_of_watch (at cell.old.watches m) ≡ m }
+    ensures machines { (m : MachineValue) → machine_of_watch (at cell.new.watches m) ≡ m }
+    ensures limits { cell.new.kept.limits ≡ cell.old.kept.limits }
+    ensures ends { (minds : SixValue Mind) → FitAll cell.old.watches minds → Ends cell.old.kept.limits plan.now (place (now cell.old.kept.entries minds) cell.old.script cell.old.lost) journal.now.entries cell.new.kept.entries result }
+{
+    for i in 0..journal.len() {
+        let wanted = journal.at(i);
+        if let Err(followed) = follow_entry(alloc, i + 1, &wanted, ports, hands, cell, plan) {
+            return followed;
+        }
+    }
+    Followed::Whole
+}
+
+/// Follows a journal over these ports on one thread: for each of its entries the entry's actor alone acts, until he books one.
+/// A machine takes turns at readings of its port, at most as many as the plan has; the operator does his next action, if there
+/// is one. It ends at the first entry in whose place another is booked, or none.
+pub fn follow_over<P: Port, O: OperatorPort, R: Run>(
+    alloc: Global,
+    book: Book,
+    blanks: Blanks,
+    ports: &mut Ports<P>,
+    hands: &mut O,
+    script: Script,
+    plan: &Plan,
+    journal: &Journal,
+) -> Following
+    requires parts { 0 < R.parts }
+    requires limits { book.limits ≡ R.limits }
+    requires ledgers { AreBlank R.Run blanks }
+    ensures limits { result.book.limits ≡ R.limits }
+    ensures followed { book.entries ≡ [] → IsFollowed R.limits plan.now script journal.now.entries result.book.entries result.followed }
+{
+    let watches = Watches::start(&book);
+    let (kept, shares) = Kept::<R>::new(book, blanks);
+    let mut cell = Progress {
+        kept,
+        shares,
+        watches,
+        script,
+        lost: false,
+    };
+    let followed = follow_entries(alloc, journal, ports, hands, &mut cell, plan);
+    cell.kept.is_lawful();
+    Following {
+        book: cell.kept.into_book(),
+        followed,
+    }
+}
