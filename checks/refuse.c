@@ -5,11 +5,16 @@
  * With REFUSE_WHOLE=1 the calls of the whole program count. Else those count that lie between the begin and the end of a marked
  * call; the marks are the allocations of module `marks` of cell_samples, by their sizes.
  *
+ * With REFUSE_THREAD=n the program's call number n of pthread_create, counted from 1, is refused.
+ *
  * It keeps three numbers in the file REFUSE_COUNTS, which stay however the program ends: how many calls counted, how many of
  * them were refused, and how many marked calls answered want of memory.
  */
+#define _GNU_SOURCE
+#include <dlfcn.h>
 #include <errno.h>
 #include <fcntl.h>
+#include <pthread.h>
 #include <stdatomic.h>
 #include <stdlib.h>
 #include <sys/mman.h>
@@ -25,7 +30,7 @@ struct counts {
 	atomic_ulong counted, refused, wanted;
 };
 
-static unsigned long first;
+static unsigned long first, thread;
 static int onward;
 static atomic_int counting;
 static struct counts none, *counts = &none;
@@ -59,6 +64,8 @@ __attribute__((constructor)) static void start(void)
 	if (path)
 		keep(path);
 	first = number ? strtoul(number, NULL, 10) : 0;
+	number = getenv("REFUSE_THREAD");
+	thread = number ? strtoul(number, NULL, 10) : 0;
 	onward = is_set("REFUSE_ONWARD");
 	counting = is_set("REFUSE_WHOLE");
 }
@@ -104,4 +111,15 @@ void *calloc(size_t count, size_t size)
 void *realloc(void *block, size_t size)
 {
 	return refuses(size) ? NULL : __libc_realloc(block, size);
+}
+
+int pthread_create(pthread_t *id, const pthread_attr_t *attributes, void *(*routine)(void *), void *argument)
+{
+	static atomic_ulong started;
+	int (*next)(pthread_t *, const pthread_attr_t *, void *(*)(void *), void *);
+
+	if (atomic_fetch_add(&started, 1) + 1 == thread)
+		return EAGAIN;
+	*(void **)&next = dlsym(RTLD_NEXT, "pthread_create");
+	return next(id, attributes, routine, argument);
 }

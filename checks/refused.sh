@@ -4,7 +4,8 @@
 # give want of memory, or the answer with ample memory. docs/HOSTILE.md says how.
 # The crates' tests and the program have to be built: by `rt ci`, or by `rt test` in the crates' folders and `rt run` in
 # cellctl's.
-# The tests of the calls run side by side, one a processor.
+# The tests of the calls run side by side, one a processor. Both ways each of the program's seven threads is refused too, one a
+# run.
 # Usage: checks/refused.sh [calls|program]     both by default
 set -euo pipefail
 here=$(cd "$(dirname "$0")" && pwd)
@@ -90,6 +91,23 @@ list_tests() {
     "$crates/$crate/out/${crate}_tests" --list | sed -n "/$word/s/^\(.*\): test\$/$crate $whole \1/p"
 }
 
+# Refuses one of the program's threads a run: each time it has to tell that alone.
+refuse_threads() {
+    local number run=("$examples/press_fails.toml" "$examples/press_fails.faults" "$examples/press_fails.operator")
+    printf '%s\n' 'out of memory' 'cellctl: run: no thread could be started' > "$folder/due.errors"
+    for number in 1 2 3 4 5 6 7; do
+        status=0
+        timeout 30 env LD_PRELOAD="$library" REFUSE_THREAD="$number" "$cellctl" run "${run[@]}" \
+            < /dev/null > "$folder/output" 2> "$folder/errors" || status=$?
+        if [ "$status" != 4 ] || [ -s "$folder/output" ] || ! cmp -s "$folder/errors" "$folder/due.errors"; then
+            wrong=$((wrong + 1))
+            echo "run: wrong with thread $number refused: status $status"
+            head -c 2000 "$folder/errors" "$folder/output"
+        fi
+    done
+    echo "run: 7 runs with one thread refused"
+}
+
 refuse_calls() {
     local crate
     {
@@ -109,9 +127,10 @@ refuse_calls() {
     wrong=$((wrong + $(awk '{ sum += $1 } END { print sum + 0 }' "$folder/tally") + $(wc -l < "$folder/tests") - $(wc -l < "$folder/tally")))
 }
 
-# Standard error has `out of memory`, and below it nothing or the line of the file for which there was none.
+# Standard error has `out of memory`, and below it nothing or the line of the file or the thread for which there was none.
 has_want() {
-    [ "$(head -n 1 "$1")" = "out of memory" ] && ! tail -n +2 "$1" | grep -v -q '^cellctl: /.*: no memory for it$' &&
+    [ "$(head -n 1 "$1")" = "out of memory" ] && ! tail -n +2 "$1" | grep -v -q -e '^cellctl: /.*: no memory for it$' \
+        -e '^cellctl: run: no thread could be started$' &&
         [ "$(wc -l < "$1")" -le 2 ]
 }
 
@@ -256,11 +275,18 @@ case ${1:-both} in
         refuse_test "$@"
         exit 0
         ;;
-    calls) refuse_calls ;;
-    program) refuse_program ;;
+    calls)
+        refuse_calls
+        refuse_threads
+        ;;
+    program)
+        refuse_program
+        refuse_threads
+        ;;
     both)
         refuse_calls
         refuse_program
+        refuse_threads
         ;;
     *)
         sed -n "s/^# Usage/usage/p" "$0" >&2

@@ -1,4 +1,4 @@
--- What is told of a read or a write that failed
+-- What is told of a read or a write that failed, or of a thread that could not be started
 use Rattle.std.specs.Prelude.{◌==◌, ◌||◌, ℕ, List, [], ◌∷◌, ◌++◌, Option, Some, None, option_map, unwrap_or, if◌then◌else◌, codes, decimal, unsigned_abs}
 use Rattle.std.specs.IoError.{error_kind, raw_os_error}
 use Rattle.std.specs.declared.io.Error.{Error}
@@ -16,6 +16,7 @@ place_name (place.File path) = path.now
 place_name place.Input = codes "standard input"
 place_name place.Output = codes "standard output"
 place_name place.Errors = codes "standard error"
+place_name place.Threads = codes "run"
 
 -- what failed there
 abbrev pub refusal : Place → List ℕ
@@ -23,6 +24,7 @@ refusal (place.File path) = codes "can't be read"
 refusal place.Input = codes "can't be read"
 refusal place.Output = codes "can't be written"
 refusal place.Errors = codes "can't be written"
+refusal place.Threads = codes "no thread could be started"
 
 -- of a place that isn't open for that
 abbrev pub not_open : Place → List ℕ
@@ -30,6 +32,7 @@ not_open (place.File path) = codes "not open for reading"
 not_open place.Input = codes "not open for reading"
 not_open place.Output = codes "not open for writing"
 not_open place.Errors = codes "not open for writing"
+not_open place.Threads = codes "no thread could be started"
 
 -- the words for a kind of error
 abbrev pub kind_words : ErrorKind → Option (List ℕ)

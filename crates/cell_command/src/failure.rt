@@ -1,4 +1,4 @@
-//! What is told of a read or a write that failed.
+//! What is told of a read or a write that failed, or of a thread that could not be started.
 ghost use Rattle.std.specs.Prelude.{◌≡◌, OnOk, option_map};
 ghost use Rattle.std.specs.Io.KnownBytes.{Appends};
 ghost use Rattle.cell_command.specs.Failures.{cause_text, failure_line, kind_words, not_open, number_text, number_words, place_name, reason, refusal};
@@ -7,7 +7,7 @@ use crate::escaped::Escaped;
 use std::io::{ErrorKind, Write};
 use std::{fmt, io};
 
-/// A file or a stream of which a read or a write failed.
+/// What failed: a file or a stream of which a read or a write did, or the threads of a run.
 #[derive(Clone, Copy, Debug, PartialEq, Eq)]
 pub enum Place<'a> {
     /// The file of this path, of which a read failed.
@@ -18,6 +18,8 @@ pub enum Place<'a> {
     Output,
     /// Standard error, of which a write failed.
     Errors,
+    /// The threads of the command `run`, of which one could not be started.
+    Threads,
 }
 
 // Why a read or a write failed.
@@ -52,6 +54,7 @@ fn name_of<'a>(place: &Place<'a>) -> &'a str
         Place::Input => "standard input",
         Place::Output => "standard output",
         Place::Errors => "standard error",
+        Place::Threads => "run",
     }
 }
 
@@ -62,6 +65,7 @@ fn refusal_of(place: &Place<'_>) -> &'static str
     match place {
         Place::File(_) | Place::Input => "can't be read",
         Place::Output | Place::Errors => "can't be written",
+        Place::Threads => "no thread could be started",
     }
 }
 
@@ -72,6 +76,7 @@ fn not_open_of(place: &Place<'_>) -> &'static str
     match place {
         Place::File(_) | Place::Input => "not open for reading",
         Place::Output | Place::Errors => "not open for writing",
+        Place::Threads => "no thread could be started",
     }
 }
 
@@ -142,7 +147,7 @@ fn cause_of(place: &Place<'_>, error: Option<io::Error>) -> Cause
     }
 }
 
-/// Tells in a line where a read or a write failed, and why, where the error is known.
+/// Tells in a line what failed, and why, where the error is known.
 pub fn tell_failure<E: Write>(
     errors: &mut E,
     place: &Place<'_>,

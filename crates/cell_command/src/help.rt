@@ -233,7 +233,7 @@ it.
 
 Exit status: 0 finished, 1 another end, a text refused or a journal that
 disagrees, 2 wrong arguments, 3 a read or a write failed, 4 out of memory, or
-no thread to be had.";
+no thread could be started, of which a second line on standard error tells.";
 
 pub(crate) const RUN_EXAMPLE: &str = "\
 Example: cellctl run examples/press_fails.toml \\

@@ -110,7 +110,7 @@ since_text since.Always = []
 -- what an entry needs of an axis
 abbrev pub need_text : Need → List ℕ
 need_text need.Still = codes ", and it has to stand still"
-need_text (need.Pose p) = codes ", and it has to be " ++ pose_name p
+need_text (need.Pose p) = codes ", and its pose has to be " ++ pose_name p
 need_text (need.Going p) = codes ", and it has to be going " ++ way_to_pose p
 need_text (need.Facing s) = codes ", and it has to face " ++ station_name s
 need_text (need.FacingAny a) = codes ", and it has to face a place of " ++ arm_name a

@@ -36,7 +36,7 @@ impl fmt::Display for Need {
     fn fmt<W: fmt::Write>(&self, f: &mut fmt::Formatter<W>) -> fmt::Result {
         match *self {
             Need::Still => write!(f, ", and it has to stand still"),
-            Need::Pose(pose) => write!(f, ", and it has to be {}", pose_name(pose)),
+            Need::Pose(pose) => write!(f, ", and its pose has to be {}", pose_name(pose)),
             Need::Going(pose) => write!(f, ", and it has to be going {}", way_to_pose(pose)),
             Need::Facing(station) => write!(f, ", and it has to face {}", station_name(station)),
             Need::FacingAny(arm) => write!(f, ", and it has to face a place of {}", arm_name(arm)),

@@ -79,7 +79,7 @@ fn refused_line(
     why: Refusal,
     made: Circumstances,
 ) -> Result<String, AllocError>
-    ensures { IfOk result (λ text. string_bytes text ≡ refused_line record.entry.line place record.entry.bytes.now why made) }
+    ensures { IfOk result (λ text. string_bytes text ≡ refused_line «record».entry.line place «record».entry.bytes.now why made) }
 {
     let Record { line, bytes } = record;
     let shown = shown(alloc, bytes)?;

@@ -33,7 +33,7 @@ fn shown_bytes(alloc: Global, bytes: &[u8]) -> Result<String, AllocError>
 /// A record as it is shown: of a long one a first part and three dots. Bytes other than letters, digits, signs and blanks of
 /// ASCII are shown as dots.
 pub(crate) fn shown(alloc: Global, record: &[u8]) -> Result<String, AllocError>
-    ensures { IfOk result (λ text. string_bytes text ≡ shown record.now) }
+    ensures { IfOk result (λ text. string_bytes text ≡ shown «record».now) }
 {
     if record.len() <= MOST {
         return shown_bytes(alloc, record);

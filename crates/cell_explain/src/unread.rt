@@ -9,7 +9,7 @@ use std::alloc::{AllocError, Global};
 
 // A record as it stands before why it can't be read: nothing where it hasn't four fields.
 fn shown_before(alloc: Global, trouble: Trouble, record: &[u8]) -> Result<String, AllocError>
-    ensures { IfOk result (λ text. string_bytes text ≡ shown_before trouble record.now) }
+    ensures { IfOk result (λ text. string_bytes text ≡ shown_before trouble «record».now) }
 {
     match trouble {
         Trouble::Count(_) => Ok(String::new(alloc)),
@@ -29,7 +29,7 @@ pub(crate) fn record_line(
     number: u32,
     trouble: Trouble,
 ) -> Result<String, AllocError>
-    ensures { IfOk result (λ text. string_bytes text ≡ record_line record.entry.line name.now number record.entry.bytes.now trouble) }
+    ensures { IfOk result (λ text. string_bytes text ≡ record_line «record».entry.line name.now number «record».entry.bytes.now trouble) }
 {
     let Record { line, bytes } = record;
     let shown = shown_before(alloc, trouble, bytes)?;

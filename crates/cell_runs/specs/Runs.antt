@@ -19,7 +19,8 @@ use Rattle.cell_runs.specs.Inputs.{AreInputs, WritesError, input_line, input_sta
 use Rattle.cell_runs.specs.Rounds.{IsRun}
 use Rattle.cell_runs.specs.declared.inputs.Inputs.{Inputs}
 use Rattle.cell_runs.specs.declared.inputs.InputError.{InputError}
-use Rattle.cell_runs.specs.declared.texts.KeptRun.{KeptRun}
+use Rattle.cell_runs.specs.declared.texts.Left.{Left}
+use Rattle.cell_runs.specs.declared.texts.Left.TheVariants as left
 
 abbrev pub word_of : End → List ℕ
 word_of end.Finished = codes "finished"
@@ -74,9 +75,14 @@ abbrev pub kept : List Entry → End → Plan → Kept
 kept J e plan = record { entries = J; end = e; plan = plan }
 
 -- what is kept, where something is
-abbrev pub kept_of : Option KeptRun → Option Kept
-kept_of None = None
-kept_of (Some run) = Some (kept run.journal.entries run.end run.plan)
+abbrev pub kept_of : Left → Option Kept
+kept_of (left.Run run) = Some (kept run.journal.entries run.end run.plan)
+kept_of left.NoThread = None
+kept_of left.Nothing = None
+
+-- where a run is left out for want of a thread nothing was written, with the status of want of memory
+abbrev pub LacksThread : Left → Option (List ℕ) → Option (List ℕ) → ℕ → Type 0
+LacksThread what old new status = what ≡ left.NoThread → WritesError old new [] 4 status
 
 -- a run on one thread, by this plan and this script of the operator, leads in rounds to a journal and an end, which are printed,
 -- and it is kept; or memory was refused before it, and nothing was written

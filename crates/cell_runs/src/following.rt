@@ -12,7 +12,7 @@ use crate::followed::{end_of, write_following};
 use crate::inputs::{Inputs, read_inputs};
 use crate::refused::refuse_input;
 use crate::simulation::follow_journal;
-use crate::texts::KeptRun;
+use crate::texts::{KeptRun, Left};
 use cell_audit::{AuditError, WatchedWriter, WriteFault, read_journal};
 use cell_journal::Journal;
 use cell_lines::{audit_lines_watched, status};
@@ -28,7 +28,7 @@ fn write_followed<R: AllocGlobal + Wait, W: Write>(
     followed: &Journal,
     journal: bool,
     writer: &mut WatchedWriter<'_, W>,
-) -> Result<(u8, Option<KeptRun>), WriteFault>
+) -> Result<(u8, Left), WriteFault>
     ensures writer { IsSameWriter writer.old writer.new }
     ensures whole { IfOk result (λ told. WritesFollowed journal inputs.plan inputs.script followed.now.entries (bytes_held W.contents writer.old) (bytes_held W.contents writer.new) told.0 (kept_of told.1)) }
     ensures part { IsErr result → PartOfFollowed journal inputs.plan inputs.script followed.now.entries (bytes_held W.contents writer.old) (bytes_held W.contents writer.new) }
@@ -47,9 +47,9 @@ fn write_followed<R: AllocGlobal + Wait, W: Write>(
             let end = end_of(&following.followed);
             let Following { book, followed: _ } = following;
             let journal = book.into_journal();
-            Ok((status, Some(KeptRun { journal, end, plan })))
+            Ok((status, Left::Run(KeptRun { journal, end, plan })))
         }
-        Err(AllocError) => Ok((status::OUT_OF_MEMORY, None)),
+        Err(AllocError) => Ok((status::OUT_OF_MEMORY, Left::Nothing)),
     }
 }
 
@@ -90,7 +90,7 @@ fn follow_text<R: AllocGlobal + Wait, W: Write>(
     inputs: Inputs,
     journal: bool,
     writer: &mut WatchedWriter<'_, W>,
-) -> Result<(u8, Option<KeptRun>), WriteFault>
+) -> Result<(u8, Left), WriteFault>
     ensures writer { IsSameWriter writer.old writer.new }
     ensures whole { IfOk result (λ told. FollowsInputs text.now journal (bytes_held W.contents writer.old) (bytes_held W.contents writer.new) told.0 (kept_of told.1) (Ok inputs)) }
     ensures part { IsErr result → PartOfInputs text.now journal (bytes_held W.contents writer.old) (bytes_held W.contents writer.new) (Ok inputs) }
@@ -98,11 +98,11 @@ fn follow_text<R: AllocGlobal + Wait, W: Write>(
 {
     let alloc = rt.alloc();
     let Ok(reading) = read_journal(alloc, text) else {
-        return Ok((status::OUT_OF_MEMORY, None));
+        return Ok((status::OUT_OF_MEMORY, Left::Nothing));
     };
     match reading.answer {
         Ok(_) => write_followed(rt, inputs, reading.book.journal(), journal, writer),
-        Err(why) => Ok((tell_refused(alloc, text, why, writer)?, None)),
+        Err(why) => Ok((tell_refused(alloc, text, why, writer)?, Left::Nothing)),
     }
 }
 
@@ -116,7 +116,7 @@ pub fn follow_texts_kept_watched<R: AllocGlobal + Wait, W: Write>(
     operator: &[u8],
     journal: bool,
     writer: &mut WatchedWriter<'_, W>,
-) -> Result<(u8, Option<KeptRun>), WriteFault>
+) -> Result<(u8, Left), WriteFault>
     ensures writer { IsSameWriter writer.old writer.new }
     ensures whole { IfOk result (λ told. KeepsFollowed followed.now settings.now faults.now operator.now journal (bytes_held W.contents writer.old) (bytes_held W.contents writer.new) told.0 (kept_of told.1)) }
     ensures part { IsErr result → TellsPartFollowed followed.now settings.now faults.now operator.now journal (bytes_held W.contents writer.old) (bytes_held W.contents writer.new) }
@@ -125,7 +125,7 @@ pub fn follow_texts_kept_watched<R: AllocGlobal + Wait, W: Write>(
 {
     match read_inputs(rt.alloc(), settings, faults, operator) {
         Ok(inputs) => follow_text(rt, followed, inputs, journal, writer),
-        Err(error) => Ok((refuse_input(writer, error)?, None)),
+        Err(error) => Ok((refuse_input(writer, error)?, Left::Nothing)),
     }
 }
 
@@ -151,7 +151,7 @@ pub fn follow_texts_kept<R: AllocGlobal + Wait, W: Write>(
     operator: &[u8],
     journal: bool,
     writer: &mut W,
-) -> Result<(u8, Option<KeptRun>), WriteFault>
+) -> Result<(u8, Left), WriteFault>
     // The journal, the end and the plan are those of what was written.
     ensures whole { IfOk result (λ told. KeepsFollowed followed.now settings.now faults.now operator.now journal (W.contents writer.old) (W.contents writer.new) told.0 (kept_of told.1)) }
     // Where the writer failed, a first part of that was written.

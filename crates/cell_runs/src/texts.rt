@@ -1,7 +1,7 @@
 //! A run by its texts.
-ghost use Rattle.std.specs.Prelude.{◌≡◌, IfOk, IsErr, true};
+ghost use Rattle.std.specs.Prelude.{◌≡◌, ◌↔◌, IfOk, IsErr, None, true};
 ghost use Rattle.cell_audit.specs.Watched.{IsSameWriter, bytes_held, has_refused};
-ghost use Rattle.cell_runs.specs.Runs.{KeepsRun, PartOfReport, PartOfRounds, TellsPart, TellsRun, WritesReport, WritesRounds, kept_of, limits_of};
+ghost use Rattle.cell_runs.specs.Runs.{KeepsRun, LacksThread, PartOfReport, PartOfRounds, TellsPart, TellsRun, WritesReport, WritesRounds, kept_of, limits_of};
 
 use crate::inputs::{Inputs, read_inputs};
 use crate::refused::refuse_input;
@@ -12,7 +12,7 @@ use cell_audit::{WatchedWriter, WriteFault};
 use cell_journal::Journal;
 use cell_lines::status;
 use cell_sim::{SimOperator, World};
-use cell_workers::{End, Plan, Report, run_cell};
+use cell_workers::{End, Plan, Report, RunError, run_cell};
 use std::alloc::AllocError;
 use std::io::Write;
 use std::sync::{Mutex, Wait};
@@ -26,15 +26,39 @@ pub struct KeptRun {
     pub plan: Plan,
 }
 
+/// What a run leaves besides what is written of it.
+#[derive(Drop)]
+pub enum Left {
+    /// The run.
+    Run(KeptRun),
+    /// No run, since no thread could be started for a worker.
+    NoThread,
+    /// No run: a text is refused, memory was refused before there was one, or an actor's entries in its journal aren't its
+    /// worker's.
+    Nothing,
+}
+
+// What is left where there is no report of a run.
+fn left_by(error: RunError) -> Left
+    ensures run { kept_of result ≡ None }
+    ensures thread { (result ≡ Left.NoThread) ↔ (error ≡ RunError.ThreadRefused) }
+{
+    match error {
+        RunError::ThreadRefused => Left::NoThread,
+        RunError::OutOfMemory | RunError::JournalDisagrees => Left::Nothing,
+    }
+}
+
 // Runs the simulated cell over a new world in rounds, writes what comes of it, and keeps the run.
 fn write_rounds<R: AllocGlobal + Wait, W: Write>(
     rt: &R,
     inputs: Inputs,
     journal: bool,
     writer: &mut WatchedWriter<'_, W>,
-) -> Result<(u8, Option<KeptRun>), WriteFault>
+) -> Result<(u8, Left), WriteFault>
     ensures writer { IsSameWriter writer.old writer.new }
     ensures whole { IfOk result (λ ran. WritesRounds journal inputs.plan inputs.script (bytes_held W.contents writer.old) (bytes_held W.contents writer.new) ran.0 (kept_of ran.1)) }
+    ensures thread { IfOk result (λ ran. LacksThread ran.1 (bytes_held W.contents writer.old) (bytes_held W.contents writer.new) ran.0) }
     ensures part { IsErr result → PartOfRounds journal inputs.plan inputs.script (bytes_held W.contents writer.old) (bytes_held W.contents writer.new) }
     ensures fault { IsErr result → has_refused writer.new ≡ true }
 {
@@ -50,9 +74,9 @@ fn write_rounds<R: AllocGlobal + Wait, W: Write>(
             let status = write_outcome(rt.alloc(), &outcome, journal, writer)?;
             let Outcome { book, end } = outcome;
             let journal = book.into_journal();
-            Ok((status, Some(KeptRun { journal, end, plan })))
+            Ok((status, Left::Run(KeptRun { journal, end, plan })))
         }
-        Err(AllocError) => Ok((status::OUT_OF_MEMORY, None)),
+        Err(AllocError) => Ok((status::OUT_OF_MEMORY, Left::Nothing)),
     }
 }
 
@@ -62,9 +86,10 @@ fn write_threads<R: AllocGlobal + Threads + Wait + Sync, W: Write>(
     inputs: Inputs,
     journal: bool,
     writer: &mut WatchedWriter<'_, W>,
-) -> Result<(u8, Option<KeptRun>), WriteFault>
+) -> Result<(u8, Left), WriteFault>
     ensures writer { IsSameWriter writer.old writer.new }
     ensures whole { IfOk result (λ ran. WritesReport journal inputs.plan (bytes_held W.contents writer.old) (bytes_held W.contents writer.new) ran.0 (kept_of ran.1)) }
+    ensures thread { IfOk result (λ ran. LacksThread ran.1 (bytes_held W.contents writer.old) (bytes_held W.contents writer.new) ran.0) }
     ensures part { IsErr result → PartOfReport journal (limits_of inputs.plan) (bytes_held W.contents writer.old) (bytes_held W.contents writer.new) }
     ensures fault { IsErr result → has_refused writer.new ≡ true }
 {
@@ -81,9 +106,9 @@ fn write_threads<R: AllocGlobal + Threads + Wait + Sync, W: Write>(
         Ok(report) => {
             let status = write_report(alloc, &report, journal, writer)?;
             let Report { journal, end, .. } = report;
-            Ok((status, Some(KeptRun { journal, end, plan })))
+            Ok((status, Left::Run(KeptRun { journal, end, plan })))
         }
-        Err(error) => Ok((write_run_error(writer, error)?, None)),
+        Err(error) => Ok((write_run_error(writer, error)?, left_by(error))),
     }
 }
 
@@ -97,9 +122,10 @@ pub fn run_texts_kept_watched<R: AllocGlobal + Threads + Wait + Sync, W: Write>(
     threads: bool,
     journal: bool,
     writer: &mut WatchedWriter<'_, W>,
-) -> Result<(u8, Option<KeptRun>), WriteFault>
+) -> Result<(u8, Left), WriteFault>
     ensures writer { IsSameWriter writer.old writer.new }
     ensures whole { IfOk result (λ ran. KeepsRun settings.now faults.now operator.now threads journal (bytes_held W.contents writer.old) (bytes_held W.contents writer.new) ran.0 (kept_of ran.1)) }
+    ensures thread { IfOk result (λ ran. LacksThread ran.1 (bytes_held W.contents writer.old) (bytes_held W.contents writer.new) ran.0) }
     ensures part { IsErr result → TellsPart settings.now faults.now operator.now threads journal (bytes_held W.contents writer.old) (bytes_held W.contents writer.new) }
     // It answers that the writer failed only where a write was refused.
     ensures fault { IsErr result → has_refused writer.new ≡ true }
@@ -112,7 +138,7 @@ pub fn run_texts_kept_watched<R: AllocGlobal + Threads + Wait + Sync, W: Write>(
                 write_rounds(rt, inputs, journal, writer)
             }
         }
-        Err(error) => Ok((refuse_input(writer, error)?, None)),
+        Err(error) => Ok((refuse_input(writer, error)?, Left::Nothing)),
     }
 }
 
@@ -133,7 +159,7 @@ pub fn run_texts_watched<R: AllocGlobal + Threads + Wait + Sync, W: Write>(
     // It answers that the writer failed only where a write was refused.
     ensures fault { IsErr result → has_refused writer.new ≡ true }
 {
-    let (status, _kept) = run_texts_kept_watched(
+    let (status, _left) = run_texts_kept_watched(
         rt, settings, faults, operator, threads, journal, writer,
     )?;
     Ok(status)
@@ -179,8 +205,8 @@ pub fn run_texts<R: AllocGlobal + Threads + Wait + Sync, W: Write>(
     )
 }
 
-/// Runs the simulated cell by its texts, as `run_texts` does, and gives besides the exit status what is kept of the run, if it
-/// left a journal: where no text is refused, and memory and threads are to be had. It is `run_texts_kept_watched` over a new
+/// Runs the simulated cell by its texts, as `run_texts` does, and gives besides the exit status what the run left: its journal,
+/// its end and its plan, where no text is refused, and memory and threads are to be had. It is `run_texts_kept_watched` over a new
 /// writer that notes.
 pub fn run_texts_kept<R: AllocGlobal + Threads + Wait + Sync, W: Write>(
     rt: &R,
@@ -190,9 +216,11 @@ pub fn run_texts_kept<R: AllocGlobal + Threads + Wait + Sync, W: Write>(
     threads: bool,
     journal: bool,
     writer: &mut W,
-) -> Result<(u8, Option<KeptRun>), WriteFault>
+) -> Result<(u8, Left), WriteFault>
     // The journal, the end and the plan are those of the run which was written.
     ensures whole { IfOk result (λ ran. KeepsRun settings.now faults.now operator.now threads journal (W.contents writer.old) (W.contents writer.new) ran.0 (kept_of ran.1)) }
+    // That a thread could not be started is told only where nothing was written, with status 4.
+    ensures thread { IfOk result (λ ran. LacksThread ran.1 (W.contents writer.old) (W.contents writer.new) ran.0) }
     ensures part { IsErr result → TellsPart settings.now faults.now operator.now threads journal (W.contents writer.old) (W.contents writer.new) }
 {
     let mut writer = WatchedWriter::new(writer);

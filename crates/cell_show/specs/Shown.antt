@@ -1,5 +1,5 @@
 -- What is told of a journal's text beside the picture
-use Rattle.std.specs.Prelude.{◌≡◌, ◌⊎◌, ◌<◌, ◌≤◌, ℕ, List, ◌++◌, length, Option, Some, Result, IfSome, ⊤, codes, decimal}
+use Rattle.std.specs.Prelude.{◌≡◌, ◌==◌, ◌⊎◌, ◌<◌, ◌≤◌, ℕ, List, ◌++◌, length, Option, Some, Result, IfSome, ⊤, codes, decimal, if◌then◌else◌}
 use Rattle.cell_rows.specs.Rows.{Row}
 use Rattle.cell_types.specs.declared.words.Entry.{Entry}
 use Rattle.cell_types.specs.declared.words.Totals.{Totals}
@@ -43,8 +43,12 @@ TellsEntries error.WriteFault rows = ⊤
 abbrev pub HasEntry : Option ℕ → List Row → Type 0
 HasEntry entry rows = (J : List Entry) × AreGood J rows × IfSome entry (λ k. k ≤ length J)
 
+-- the word for so many entries
+abbrev pub entries_word : ℕ → List ℕ
+entries_word n = if n == 1 then codes "entry" else codes "entries"
+
 -- what is printed of an error
 abbrev pub error_text : ShowError → List ℕ
-error_text (error.NoSuchEntry n) = codes "NoSuchEntry: the journal has " ++ (decimal n ++ codes " entries")
+error_text (error.NoSuchEntry n) = codes "NoSuchEntry: the journal has " ++ (decimal n ++ (codes " " ++ entries_word n))
 error_text error.TooManyEntries = codes "TooManyEntries: a page shows at most " ++ (decimal 20000 ++ codes " entries")
 error_text error.WriteFault = codes "WriteFault"

@@ -1,4 +1,7 @@
 //! Why nothing is shown, or not all of it.
+ghost use Rattle.std.specs.Prelude.{◌≡◌};
+ghost use Rattle.cell_show.specs.Shown.{entries_word};
+
 use cell_audit::WriteFault;
 use cell_page::{MAX_PAGE_ENTRIES, PageError};
 use std::error::Error;
@@ -15,6 +18,13 @@ pub enum ShowError {
     WriteFault,
 }
 
+// The word for so many entries.
+fn word_of(entries: u32) -> &'static str
+    ensures { result.now ≡ entries_word entries }
+{
+    if entries == 1 { "entry" } else { "entries" }
+}
+
 impl fmt::Display for ShowError {
     ghost use Rattle.std.specs.Prelude.{Some};
     ghost use Rattle.cell_show.specs.Shown.{error_text};
@@ -24,7 +34,8 @@ impl fmt::Display for ShowError {
     fn fmt<W: fmt::Write>(&self, f: &mut fmt::Formatter<W>) -> fmt::Result {
         match self {
             ShowError::NoSuchEntry(entries) => {
-                write!(f, "NoSuchEntry: the journal has {entries} entries")
+                let word = word_of(*entries);
+                write!(f, "NoSuchEntry: the journal has {entries} {word}")
             }
             ShowError::TooManyEntries => {
                 write!(

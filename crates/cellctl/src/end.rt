@@ -16,11 +16,19 @@ pub(crate) struct Faults {
     pub(crate) errors: Option<io::Error>,
 }
 
-/// A file or a stream that failed, and the error, if it is known.
+/// What failed, and the error, if it is known.
 #[derive(Clone, Copy, Debug)]
 pub(crate) struct Failed<'a> {
     pub(crate) place: Place<'a>,
     pub(crate) error: Option<io::Error>,
+}
+
+impl Failed<'_> {
+    /// No thread could be started.
+    pub(crate) const NO_THREAD: Failed<'static> = Failed {
+        place: Place::Threads,
+        error: None,
+    };
 }
 
 // A stream that failed by an error, or else what failed beside it.
@@ -70,7 +78,7 @@ impl Faults {
     }
 }
 
-// Tells which file or stream failed, if it is known.
+// Tells what failed, if it is known.
 fn tell_failed<E: Write>(errors: &mut E, failed: Option<Failed<'_>>) -> io::Result<()>
     ensures { OnOk result (Appends (E.contents errors.old) (E.contents errors.new) (failed_line failed.entry)) }
 {
@@ -80,7 +88,7 @@ fn tell_failed<E: Write>(errors: &mut E, failed: Option<Failed<'_>>) -> io::Resu
     }
 }
 
-// Writes a line, and below it which file or stream failed, if it is known.
+// Writes a line, and below it what failed, if it is known.
 fn tell_below<E: Write>(errors: &mut E, line: &str, failed: Option<Failed<'_>>) -> io::Result<()>
     ensures { OnOk result (Appends (E.contents errors.old) (E.contents errors.new) (lines_below line.now failed.entry)) }
 {
@@ -89,7 +97,7 @@ fn tell_below<E: Write>(errors: &mut E, line: &str, failed: Option<Failed<'_>>) 
 }
 
 /// Tells among the errors that the program ends by a device that failed or for want of memory, where a status says so, and
-/// then which file or stream failed, and why.
+/// then what failed, and why.
 pub(crate) fn tell_end<E: Write>(
     errors: &mut E,
     status: u8,

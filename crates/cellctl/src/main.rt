@@ -38,6 +38,14 @@ use std::sync::Wait;
 use std::thread::Threads;
 use std::{env, io};
 
+// How a command line was obeyed.
+#[derive(Clone, Copy, Debug)]
+struct Obeyed {
+    status: u8,
+    // Whether there was no run, since no thread could be started.
+    lacks_thread: bool,
+}
+
 // Writes clap's words to the errors. What they print of the command line has no control characters but line feeds.
 fn write_refusal<E: Write>(alloc: Global, errors: &mut E, error: &Error) -> io::Result<()> {
     let text = error.to_string(alloc)?;
@@ -81,7 +89,11 @@ fn finish<W: Write, E: Write>(
     ensures status { IfOk result (λ status. status ≡ ended carried.written) }
     ensures kept { Keeps (W.contents output.old) (W.contents output.new) }
 {
-    let Carried { written, ending } = carried;
+    let Carried {
+        written,
+        ending,
+        ..
+    } = carried;
     let Ok(status) = written else {
         return Ok(status::DEVICE_FAULT);
     };
@@ -100,23 +112,37 @@ fn finish<W: Write, E: Write>(
     Ok(status)
 }
 
-// Reads words, does what they say over any reader and writers, and gives the status.
+// Reads words, and does what they say over any reader and writers.
 fn main_over<
     'a,
     R: AllocGlobal + Files + Threads + Wait + Sync,
     I: Read + Drop,
     W: Write,
     E: Write,
->(rt: &R, input: I, output: &mut W, errors: &mut E, words: &'a [&'a str]) -> Result<u8, Failure<'a>>
-    ensures { IfOk result (λ status. Obeys (map (λ w. w.now) words.now) (I.remaining input) (W.contents output.old) (W.contents output.new) (E.contents errors.old) status
-        ⊎ IsTurnedAway (map (λ w. w.now) words.now) status) }
+>(
+    rt: &R,
+    input: I,
+    output: &mut W,
+    errors: &mut E,
+    words: &'a [&'a str],
+) -> Result<Obeyed, Failure<'a>>
+    ensures { IfOk result (λ obeyed. Obeys (map (λ w. w.now) words.now) (I.remaining input) (W.contents output.old) (W.contents output.new) (E.contents errors.old) obeyed.status
+        ⊎ IsTurnedAway (map (λ w. w.now) words.now) obeyed.status) }
 {
     match read_words(rt.alloc(), words) {
         Ok(order) => {
             let carried = carry_out(rt, input, output, errors, order)?;
-            Ok(finish(rt.alloc(), output, errors, carried)?)
+            let lacks_thread = carried.lacks_thread;
+            let status = finish(rt.alloc(), output, errors, carried)?;
+            Ok(Obeyed {
+                status,
+                lacks_thread,
+            })
         }
-        Err(error) => Ok(refuse(rt.alloc(), output, errors, &error)?),
+        Err(error) => Ok(Obeyed {
+            status: refuse(rt.alloc(), output, errors, &error)?,
+            lacks_thread: false,
+        }),
     }
 }
 
@@ -136,13 +162,13 @@ fn texts_of(alloc: Global, words: &[String]) -> Result<Vec<&str>, AllocError> {
     Ok(texts)
 }
 
-// Reads words, does what they say over the standard streams, notes the errors of those, and gives the status.
+// Reads words, does what they say over the standard streams, and notes the errors of those.
 fn over_streams<'a, R: AllocGlobal + Files + Input + Print + Threads + Wait + Sync, E: Print>(
     rt: &R,
     errors: &E,
     words: &'a [&'a str],
     faults: &mut Faults,
-) -> Result<u8, Failure<'a>> {
+) -> Result<Obeyed, Failure<'a>> {
     let input = Noted::new(rt.reader(), &mut faults.input);
     let buffer = io::BufWriter::new(rt.alloc(), io::writer(rt))?;
     let mut output = Noted::new(buffer, &mut faults.output);
@@ -158,7 +184,13 @@ fn obey<R: AllocGlobal + Files + Input + Print + Threads + Wait + Sync, E: Print
 ) -> u8 {
     let mut faults = Faults::NONE;
     match over_streams(rt, errors, words, &mut faults) {
-        Ok(status) => told(errors, status, faults.failed(status)),
+        Ok(
+            Obeyed {
+                status,
+                lacks_thread: true,
+            },
+        ) => told(errors, status, Some(Failed::NO_THREAD)),
+        Ok(Obeyed { status, .. }) => told(errors, status, faults.failed(status)),
         Err(Failure { file, error }) => {
             let status = status_of(&error);
             let failed = match file {

@@ -8,7 +8,7 @@ use crate::show::show_words;
 use crate::texts::{journal_in, script_in, settings_in, tell_too_long};
 use cell_command::{Order, Paths, Running};
 use cell_lines::{WriteFault, audit_lines, migrate_lines};
-use cell_runs::{KeptRun, follow_texts_kept, run_texts_kept};
+use cell_runs::{KeptRun, Left, follow_texts_kept, run_texts_kept};
 use cell_settings::check_lines;
 use std::io::{Read, Write};
 use std::rt::Files;
@@ -22,6 +22,8 @@ pub(crate) struct Carried {
     pub(crate) written: Result<u8, WriteFault>,
     /// The run whose end is to be explained.
     pub(crate) ending: Option<Ending>,
+    /// Whether there is no run, since no thread could be started.
+    pub(crate) lacks_thread: bool,
 }
 
 /// What is kept of a run, and its scripts.
@@ -48,6 +50,7 @@ fn without_ending(written: Result<u8, WriteFault>) -> Carried
     Carried {
         written,
         ending: None,
+        lacks_thread: false,
     }
 }
 
@@ -63,9 +66,9 @@ fn read_files<'a, R: AllocGlobal + Files>(rt: &R, paths: Paths<'a>) -> Result<Te
     })
 }
 
-// What was done where a run was written so. Its end is to be explained, if that is wanted and a run is kept.
+// What was done where a run was written so. Its end is to be explained, if that is wanted and a run is left.
 fn with_ending(
-    ran: Result<(u8, Option<KeptRun>), WriteFault>,
+    ran: Result<(u8, Left), WriteFault>,
     explain: bool,
     faults: Vec<u8>,
     operator: Vec<u8>,
@@ -73,12 +76,13 @@ fn with_ending(
     ensures ok { IfOk ran (λ told. result.written ≡ Ok told.0) }
     ensures err { IfErr ran (λ e. result.written ≡ Err e) }
 {
-    let (status, kept) = match ran {
+    let (status, left) = match ran {
         Ok(ran) => ran,
         Err(WriteFault) => return without_ending(Err(WriteFault)),
     };
-    let ending = match kept {
-        Some(run) if explain => Some(Ending {
+    let lacks_thread = matches!(&left, Left::NoThread);
+    let ending = match left {
+        Left::Run(run) if explain => Some(Ending {
             run,
             faults,
             operator,
@@ -88,6 +92,7 @@ fn with_ending(
     Carried {
         written: Ok(status),
         ending,
+        lacks_thread,
     }
 }
 

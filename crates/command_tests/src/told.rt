@@ -108,7 +108,7 @@ fn tells_errors_of_the_system(rt: HostRuntime) -> Result<(), Fail> {
 }
 
 #[test]
-fn tells_where_a_read_or_a_write_failed(rt: HostRuntime) -> Result<(), Fail> {
+fn tells_what_failed(rt: HostRuntime) -> Result<(), Fail> {
     let full = io::Error::from(ErrorKind::StorageFull);
     let shut = io::Error::from_raw_os_error(9);
     check(
@@ -134,6 +134,12 @@ fn tells_where_a_read_or_a_write_failed(rt: HostRuntime) -> Result<(), Fail> {
         &Place::Errors,
         Some(full),
         "cellctl: standard error: no space left\n",
+    )?;
+    check(
+        &rt,
+        &Place::Threads,
+        None,
+        "cellctl: run: no thread could be started\n",
     )?;
     check(
         &rt,

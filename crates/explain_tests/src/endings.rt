@@ -1,7 +1,7 @@
 //! What is said of a run's end.
 use crate::said::check_said;
 use cell_endings::write_ending;
-use cell_runs::run_texts_kept;
+use cell_runs::{Left, run_texts_kept};
 use std::process::Abort;
 use std::sync::Wait;
 use std::thread::Threads;
@@ -62,17 +62,17 @@ fn check_run<R: AllocGlobal + Abort + Threads + Wait + Sync>(
         false,
         &mut written,
     );
-    let Ok((ended, kept)) = ran else {
+    let Ok((ended, left)) = ran else {
         panic!(rt; "no writer failed at {operator}");
     };
     assert!(rt; ended == status, "the status of {operator}");
     check_said(rt, operator, written.as_slice(), lines);
     assert!(rt;
-        kept.is_some() != wanted.is_empty(),
-        "what is kept of {operator}"
+        matches!(&left, Left::Run(_)) != wanted.is_empty(),
+        "what is left of {operator}"
     );
     let mut said = Vec::new(alloc);
-    if let Some(run) = kept {
+    if let Left::Run(run) = left {
         let answer = write_ending(
             alloc,
             &run.journal,

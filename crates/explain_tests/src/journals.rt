@@ -75,7 +75,7 @@ const OUT_OF_PLACE: [(&str, &str); 7] = [
     ),
     (
         "profile,1,,\nclaimed,press1,z3,\nstarted,press_one,bottom,\n",
-        "line 3, entry 2: started,press_one,bottom,: WrongPose press_one: press 1 isn't where it has to be, moves, or has no such motion, from the start on; its pose is middle, and it has to be top\n",
+        "line 3, entry 2: started,press_one,bottom,: WrongPose press_one: press 1 isn't where it has to be, moves, or has no such motion, from the start on; its pose is middle, and its pose has to be top\n",
     ),
     (
         "profile,1,,\nstarted,feed_belt,low,\n",
@@ -87,7 +87,7 @@ const OUT_OF_PLACE: [(&str, &str); 7] = [
     ),
     (
         "profile,1,,\ngripped,arm1,1,table\n",
-        "line 2, entry 1: gripped,arm1,1,table: WrongPose arm_one: arm 1 isn't where it has to be, moves, or has no such motion, from the start on; its pose is in, and it has to be out\n",
+        "line 2, entry 1: gripped,arm1,1,table: WrongPose arm_one: arm 1 isn't where it has to be, moves, or has no such motion, from the start on; its pose is in, and its pose has to be out\n",
     ),
     (
         "profile,1,,\ndropped,arm1,1,press1\n",
@@ -95,7 +95,7 @@ const OUT_OF_PLACE: [(&str, &str); 7] = [
     ),
     (
         "profile,1,,\nclaimed,robot,z2,\nstarted,arm_one,out,\n",
-        "line 3, entry 2: started,arm_one,out,: WrongPose table_lift: the table's lift isn't where it has to be, moves, or has no such motion, from the start on; its pose is low, and it has to be high\n",
+        "line 3, entry 2: started,arm_one,out,: WrongPose table_lift: the table's lift isn't where it has to be, moves, or has no such motion, from the start on; its pose is low, and its pose has to be high\n",
     ),
 ];
 

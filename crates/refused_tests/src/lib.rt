@@ -9,6 +9,8 @@ mod books;
 #[cfg(test)]
 mod explained;
 #[cfg(test)]
+mod read;
+#[cfg(test)]
 mod runs;
 #[cfg(test)]
 mod same;

@@ -4,7 +4,7 @@ use cell_audit::{AuditError, audit};
 use cell_endings::write_ending;
 use cell_journal::Journal;
 use cell_lines::WriteFault;
-use cell_runs::{KeptRun, run_texts_kept};
+use cell_runs::{KeptRun, Left, follow_texts, run_texts_kept};
 use cell_samples::{CLEARED_PRESS, STUCK_PRESS, call_begins, call_ends};
 use cell_types::Totals;
 use std::alloc::Global;
@@ -170,7 +170,8 @@ fn keep<R: AllocGlobal + Abort + Threads + Wait + Sync>(
         call_ends(alloc, matches!(&answer, Ok((4, _))));
     }
     match answer {
-        Ok((status, run)) => Ok((written, status, run)),
+        Ok((status, Left::Run(run))) => Ok((written, status, Some(run))),
+        Ok((status, _)) => Ok((written, status, None)),
         Err(WriteFault) => panic!(rt; "there is room for all that is written"),
     }
 }
@@ -210,6 +211,42 @@ fn run_texts_kept_in_rounds(rt: HostRuntime) -> Result<(), Fail> {
         check_same(&rt, &"the status", &status, &0);
         check_same(&rt, &"the lines", &lines, &due.as_slice());
         check_same(&rt, &"the journal", &length, &Some(whole.len()));
+    }
+    Ok(())
+}
+
+// The journal of that plate's run is followed.
+#[test]
+fn follow_texts_of_a_run(rt: HostRuntime) -> Result<(), Fail> {
+    let (journal, status) = run(&rt, SHORT, false, true, false)?;
+    check_same(&rt, &"usually", &status, &Ok(0));
+    let alloc = rt.alloc();
+    let [settings, faults, operator] = SHORT;
+    let [settings, faults, operator] = [
+        settings.as_bytes(),
+        faults.as_bytes(),
+        operator.as_bytes(),
+    ];
+    let followed = journal.as_slice();
+    let mut written = Vec::with_capacity(alloc, ROOM)?;
+    call_begins(alloc);
+    let answer = follow_texts(
+        &rt,
+        followed,
+        settings,
+        faults,
+        operator,
+        false,
+        &mut written,
+    );
+    call_ends(alloc, answer == Ok(4));
+    let lines = written.as_slice();
+    if answer == Ok(4) {
+        assert!(rt; lines.is_empty() || tells_memory(lines));
+    } else {
+        let due: &[u8] = b"followed\nadmitted 1\nforged 0\nquarantined 1\ndelivered 0\n";
+        check_same(&rt, &"the answer", &answer, &Ok(0));
+        check_same(&rt, &"the lines", &lines, &due);
     }
     Ok(())
 }
