@@ -127,10 +127,9 @@ refuse_calls() {
     wrong=$((wrong + $(awk '{ sum += $1 } END { print sum + 0 }' "$folder/tally") + $(wc -l < "$folder/tests") - $(wc -l < "$folder/tally")))
 }
 
-# Standard error has `out of memory`, and below it nothing or the line of the file or the thread for which there was none.
+# Standard error has `out of memory`, and below it nothing or the line of the file for which there was none.
 has_want() {
-    [ "$(head -n 1 "$1")" = "out of memory" ] && ! tail -n +2 "$1" | grep -v -q -e '^cellctl: /.*: no memory for it$' \
-        -e '^cellctl: run: no thread could be started$' &&
+    [ "$(head -n 1 "$1")" = "out of memory" ] && ! tail -n +2 "$1" | grep -v -q '^cellctl: /.*: no memory for it$' &&
         [ "$(wc -l < "$1")" -le 2 ]
 }
 
