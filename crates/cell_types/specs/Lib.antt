@@ -3,6 +3,7 @@ pub mod Limits
 pub mod Cell
 pub mod Entries
 pub mod Texts
+pub mod Parts
 pub mod Records
 pub mod Numbers
 pub mod Spelling

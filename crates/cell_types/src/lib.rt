@@ -8,6 +8,7 @@ pub mod fields;
 pub mod laws;
 pub mod limits;
 pub mod number;
+pub mod parts;
 pub mod plate_id;
 pub mod read;
 pub mod same;
@@ -24,6 +25,9 @@ pub use cell::{
 pub use entries::{actor_of, command_of};
 pub use fields::{Field, spell};
 pub use limits::{MAX_ENTRIES, MAX_PLATES};
+pub use parts::{
+    Object, ObjectSort, Parts, Sorts, Subject, SubjectSort, entry_of, parts_of, sorts_of,
+};
 pub use plate_id::PlateId;
 pub use read::read_fields;
 pub use words::{
