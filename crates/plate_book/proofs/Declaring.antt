@@ -65,22 +65,7 @@ spared_step l J (Declared m cause) s h =
     let more : machines_that (is_failed (J ++ Declared m cause ∷ [])) ≡ machines_that (is_failed J) + 1 = one_more (is_failed J) (is_failed (J ++ Declared m cause ∷ [])) m p.1.0 (declared_fails J m cause) in
     let longer_by : length (J ++ Declared m cause ∷ []) ≡ length J + 1 = length-append J (Declared m cause ∷ []) in
     rw (more, longer_by) (omega arith)
-spared_step l J (Lamp b to) s h = longer J (Lamp b to) l.entries _ (full_not _ _ (none_refused (tests l (situation_of J) (Lamp b to)) h).0)
-spared_step l J (Admitted k) s h = longer J (Admitted k) l.entries _ (full_not _ _ (none_refused (tests l (situation_of J) (Admitted k)) h).0)
-spared_step l J (Claimed m y) s h = longer J (Claimed m y) l.entries _ (full_not _ _ (none_refused (tests l (situation_of J) (Claimed m y)) h).0)
-spared_step l J (Yielded m y) s h = longer J (Yielded m y) l.entries _ (full_not _ _ (none_refused (tests l (situation_of J) (Yielded m y)) h).0)
-spared_step l J (Started b to) s h = longer J (Started b to) l.entries _ (full_not _ _ (none_refused (tests l (situation_of J) (Started b to)) h).0)
-spared_step l J (Arrived b p) s h = longer J (Arrived b p) l.entries _ (full_not _ _ (none_refused (tests l (situation_of J) (Arrived b p)) h).0)
-spared_step l J (Conveyed b k dest) s h = longer J (Conveyed b k dest) l.entries _ (full_not _ _ (none_refused (tests l (situation_of J) (Conveyed b k dest)) h).0)
-spared_step l J (Forged m k) s h = longer J (Forged m k) l.entries _ (full_not _ _ (none_refused (tests l (situation_of J) (Forged m k)) h).0)
-spared_step l J (Gripped x k src) s h = longer J (Gripped x k src) l.entries _ (full_not _ _ (none_refused (tests l (situation_of J) (Gripped x k src)) h).0)
-spared_step l J (Dropped x k dest) s h = longer J (Dropped x k dest) l.entries _ (full_not _ _ (none_refused (tests l (situation_of J) (Dropped x k dest)) h).0)
-spared_step l J (Delivered k) s h = longer J (Delivered k) l.entries _ (full_not _ _ (none_refused (tests l (situation_of J) (Delivered k)) h).0)
-spared_step l J (StopAsked m) s h = longer J (StopAsked m) l.entries _ (full_not _ _ (none_refused (tests l (situation_of J) (StopAsked m)) h).0)
-spared_step l J (Quarantined k src) s h = longer J (Quarantined k src) l.entries _ (full_not _ _ (none_refused (tests l (situation_of J) (Quarantined k src)) h).0)
-spared_step l J (Repaired m) s h = longer J (Repaired m) l.entries _ (full_not _ _ (none_refused (tests l (situation_of J) (Repaired m)) h).0)
-spared_step l J (Expected k) s h = longer J (Expected k) l.entries _ (full_not _ _ (none_refused (tests l (situation_of J) (Expected k)) h).0)
-spared_step l J (Reinstated k) s h = longer J (Reinstated k) l.entries _ (full_not _ _ (none_refused (tests l (situation_of J) (Reinstated k)) h).0)
+spared_step l J e s h = longer J e l.entries _ (full_not _ _ (none_refused (tests l (situation_of J) e) h).0)
 
 spared : (l : BookLimits) (J : List Entry) → legal l J ≡ true → IsSpared l J
 spared l = along l (IsSpared l) (omega arith) (λ J e g s a. spared_step l J e s (is_none_tells (first l (situation_of J) e) a))

@@ -1,5 +1,5 @@
 //! The tests, each with its refusal, in the words of the table.
-ghost use Rattle.std.specs.Prelude.{◌≡◌, ◌||◌, not};
+ghost use Rattle.std.specs.Prelude.{◌≡◌, ◌≤◌, ◌||◌, not};
 ghost use Rattle.cell_types.specs.Same.{same_pose};
 ghost use Rattle.cell_types.specs.Cell.{is_pose_of};
 ghost use Rattle.plate_book.specs.Records.Recorded.{recorded};
@@ -8,8 +8,8 @@ ghost use Rattle.plate_book.specs.Rules.First.{not_at_rest, not_resting_at, cann
 use crate::registers::Registers;
 use crate::{BookLimits, Refusal};
 use cell_types::{
-    Axis, Belt, Colour, Machine, PlateId, Pose, Station, Zone, is_pose_of, machine_of_station,
-    owner, visitor,
+    Axis, Belt, Colour, Entry, Machine, PlateId, Pose, Station, Zone, is_pose_of,
+    machine_of_station, owner, visitor,
 };
 
 fn ends_by_arrival(axis: Axis, pose: Pose) -> bool
@@ -80,10 +80,16 @@ impl Registers {
         )
     }
 
-    pub fn journal_full(&self, limits: BookLimits) -> (bool, Refusal)
-        ensures { result ≡ journal_full limits (recorded self.now) }
+    /// Six places past the limit are for declarations alone.
+    pub fn journal_full(&self, limits: BookLimits, entry: Entry) -> (bool, Refusal)
+        requires { limits.entries ≤ 1000000 }
+        ensures { result ≡ journal_full limits (recorded self.now) entry }
     {
-        (limits.entries <= self.entries(), Refusal::JournalFull)
+        let room = match entry {
+            Entry::Declared { .. } => limits.entries + 6,
+            _ => limits.entries,
+        };
+        (room <= self.entries(), Refusal::JournalFull)
     }
 
     pub fn plate_limit(&self, limits: BookLimits) -> (bool, Refusal)

@@ -2,8 +2,8 @@
 ghost use Rattle.std.specs.Prelude.{◌≡◌, ◌+◌, ◌^◌, ◌<◌, ◌≤◌, ◌∷◌, [], ◌++◌, map, option_map};
 ghost use Rattle.plate_book.specs.Records.Recorded.{recorded};
 ghost use Rattle.cell_types.specs.Cell.{motion_to, machine_of_station, station_of_arm, faced_of, grips_at, drops_at};
-ghost use Rattle.cell_types.specs.declared.words.Entry.TheVariants.{Admitted, Quarantined, Repaired, Expected, Reinstated};
-ghost use Rattle.plate_book.specs.Rules.First.{first_true, claimed_tests, parked_tests, conveyed_tests, forged_tests, handing_tests, any_visited, any_still_there, first, is_faced, faces, journal_full, machine_failed, not_holder, neighbour_tests, not_at_rest};
+ghost use Rattle.cell_types.specs.declared.words.Entry.TheVariants.{Admitted};
+ghost use Rattle.plate_book.specs.Rules.First.{first_true, claimed_tests, parked_tests, conveyed_tests, forged_tests, handing_tests, quarantined_tests, repaired_tests, expected_tests, reinstated_tests, any_visited, any_still_there, first, is_faced, faces, kind_tests, machine_failed, not_holder, neighbour_tests, not_at_rest};
 
 use crate::checks::first_true;
 use crate::conditions::no_neighbour;
@@ -151,18 +151,17 @@ impl Registers {
         ])
     }
 
-    /// The tests of every entry of a machine.
-    fn machine_tests(&self, limits: BookLimits, machine: Machine) -> Option<Refusal>
-        ensures { result ≡ first_true (journal_full limits (recorded self.now) ∷ machine_failed (recorded self.now) machine ∷ []) }
+    /// The test of every entry of a machine.
+    fn machine_test(&self, machine: Machine) -> Option<Refusal>
+        ensures { result ≡ first_true (machine_failed (recorded self.now) machine ∷ []) }
     {
-        first_true(&[self.journal_full(limits), self.machine_failed(machine)])
+        first_true(&[self.machine_failed(machine)])
     }
 
     fn admitted_tests(&self, limits: BookLimits, plate: PlateId) -> Option<Refusal>
-        ensures { result ≡ first limits (recorded self.now) (Admitted plate) }
+        ensures { result ≡ first_true (kind_tests limits (recorded self.now) (Admitted plate)) }
     {
         first_true(&[
-            self.journal_full(limits),
             self.plate_limit(limits),
             self.machine_failed(Machine::Feed),
             self.wrong_number(plate),
@@ -171,11 +170,10 @@ impl Registers {
         ])
     }
 
-    fn expected_tests(&self, limits: BookLimits, plate: PlateId) -> Option<Refusal>
-        ensures { result ≡ first limits (recorded self.now) (Expected plate) }
+    fn expected_tests(&self, plate: PlateId) -> Option<Refusal>
+        ensures { result ≡ first_true (expected_tests (recorded self.now) plate) }
     {
         first_true(&[
-            self.journal_full(limits),
             self.not_waiting(plate),
             self.lamp_already(Belt::Feed, Colour::Green),
             self.plate_expected(),
@@ -183,11 +181,10 @@ impl Registers {
         ])
     }
 
-    fn reinstated_tests(&self, limits: BookLimits, plate: PlateId) -> Option<Refusal>
-        ensures { result ≡ first limits (recorded self.now) (Reinstated plate) }
+    fn reinstated_tests(&self, plate: PlateId) -> Option<Refusal>
+        ensures { result ≡ first_true (reinstated_tests (recorded self.now) plate) }
     {
         first_true(&[
-            self.journal_full(limits),
             self.machine_failed(Machine::Feed),
             self.not_expected(plate),
             self.lamp_red(Belt::Feed),
@@ -213,68 +210,72 @@ impl Registers {
             Some(Refusal::NotNeighbour)
         }
     }
-}
 
-#[tactic(auto, using(crate::proofs::Appended::first_true_append))]
-impl Registers {
     /// Why an entry isn't allowed now.
     pub fn refusal(&self, limits: BookLimits, entry: Entry) -> Option<Refusal>
         requires { limits.entries ≤ 1000000 }
         ensures { result ≡ first limits (recorded self.now) entry }
     {
+        let judged = entry;
+        let (is_full, full) = self.journal_full(limits, entry);
+        if is_full {
+            Some(full)
+        } else {
+            self.kind_tests(limits, judged)
+        }
+    }
+}
+
+#[tactic(auto, using(crate::proofs::Appended::first_true_append))]
+impl Registers {
+    /// The tests of an entry by its kind.
+    fn kind_tests(&self, limits: BookLimits, entry: Entry) -> Option<Refusal>
+        ensures { result ≡ first_true (kind_tests limits (recorded self.now) entry) }
+    {
         match entry {
             Entry::Lamp { belt, colour } => self
-                .machine_tests(limits, machine_of_belt(belt))
+                .machine_test(machine_of_belt(belt))
                 .or(self.lamp_tests(belt, colour)),
             Entry::Admitted { plate } => self.admitted_tests(limits, plate),
             Entry::Claimed { machine, zone } => self
-                .machine_tests(limits, machine)
+                .machine_test(machine)
                 .or(self.claimed_tests(machine, zone)),
             Entry::Yielded { machine, zone } => self
-                .machine_tests(limits, machine)
+                .machine_test(machine)
                 .or(self.yielded_tests(machine, zone)),
             Entry::Started { axis, to } => self
-                .machine_tests(limits, machine_of_axis(axis))
+                .machine_test(machine_of_axis(axis))
                 .or(self.started_tests(axis, to)),
             Entry::Arrived { axis, at } => first_true(&[
-                self.journal_full(limits),
                 self.machine_failed(machine_of_axis(axis)),
                 self.no_arrival(axis, at),
             ]),
             Entry::Conveyed { axis, plate, dest } => self
-                .machine_tests(limits, machine_of_axis(axis))
+                .machine_test(machine_of_axis(axis))
                 .or(self.conveyed_tests(axis, plate, dest)),
             Entry::Forged { press, plate } => self
-                .machine_tests(limits, press)
+                .machine_test(press)
                 .or(self.forged_tests(press, plate)),
             Entry::Gripped { arm, plate, src } => self
-                .machine_tests(limits, Machine::Robot)
+                .machine_test(Machine::Robot)
                 .or(self.gripped_tests(arm, plate, src)),
             Entry::Dropped { arm, plate, dest } => self
-                .machine_tests(limits, Machine::Robot)
+                .machine_test(Machine::Robot)
                 .or(self.dropped_tests(arm, plate, dest)),
             Entry::Delivered { plate } => first_true(&[
-                self.journal_full(limits),
                 self.machine_failed(Machine::Deposit),
                 self.other_plate_at(Station::DepEnd, plate),
                 self.lamp_red(Belt::Deposit),
             ]),
-            Entry::Declared { machine, .. } => first_true(&[
-                self.journal_full(BookLimits {
-                    entries: limits.entries + 6,
-                    plates: limits.plates,
-                }),
-                self.machine_failed(machine),
-            ]),
+            Entry::Declared { machine, .. } => first_true(&[self.machine_failed(machine)]),
             Entry::StopAsked { machine } => first_true(&[
-                self.journal_full(limits),
                 self.machine_failed(machine),
                 (self.is_asked(machine), Refusal::AlreadyAsked(machine)),
             ]),
-            Entry::Quarantined { plate, src } => self.quarantined_tests(limits, plate, src),
-            Entry::Repaired { machine } => self.repaired_tests(limits, machine),
-            Entry::Expected { plate } => self.expected_tests(limits, plate),
-            Entry::Reinstated { plate } => self.reinstated_tests(limits, plate),
+            Entry::Quarantined { plate, src } => self.quarantined_tests(plate, src),
+            Entry::Repaired { machine } => self.repaired_tests(machine),
+            Entry::Expected { plate } => self.expected_tests(plate),
+            Entry::Reinstated { plate } => self.reinstated_tests(plate),
         }
     }
 
@@ -285,19 +286,19 @@ impl Registers {
             .or(first_true(&[self.not_holder(machine, zone)]))
     }
 
-    fn quarantined_tests(&self, limits: BookLimits, plate: PlateId, src: Station) -> Option<Refusal>
-        ensures { result ≡ first limits (recorded self.now) (Quarantined plate src) }
+    fn quarantined_tests(&self, plate: PlateId, src: Station) -> Option<Refusal>
+        ensures { result ≡ first_true (quarantined_tests (recorded self.now) plate src) }
     {
         let machine = machine_of_station(src);
-        first_true(&[self.journal_full(limits), self.machine_healthy(machine)])
+        first_true(&[self.machine_healthy(machine)])
             .or(self.any_visited(machine))
             .or(first_true(&[self.station_empty(src), self.other_plate_at(src, plate)]))
     }
 
-    fn repaired_tests(&self, limits: BookLimits, machine: Machine) -> Option<Refusal>
-        ensures { result ≡ first limits (recorded self.now) (Repaired machine) }
+    fn repaired_tests(&self, machine: Machine) -> Option<Refusal>
+        ensures { result ≡ first_true (repaired_tests (recorded self.now) machine) }
     {
-        first_true(&[self.journal_full(limits), self.machine_healthy(machine)])
+        first_true(&[self.machine_healthy(machine)])
             .or(self.any_visited(machine))
             .or(self.any_still_there(machine))
     }

@@ -22,6 +22,7 @@ use Rattle.cell_types.specs.Same.{same_machine, same_station, same_pose, same_co
 use Rattle.cell_types.specs.declared.cell.BeltMotion.{BeltMotion}
 use Rattle.cell_types.specs.Cell.{machine_of_axis, machine_of_station, machine_of_belt, is_pose_of, owner, visitor, axis_of_arm, station_of_arm, motion_to, Faced, faced, grips_at, drops_at}
 use Rattle.cell_types.specs.After.{is_machine, is_plate}
+use Rattle.cell_journal.specs.Stored.{is_full}
 use Rattle.cell_views.specs.Situations.{Situation}
 use Rattle.plate_book.specs.declared.limits.BookLimits.{BookLimits}
 use Rattle.plate_book.specs.declared.refusal.Refusal.{Refusal}
@@ -55,8 +56,9 @@ is_faced s None = false
 
 -- the tests, each with its refusal
 
-abbrev pub journal_full : BookLimits → Situation → Test
-journal_full limits c = (nat_le limits.entries c.entries, JournalFull)
+-- six places past the limit are for declarations alone
+abbrev pub journal_full : BookLimits → Situation → Entry → Test
+journal_full limits c e = (is_full limits.entries c.entries e, JournalFull)
 
 abbrev pub plate_limit : BookLimits → Situation → Test
 plate_limit limits c = (nat_le limits.plates c.admitted, PlateLimit)
@@ -273,38 +275,53 @@ abbrev pub neighbour_tests : Bool → List (Bool × Refusal) → List (Bool × R
 neighbour_tests true ts = ts
 neighbour_tests false ts = (true, NotNeighbour) ∷ []
 
-abbrev pub tests : BookLimits → Situation → Entry → List (Bool × Refusal)
-tests l c (Lamp b to) = journal_full l c ∷ machine_failed c (machine_of_belt b) ∷ lamp_tests c b to
-tests l c (Admitted k) =
-    journal_full l c ∷ plate_limit l c ∷ machine_failed c machine.Feed
-    ∷ wrong_number c k ∷ lamp_red c belt.Feed ∷ plate_expected c ∷ []
-tests l c (Claimed m z) = journal_full l c ∷ machine_failed c m ∷ claimed_tests c m z
-tests l c (Yielded m z) = journal_full l c ∷ machine_failed c m ∷ (parked_tests c m ++ not_holder c m z ∷ [])
-tests l c (Started a to) = journal_full l c ∷ machine_failed c (machine_of_axis a) ∷ started_tests c a to
-tests l c (Arrived a at) =
-    journal_full l c ∷ machine_failed c (machine_of_axis a) ∷ no_arrival c a at ∷ []
-tests l c (Conveyed a k dest) =
-    journal_full l c ∷ machine_failed c (machine_of_axis a) ∷ conveyed_tests c a k (motion_to a dest)
-tests l c (Forged m k) = journal_full l c ∷ machine_failed c m ∷ forged_tests c m k
-tests l c (Gripped arm k src) =
-    journal_full l c ∷ machine_failed c machine.Robot
-    ∷ neighbour_tests (grips_at arm src) (handing_tests c arm src src (station_of_arm arm) k)
-tests l c (Dropped arm k dest) =
-    journal_full l c ∷ machine_failed c machine.Robot
-    ∷ neighbour_tests (drops_at arm dest) (handing_tests c arm dest (station_of_arm arm) dest k)
-tests l c (Delivered k) =
-    journal_full l c ∷ machine_failed c machine.Deposit ∷ other_plate_at c station.DepEnd k ∷ lamp_red c belt.Deposit ∷ []
-tests l c (Declared m cause) = (nat_le (l.entries + 6) c.entries, JournalFull) ∷ machine_failed c m ∷ []
-tests l c (StopAsked m) = journal_full l c ∷ machine_failed c m ∷ (c.asked m, AlreadyAsked m) ∷ []
-tests l c (Quarantined k src) =
-    journal_full l c ∷ machine_healthy c (machine_of_station src)
+abbrev pub quarantined_tests : Situation → ℕ → Station → List (Bool × Refusal)
+quarantined_tests c k src =
+    machine_healthy c (machine_of_station src)
     ∷ (any_visited c (machine_of_station src) ++ station_empty c src ∷ other_plate_at c src k ∷ [])
-tests l c (Repaired m) = journal_full l c ∷ machine_healthy c m ∷ (any_visited c m ++ any_still_there c m)
-tests l c (Expected k) =
-    journal_full l c ∷ not_waiting c k ∷ lamp_already c belt.Feed colour.Green
-    ∷ plate_expected c ∷ not_returnable c k ∷ []
-tests l c (Reinstated k) =
-    journal_full l c ∷ machine_failed c machine.Feed ∷ not_expected c k ∷ lamp_red c belt.Feed ∷ []
+
+abbrev pub repaired_tests : Situation → Machine → List (Bool × Refusal)
+repaired_tests c m = machine_healthy c m ∷ (any_visited c m ++ any_still_there c m)
+
+abbrev pub expected_tests : Situation → ℕ → List (Bool × Refusal)
+expected_tests c k =
+    not_waiting c k ∷ lamp_already c belt.Feed colour.Green ∷ plate_expected c ∷ not_returnable c k ∷ []
+
+abbrev pub reinstated_tests : Situation → ℕ → List (Bool × Refusal)
+reinstated_tests c k = machine_failed c machine.Feed ∷ not_expected c k ∷ lamp_red c belt.Feed ∷ []
+
+-- the tests of an entry by its kind
+abbrev pub kind_tests : BookLimits → Situation → Entry → List (Bool × Refusal)
+kind_tests l c (Lamp b to) = machine_failed c (machine_of_belt b) ∷ lamp_tests c b to
+kind_tests l c (Admitted k) =
+    plate_limit l c ∷ machine_failed c machine.Feed
+    ∷ wrong_number c k ∷ lamp_red c belt.Feed ∷ plate_expected c ∷ []
+kind_tests l c (Claimed m z) = machine_failed c m ∷ claimed_tests c m z
+kind_tests l c (Yielded m z) = machine_failed c m ∷ (parked_tests c m ++ not_holder c m z ∷ [])
+kind_tests l c (Started a to) = machine_failed c (machine_of_axis a) ∷ started_tests c a to
+kind_tests l c (Arrived a at) =
+    machine_failed c (machine_of_axis a) ∷ no_arrival c a at ∷ []
+kind_tests l c (Conveyed a k dest) =
+    machine_failed c (machine_of_axis a) ∷ conveyed_tests c a k (motion_to a dest)
+kind_tests l c (Forged m k) = machine_failed c m ∷ forged_tests c m k
+kind_tests l c (Gripped arm k src) =
+    machine_failed c machine.Robot
+    ∷ neighbour_tests (grips_at arm src) (handing_tests c arm src src (station_of_arm arm) k)
+kind_tests l c (Dropped arm k dest) =
+    machine_failed c machine.Robot
+    ∷ neighbour_tests (drops_at arm dest) (handing_tests c arm dest (station_of_arm arm) dest k)
+kind_tests l c (Delivered k) =
+    machine_failed c machine.Deposit ∷ other_plate_at c station.DepEnd k ∷ lamp_red c belt.Deposit ∷ []
+kind_tests l c (Declared m cause) = machine_failed c m ∷ []
+kind_tests l c (StopAsked m) = machine_failed c m ∷ (c.asked m, AlreadyAsked m) ∷ []
+kind_tests l c (Quarantined k src) = quarantined_tests c k src
+kind_tests l c (Repaired m) = repaired_tests c m
+kind_tests l c (Expected k) = expected_tests c k
+kind_tests l c (Reinstated k) = reinstated_tests c k
+
+-- all of them: there is room for the entry, and then those of its kind
+abbrev pub tests : BookLimits → Situation → Entry → List (Bool × Refusal)
+tests l c e = journal_full l c e ∷ kind_tests l c e
 
 -- the refusal of an entry by a cell, if there is one
 abbrev pub first : BookLimits → Situation → Entry → Option Refusal
