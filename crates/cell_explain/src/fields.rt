@@ -1,6 +1,5 @@
 //! The fields of a record.
 use crate::places::Spot;
-use cell_types::{Entry, read_fields};
 
 // More than a field of a record that can be read has.
 const KEPT: usize = 24;
@@ -86,13 +85,5 @@ impl Fields {
             Some(text) => text.as_slice(),
             None => b"",
         }
-    }
-
-    /// The entry whose record they are, if they are one's.
-    pub(crate) fn entry(&self) -> Option<Entry> {
-        if self.count != 4 {
-            return None;
-        }
-        read_fields(&[self.at(0), self.at(1), self.at(2), self.at(3)])
     }
 }

@@ -1,7 +1,10 @@
 //! Why a journal's text is refused.
 ghost use Rattle.std.specs.Prelude.{◌≡◌, ℕ, IfOk, IsErr, Some, string_bytes, true};
+ghost use Rattle.cell_audit.specs.Reading.{IsBefore, SpellsFirst};
 ghost use Rattle.cell_audit.specs.Watched.{IsSameWriter, bytes_held, has_refused};
 ghost use Rattle.cell_lines.specs.Lines.{TellsAudit};
+ghost use Rattle.cell_rows.specs.Rows.{current_row, rows_of};
+ghost use Rattle.cell_types.specs.Records.{read_row};
 ghost use Rattle.cell_explain.specs.Explained.{EndsAsAudit};
 ghost use Rattle.cell_explain.specs.Sayings.{refused_line};
 ghost use Rattle.cell_explain.specs.Told.{IsSince, SaysAudit, SaysJournal, SaysRefusal, SaysRefused, SaysUnreadable, Tells, TellsPart};
@@ -15,10 +18,12 @@ use crate::shown::shown;
 use crate::telling::{Since, left_by, told};
 use crate::unread::record_line;
 use crate::wanted::Trouble;
-use cell_audit::{AuditError, WatchedWriter, WriteFault, audit_text, read_journal};
+use cell_audit::{AuditError, Reading, WatchedWriter, WriteFault, audit_text, read_rows};
 use cell_journal::Journal;
 use cell_lines::{audit_lines, status};
+use cell_rows::{RowReader, TellsFault};
 use cell_sentences::RefusalSentence;
+use cell_types::{Entry, read_fields};
 use plate_book::Refusal;
 use std::alloc::{AllocError, Global};
 use std::io::Write;
@@ -53,11 +58,31 @@ fn unreadable_line(alloc: Global, text: &[u8], place: u32) -> Result<String, All
     record_line(alloc, record, "entry", place, trouble)
 }
 
-// Since when it is so that the entry of a record is refused after those of a journal, and what it needs.
-fn circumstances(journal: &Journal, record: &[u8], why: Refusal) -> Circumstances
+// The entry of the record that was read last, if it is one's.
+fn entry_of<R: TellsFault>(rows: &RowReader<R>) -> Option<Entry>
+    ensures { result ≡ read_row (current_row rows.now) }
+{
+    match rows.four() {
+        Some(four) => read_fields(&[four.first, four.second, four.third, four.fourth]),
+        None => None,
+    }
+}
+
+// What is read of a text into a book, and the entry of the record at which that ended, if it is one's.
+fn read_again(alloc: Global, text: &[u8]) -> Result<(Reading, Option<Entry>), AllocError>
+    ensures before { IfOk result (λ read. IsBefore read.0.answer read.0.book.entries) }
+    ensures first { IfOk result (λ read. SpellsFirst read.0.book.entries (rows_of text.now)) }
+{
+    let mut rows = RowReader::new(alloc, text);
+    let reading = read_rows(alloc, &mut rows)?;
+    Ok((reading, entry_of(&rows)))
+}
+
+// Since when it is so that an entry is refused after those of a journal, and what it needs.
+fn circumstances(journal: &Journal, entry: Option<Entry>, why: Refusal) -> Circumstances
     ensures { IsSince journal.now.entries result.since }
 {
-    let Some(entry) = Fields::of(record).entry() else {
+    let Some(entry) = entry else {
         return Circumstances {
             since: Since::Always,
             due: Due::Nothing,
@@ -92,13 +117,13 @@ fn refused_line(
 fn say_refused(alloc: Global, text: &[u8], place: u32, why: Refusal) -> Said
     ensures { SaysRefusal (SaysRefused text.now place why) result.status result.text.items }
 {
-    let Ok(reading) = read_journal(alloc, text) else {
+    let Ok((reading, entry)) = read_again(alloc, text) else {
         return Said::nothing(alloc);
     };
     match reading.answer {
         Err(AuditError::Refused(again, _)) if again == place => {
             let record = record_of(text, place);
-            let made = circumstances(reading.book.journal(), record.bytes, why);
+            let made = circumstances(reading.book.journal(), entry, why);
             Said::line(
                 alloc,
                 status::REFUSED,

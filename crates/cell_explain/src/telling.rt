@@ -1,6 +1,7 @@
 //! Which entry made it so that another is refused.
-ghost use Rattle.std.specs.Prelude.{◌≡◌, true};
-ghost use Rattle.cell_journal.specs.Snapshots.{HasRoom, state_of};
+ghost use Rattle.std.specs.Prelude.{◌≡◌, length, take, true};
+ghost use Rattle.cell_types.specs.After.{after};
+ghost use Rattle.cell_journal.specs.Snapshots.{HasRoom, seen, state_of};
 ghost use Rattle.cell_explain.specs.Told.{IsSince};
 
 use cell_journal::{Journal, Snapshot};
@@ -90,15 +91,12 @@ fn step(state: &mut Snapshot, entry: Entry) {
     }
 }
 
-/// What all entries of a journal leave.
-pub(crate) fn left_by(journal: &Journal) -> Snapshot {
-    let mut state = Snapshot::opening();
-    for place in 0..journal.len() {
-        if let Some(entry) = journal.get(place) {
-            step(&mut state, entry);
-        }
-    }
-    state
+/// What all entries of a journal leave, of which 255 at most are replayed.
+pub(crate) fn left_by(journal: &Journal) -> Snapshot
+    ensures { state_of result ≡ seen (after (take (length journal.now.entries) journal.now.entries)) }
+{
+    let (left, _) = journal.state_at(journal.len());
+    left
 }
 
 // Since when a fact holds that the entries of a journal leave.
