@@ -18,6 +18,6 @@ pub use axis_watch::AxisWatch;
 pub use expect::Expect;
 pub use limits::Limits;
 pub use motion::Motion;
-pub use reading::Reading;
+pub use reading::{Reading, bit};
 pub use rest_watch::RestWatch;
 pub use verdict::Verdict;

@@ -2,7 +2,6 @@
 ghost use Rattle.std.specs.Prelude.{◌≡◌, ◌≤◌, OnOk, length};
 ghost use Rattle.std.specs.Io.KnownBytes.{Appends};
 ghost use Rattle.operator_desk.specs.Lines.{line_of};
-ghost use Rattle.operator_desk.specs.Next.{holds};
 ghost use Rattle.plate_book.specs.Rules.Legal.{first_of};
 ghost use Rattle.cell_endings.specs.Waiting.{is_operator, line_wait, lines_done, refusal_line, task_wait, trigger_wait, undone_line, waiting_of};
 ghost use Rattle.cell_endings.specs.Endings.{script_lines};
@@ -12,7 +11,7 @@ use cell_journal::Journal;
 use cell_rows::{LineError, read_script};
 use cell_sentences::{RefusalSentence, station_name, the_machine};
 use cell_types::{Actor, Entry, actor_of};
-use operator_desk::{Line, Task, Trigger};
+use operator_desk::{Line, Task, Trigger, holds};
 use plate_book::Book;
 use std::alloc::{AllocError, Global};
 use std::io::{Error, Result, Write};
@@ -35,20 +34,6 @@ fn lines_done(journal: &Journal) -> u32
         }
     }
     done
-}
-
-// Whether a trigger holds.
-#[tactic(auto, unfolding(operator_desk::specs::Next::holds))]
-fn holds(book: &Book, when: Trigger) -> bool
-    ensures { result ≡ holds book.now.entries when }
-{
-    match when {
-        Trigger::Always => true,
-        Trigger::Admitted(number) => number <= book.totals().admitted,
-        Trigger::Delivered(number) => number <= book.totals().delivered,
-        Trigger::Quarantined(number) => number <= book.totals().quarantined,
-        Trigger::Failed(machine) => book.failed(machine),
-    }
 }
 
 // Writes what a trigger waits for.

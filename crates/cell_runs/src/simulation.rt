@@ -8,30 +8,14 @@ use crate::follow::{Following, follow_over};
 use crate::rounds::{Outcome, run_over};
 use cell_journal::Journal;
 use cell_ledger::Blanks;
-use cell_sim::{FaultScript, SimPort, World};
-use cell_types::Machine;
-use cell_workers::{OperatorPort, Plan, Ports, Six};
+pub(crate) use cell_sim::sim_ports as ports_of;
+use cell_sim::{FaultScript, World};
+use cell_workers::{OperatorPort, Plan};
 use operator_desk::Script;
 use plate_book::Book;
 use std::alloc::{AllocError, Global};
 use std::marker::Brand;
 use std::sync::{Mutex, Wait};
-
-/// The ports of the machines in a world.
-pub(crate) fn ports_of<'a, R: Wait>(
-    rt: &'a R,
-    world: &'a Mutex<World>,
-    faults: &'a FaultScript,
-) -> Ports<SimPort<'a, R>> {
-    Six {
-        feed: SimPort::new(rt, world, Machine::Feed, faults),
-        table: SimPort::new(rt, world, Machine::Table, faults),
-        robot: SimPort::new(rt, world, Machine::Robot, faults),
-        press1: SimPort::new(rt, world, Machine::Press1, faults),
-        press2: SimPort::new(rt, world, Machine::Press2, faults),
-        deposit: SimPort::new(rt, world, Machine::Deposit, faults),
-    }
-}
 
 // An empty book within a plan's limits.
 fn empty_book(alloc: Global, plan: &Plan) -> Result<Book, AllocError>

@@ -12,6 +12,6 @@ mod switches;
 mod world;
 
 pub use fault::{Fault, PlannedFault};
-pub use port::{SimOperator, SimPort};
+pub use port::{SimOperator, SimPort, sim_ports};
 pub use script::{FaultError, FaultScript};
 pub use world::World;

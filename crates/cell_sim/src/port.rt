@@ -1,10 +1,11 @@
 //! The ports of the machines of a simulated cell, and the operator's hands in it.
 ghost use Rattle.std.specs.Prelude.{◌≡◌};
+ghost use Rattle.cell_types.specs.declared.words.Machine.TheVariants as machine;
 
 use crate::script::FaultScript;
 use crate::world::World;
 use cell_diagnosis::Reading;
-use cell_turns::{OperatorPort, Port, PortFault};
+use cell_turns::{OperatorPort, Port, PortFault, Six};
 use cell_types::{Command, Machine, Station};
 use std::marker::Model;
 use std::sync::{Mutex, Wait};
@@ -53,6 +54,24 @@ impl<R: Wait> Port for SimPort<'_, R> {
 
     fn command(&mut self, command: Command) -> Result<(), PortFault> {
         self.world.lock(self.rt).command(command, self.faults)
+    }
+}
+
+/// The ports of a simulated cell's six machines.
+pub fn sim_ports<'a, R: Wait>(
+    rt: &'a R,
+    world: &'a Mutex<World>,
+    faults: &'a FaultScript,
+) -> Six<SimPort<'a, R>>
+    ensures { result ≡ record { feed = machine.Feed; table = machine.Table; robot = machine.Robot; press1 = machine.Press1; press2 = machine.Press2; deposit = machine.Deposit } }
+{
+    Six {
+        feed: SimPort::new(rt, world, Machine::Feed, faults),
+        table: SimPort::new(rt, world, Machine::Table, faults),
+        robot: SimPort::new(rt, world, Machine::Robot, faults),
+        press1: SimPort::new(rt, world, Machine::Press1, faults),
+        press2: SimPort::new(rt, world, Machine::Press2, faults),
+        deposit: SimPort::new(rt, world, Machine::Deposit, faults),
     }
 }
 

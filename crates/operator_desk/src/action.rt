@@ -31,9 +31,9 @@ pub fn entry_of(action: Action) -> Entry
     }
 }
 
-// Whether a trigger holds.
+/// Whether a trigger holds of a book's entries.
 #[tactic(auto, unfolding(crate::specs::Next::holds))]
-fn holds(book: &Book, when: Trigger) -> bool
+pub fn holds(book: &Book, when: Trigger) -> bool
     ensures { result ≡ holds book.now.entries when }
 {
     match when {

@@ -7,6 +7,6 @@ mod line;
 mod read;
 mod script;
 
-pub use action::{Action, entry_of};
+pub use action::{Action, entry_of, holds};
 pub use line::{Line, Task, Trigger};
 pub use script::{Script, ScriptError};

@@ -9,9 +9,10 @@ mod sent;
 mod six;
 mod still;
 
+pub use cell_sim::sim_ports;
 pub use failing::Failing;
 pub use hands::TellingHands;
 pub use ports::TellingPort;
 pub use sent::{did, was_sent};
-pub use six::{sim_ports, telling_ports};
+pub use six::telling_ports;
 pub use still::{StillHands, StillPort};

@@ -3,7 +3,6 @@ ghost use Rattle.std.specs.Prelude.{◌≡◌, ◌<◌, [], Option, List};
 ghost use Rattle.std.specs.Option.{option_map};
 ghost use Rattle.cell_types.specs.Same.{same_axis, same_pose};
 ghost use Rattle.cell_diagnosis.specs.AxisWatches.{motion_of, Fits};
-ghost use Rattle.cell_diagnosis.specs.Readings.{bit};
 ghost use Rattle.cell_diagnosis.specs.RestFacts.{Noted};
 ghost use Rattle.cell_diagnosis.specs.RestRules.{rest};
 ghost use Rattle.cell_diagnosis.specs.RestWatches.{machine_of, RestFits};
@@ -16,7 +15,7 @@ use crate::Plan;
 use crate::turns::decide::Findings;
 use crate::turns::expect::{expected_of, is_green, is_unvisited, motion_of_machine};
 use crate::watch::Watch;
-use cell_diagnosis::{AxisWatch, Motion, Reading, RestWatch, Verdict};
+use cell_diagnosis::{AxisWatch, Motion, Reading, RestWatch, Verdict, bit};
 use cell_types::{Axis, Belt, Machine, Pose};
 use plate_book::Book;
 
@@ -93,15 +92,6 @@ fn note_motion(
     ensures verdict { (f : Option Following) → FitsAxis watch.now.axis f → result.1 ≡ axis_verdict (option_map (with_reading reading) (followed f motion)) }
 {
     note_axis(followed(watch.axis, motion), reading)
-}
-
-/// Whether bit `index` of a byte is set.
-#[tactic(auto, using(std::proofs::lemmas::Nat::Bits::shr_and_one), unfolding(cell_diagnosis::specs::Readings::bit))]
-fn bit(byte: u8, index: u32) -> bool
-    requires { index < 8 }
-    ensures { result ≡ bit byte index }
-{
-    (byte >> index) & 1 == 1
 }
 
 /// Whether a reading is present and shows that a plate lies at FeedIn under a green light, or that none is left at DepEnd
