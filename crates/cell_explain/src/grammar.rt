@@ -1,7 +1,9 @@
 //! Which fields the records of a text have.
 use crate::fields::Fields;
 use crate::wanted::Wanted;
-use crate::words::{Words, is_one_of};
+use crate::words::Words;
+use cell_types::texts::read_kind;
+use cell_types::{ObjectSort, SubjectSort, sorts_of};
 
 const KINDS_OF_ONE: Wanted = Wanted::Word(Words::KindsOfOne);
 
@@ -41,30 +43,32 @@ const READINGS: Wanted = Wanted::Number(1, 1000);
 
 const NOTHING: Wanted = Wanted::Nothing;
 
+// What may stand in the field of an object of this sort.
+fn object_wanted(sort: ObjectSort) -> Wanted {
+    match sort {
+        ObjectSort::Nothing => NOTHING,
+        ObjectSort::Plate => PLATE,
+        ObjectSort::Colour => COLOUR,
+        ObjectSort::Zone => ZONE,
+        ObjectSort::Pose => POSE,
+        ObjectSort::Cause => CAUSE,
+    }
+}
+
 // What may stand in the last three fields of the record of an entry, by the word of its kind.
-fn entry_named(kind: &[u8]) -> (Wanted, Wanted, Wanted) {
-    if is_one_of(kind, "lamp") {
-        (BELT, COLOUR, NOTHING)
-    } else if is_one_of(kind, "claimed, yielded") {
-        (MACHINE, ZONE, NOTHING)
-    } else if is_one_of(kind, "started, arrived") {
-        (AXIS, POSE, NOTHING)
-    } else if is_one_of(kind, "conveyed") {
-        (AXIS, PLATE, STATION)
-    } else if is_one_of(kind, "forged") {
-        (MACHINE, PLATE, NOTHING)
-    } else if is_one_of(kind, "gripped, dropped") {
-        (ARM, PLATE, STATION)
-    } else if is_one_of(kind, "declared") {
-        (MACHINE, CAUSE, NOTHING)
-    } else if is_one_of(kind, "stop_asked, repaired") {
-        (MACHINE, NOTHING, NOTHING)
-    } else if is_one_of(kind, "quarantined") {
-        (PLATE, STATION, NOTHING)
-    } else if is_one_of(kind, "admitted, delivered, expected, reinstated") {
-        (PLATE, NOTHING, NOTHING)
-    } else {
-        (NOTHING, NOTHING, NOTHING)
+fn entry_named(word: &[u8]) -> (Wanted, Wanted, Wanted) {
+    let Some(kind) = read_kind(word) else {
+        return (NOTHING, NOTHING, NOTHING);
+    };
+    let sorts = sorts_of(kind);
+    let object = object_wanted(sorts.object);
+    let station = if sorts.has_station { STATION } else { NOTHING };
+    match sorts.subject {
+        SubjectSort::Nothing => (object, station, NOTHING),
+        SubjectSort::Belt => (BELT, object, station),
+        SubjectSort::Machine => (MACHINE, object, station),
+        SubjectSort::Axis => (AXIS, object, station),
+        SubjectSort::Arm => (ARM, object, station),
     }
 }
 

@@ -7,8 +7,8 @@ ghost use Rattle.cell_explain.specs.Told.{IsSince};
 use cell_journal::{Journal, Snapshot};
 use cell_sentences::EntryDeed;
 use cell_types::{
-    Actor, Axis, AxisState, Belt, Colour, Entry, MAX_ENTRIES, Machine, PlateId, Station, Zone,
-    actor_of, motion_to, press_of, station_of_arm,
+    Actor, Axis, AxisState, Belt, Colour, Entry, MAX_ENTRIES, Machine, Object, PlateId, Station,
+    Zone, actor_of, motion_to, parts_of, press_of, station_of_arm,
 };
 use plate_book::Refusal;
 use std::fmt;
@@ -138,16 +138,9 @@ fn last_of(journal: &Journal, plate: PlateId) -> Since
 
 // The plate that an entry names.
 fn plate_of(entry: Entry) -> Option<PlateId> {
-    match entry {
-        Entry::Admitted { plate }
-        | Entry::Conveyed { plate, .. }
-        | Entry::Forged { plate, .. }
-        | Entry::Gripped { plate, .. }
-        | Entry::Dropped { plate, .. }
-        | Entry::Delivered { plate }
-        | Entry::Quarantined { plate, .. }
-        | Entry::Expected { plate }
-        | Entry::Reinstated { plate } => Some(plate),
+    let object = parts_of(entry).object;
+    match object {
+        Object::Plate(plate) => Some(plate),
         _ => None,
     }
 }
