@@ -1,7 +1,7 @@
 //! The shapes and texts of a drawing, in SVG's elements.
 use crate::ShownPlate;
-use crate::words::pose_word;
 use cell_types::AxisState;
+use cell_types::texts::pose_word;
 use std::fmt::Display;
 use std::io::Write;
 use std::{fmt, io};

@@ -11,7 +11,6 @@ mod scene;
 mod sheet;
 mod text;
 mod views;
-mod words;
 
 pub use facts::{Facts, ShownPlate, facts_of};
 pub use picture::draw_picture;

@@ -4,12 +4,11 @@ ghost use Rattle.cell_audit.specs.Watched.{IsSameWriter, has_refused};
 
 use crate::parts::{axis_at, holder_at, is_asked, is_failed, lamp_at, plate_at};
 use crate::sheet::{Area, COLUMNS, ROWS, Sheet, Sign};
-use crate::words::pose_word;
 use crate::{AnswerLine, Facts, Scene, ShownPlate};
 use arrayvec::ArrayString;
 use cell_audit::{WatchedWriter, WriteFault};
 use cell_sentences::{EntrySentence, arm_name, colour_name, machine_name};
-use cell_types::texts::{machine_word, zone_word};
+use cell_types::texts::{machine_word, pose_word, zone_word};
 use cell_types::{
     Arm, Axis, AxisState, Belt, Machine, PRESS1, PRESS2, Press, Station, ZONES, axis_of_arm, owner,
     station_of_arm, visitor,

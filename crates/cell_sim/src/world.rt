@@ -18,8 +18,8 @@ use cell_diagnosis::Reading;
 use cell_turns::PortFault;
 use cell_types::{
     AXES, Arm, Axis, Belt, Colour, Command, Machine, Pose, STATIONS, Station, axis_number,
-    axis_of_arm, faced, home, is_pose_of, machine_of_axis, machine_of_station, motion_named,
-    station_number, station_of_arm,
+    axis_of_arm, faced, home, is_before_press, is_pose_of, machine_of_axis, machine_of_station,
+    motion_named, station_number, station_of_arm,
 };
 use std::marker::Model;
 
@@ -495,13 +495,6 @@ impl World {
             }
         }
     }
-}
-
-fn is_before_press(station: Station) -> bool {
-    matches!(
-        station,
-        Station::FeedIn | Station::FeedEnd | Station::Table | Station::Arm1
-    )
 }
 
 fn is_belt(axis: Axis) -> bool {

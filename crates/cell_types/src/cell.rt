@@ -2,7 +2,7 @@
 //! and what an arm faces. Who owns and visits a zone, and the numbers of words and bits, are this project's profile.
 ghost use Rattle.std.specs.Prelude.{◌≡◌, ◌<◌, [], Some, IfSome, option_map};
 ghost use Rattle.cell_types.specs.Same.{machine_number, station_number, axis_number, zone_number, belt_number};
-ghost use Rattle.cell_types.specs.Cell.{machine_of_axis, machine_of_station, machine_of_belt, axes_of, stations_of, place_in_machine, poses, is_pose_of, home, owner, visitor, press_axis, press_of, station_of_arm, axis_of_arm, motion_to, motion_named, faced_of, faced, grips_at, drops_at};
+ghost use Rattle.cell_types.specs.Cell.{machine_of_axis, machine_of_station, is_before_press, machine_of_belt, axes_of, stations_of, place_in_machine, poses, is_pose_of, home, owner, visitor, press_axis, press_of, station_of_arm, axis_of_arm, motion_to, motion_named, faced_of, faced, grips_at, drops_at};
 
 use crate::{Arm, Axis, Belt, Machine, Pose, Station, Zone};
 
@@ -117,6 +117,16 @@ pub fn machine_of_station(station: Station) -> Machine
         Station::Press2 => Machine::Press2,
         Station::DepIn | Station::DepEnd => Machine::Deposit,
     }
+}
+
+/// Whether a station is before a press, so that no plate there is forged.
+pub fn is_before_press(station: Station) -> bool
+    ensures { result ≡ is_before_press station }
+{
+    matches!(
+        station,
+        Station::FeedIn | Station::FeedEnd | Station::Table | Station::Arm1
+    )
 }
 
 /// The machine of a belt, whose light stands for it.

@@ -3,12 +3,12 @@ ghost use Rattle.std.specs.Prelude.{◌≡◌, ◌≤◌, ◌||◌, not};
 ghost use Rattle.cell_types.specs.Same.{same_pose};
 ghost use Rattle.cell_types.specs.Cell.{is_pose_of};
 ghost use Rattle.plate_book.specs.Records.Recorded.{recorded};
-ghost use Rattle.plate_book.specs.Rules.First.{not_at_rest, not_resting_at, cannot_go, not_going, zone_taken, not_holder, station_empty, station_full, plate_not_at, other_plate_at, lamp_red, lamp_already, visited, still_there, journal_full, plate_limit, machine_failed, machine_healthy, owner_failed, visits_failed, no_neighbour, wrong_number, ends_by_arrival, no_arrival, is_before_press, waits_behind, not_waiting, plate_expected, not_returnable, not_expected};
+ghost use Rattle.plate_book.specs.Rules.First.{not_at_rest, not_resting_at, cannot_go, not_going, zone_taken, not_holder, station_empty, station_full, plate_not_at, other_plate_at, lamp_red, lamp_already, visited, still_there, journal_full, plate_limit, machine_failed, machine_healthy, owner_failed, visits_failed, no_neighbour, wrong_number, ends_by_arrival, no_arrival, waits_behind, not_waiting, plate_expected, not_returnable, not_expected};
 
 use crate::registers::Registers;
 use crate::{BookLimits, Refusal};
 use cell_types::{
-    Axis, Belt, Colour, Entry, Machine, PlateId, Pose, Station, Zone, is_pose_of,
+    Axis, Belt, Colour, Entry, Machine, PlateId, Pose, Station, Zone, is_before_press, is_pose_of,
     machine_of_station, owner, visitor,
 };
 
@@ -18,16 +18,6 @@ fn ends_by_arrival(axis: Axis, pose: Pose) -> bool
     !matches!(
         (axis, pose),
         (Axis::FeedBelt | Axis::DepositBelt, _) | (Axis::PressOne | Axis::PressTwo, Pose::Top)
-    )
-}
-
-/// Whether a station is before a press, so that no plate there is forged.
-fn is_before_press(station: Station) -> bool
-    ensures { result ≡ is_before_press station }
-{
-    matches!(
-        station,
-        Station::FeedIn | Station::FeedEnd | Station::Table | Station::Arm1
     )
 }
 

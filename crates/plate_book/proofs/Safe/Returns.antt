@@ -4,7 +4,8 @@ use Rattle.std.proofs.lemmas.Bool.{cases_eq}
 use Rattle.cell_types.specs.declared.words.Station.{Station}
 use Rattle.cell_types.specs.declared.words.Place.{Place}
 use Rattle.cell_types.specs.After.{with_at}
-use Rattle.plate_book.specs.Rules.First.{is_before_press, waits_behind}
+use Rattle.cell_types.specs.Cell.{is_before_press}
+use Rattle.plate_book.specs.Rules.First.{waits_behind}
 use Rattle.plate_book.proofs.Safe.Facts.{not_false}
 use Rattle.plate_book.proofs.Safe.Plates.{placed_at, placed_same, placed_other, forged_at, forged_other}
 

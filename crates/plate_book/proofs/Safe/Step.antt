@@ -12,9 +12,9 @@ use Rattle.cell_types.specs.declared.words.Place.{Place}
 use Rattle.cell_types.specs.declared.words.AxisState.{AxisState}
 use Rattle.cell_types.specs.declared.words.Entry.{Entry}
 use Rattle.cell_types.specs.Same.{same_machine, same_station, same_axis, same_belt, same_colour}
-use Rattle.cell_types.specs.Cell.{machine_of_axis, machine_of_station, home, axis_of_arm, station_of_arm, faced}
+use Rattle.cell_types.specs.Cell.{machine_of_axis, machine_of_station, is_before_press, home, axis_of_arm, station_of_arm, faced}
 use Rattle.plate_book.specs.declared.limits.BookLimits.{BookLimits}
-use Rattle.plate_book.specs.Rules.First.{is_pose, is_faced, not_holder, any_visited, any_still_there, parked_tests, ends_by_arrival, handing_tests, station_empty, other_plate_at, is_before_press, tests}
+use Rattle.plate_book.specs.Rules.First.{is_pose, is_faced, not_holder, any_visited, any_still_there, parked_tests, ends_by_arrival, handing_tests, station_empty, other_plate_at, tests}
 use Rattle.cell_types.specs.After.{Snapshot, with_at, is_plate, with_plate, step}
 use Rattle.plate_book.specs.Rules.SituationIn.{situation_in}
 use Rattle.std.specs.Prelude.{unwrap_or}

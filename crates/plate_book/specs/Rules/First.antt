@@ -20,7 +20,7 @@ use Rattle.cell_types.specs.declared.words.Entry.{Entry}
 use Rattle.cell_types.specs.declared.words.Entry.TheVariants.{Lamp, Admitted, Claimed, Yielded, Started, Arrived, Conveyed, Forged, Gripped, Dropped, Delivered, Declared, StopAsked, Quarantined, Repaired, Expected, Reinstated}
 use Rattle.cell_types.specs.Same.{same_machine, same_station, same_pose, same_colour}
 use Rattle.cell_types.specs.declared.cell.BeltMotion.{BeltMotion}
-use Rattle.cell_types.specs.Cell.{machine_of_axis, machine_of_station, machine_of_belt, is_pose_of, owner, visitor, axis_of_arm, station_of_arm, motion_to, Faced, faced, grips_at, drops_at}
+use Rattle.cell_types.specs.Cell.{machine_of_axis, machine_of_station, is_before_press, machine_of_belt, is_pose_of, owner, visitor, axis_of_arm, station_of_arm, motion_to, Faced, faced, grips_at, drops_at}
 use Rattle.cell_types.specs.After.{is_machine, is_plate}
 use Rattle.cell_journal.specs.Stored.{is_full}
 use Rattle.cell_views.specs.Situations.{Situation}
@@ -110,14 +110,6 @@ plate_not_at c s k = (not (c.holds s k), WrongPlate)
 
 abbrev pub other_plate_at : Situation → Station → ℕ → Test
 other_plate_at c s k = (c.other s k, WrongPlate)
-
--- the stations before a press, at which no plate is forged yet
-abbrev pub is_before_press : Station → Bool
-is_before_press station.FeedIn = true
-is_before_press station.FeedEnd = true
-is_before_press station.Table = true
-is_before_press station.Arm1 = true
-is_before_press _ = false
 
 -- a plate waits in quarantine from a station that isn't before a press
 abbrev pub waits_behind : Option Station → Bool
