@@ -22,11 +22,12 @@ pub enum Stop {
     Odd,
 }
 
-// Whether a byte can't stand in a field without quotes: a comma, a quote or a line end.
+// Whether a byte can't stand in a field without quotes: a comma, a quote or a line end. Letters and digits come after a
+// comma, so that one comparison is enough for them.
 fn ends_field(byte: u8) -> bool
     ensures { result ≡ needs_byte default_writer byte }
 {
-    matches!(byte, b',' | b'"' | b'\r' | b'\n')
+    byte <= b',' && matches!(byte, b',' | b'"' | b'\r' | b'\n')
 }
 
 // How many bytes come before the first that can't stand in a field without quotes.
