@@ -2,9 +2,9 @@
 ghost use Rattle.std.specs.Prelude.{◌≡◌};
 ghost use Rattle.cell_types.specs.Cell.{home};
 
-use crate::motion::{Motion, Path};
+use crate::motion::{Motion, Path, Phase};
 use crate::switches::switch_bit;
-use cell_types::{Axis, Pose, home};
+use cell_types::{Axis, AxisState, Pose, home};
 
 /// An axis as it is: which pose it has, which motion it is in and how many commands have begun one. A belt has the pose
 /// `Rest` always: where it has carried a plate is told by the plate's station.
@@ -25,6 +25,31 @@ impl AxisInWorld {
             pose: home(axis),
             motion: None,
             commands: 0,
+        }
+    }
+
+    /// The pose that it has or has left, and where it is going.
+    pub(crate) fn state(self, axis: Axis) -> AxisState
+        ensures { result.at ≡ self.pose }
+    {
+        AxisState {
+            at: self.pose,
+            going: self.going(axis),
+        }
+    }
+
+    fn going(self, axis: Axis) -> Option<Pose> {
+        match self.motion {
+            Some(motion) if !motion.is_over() => motion.goal(axis),
+            _ => None,
+        }
+    }
+
+    /// Whether a motion of it is under way.
+    pub(crate) fn is_moving(self) -> bool {
+        match self.motion {
+            Some(motion) => !motion.stopped && motion.phase != Phase::Arrived,
+            None => false,
         }
     }
 

@@ -9,9 +9,11 @@ mod port;
 mod read;
 mod script;
 mod switches;
+mod watch;
 mod world;
 
 pub use fault::{Fault, PlannedFault};
 pub use port::{SimOperator, SimPort, sim_ports};
 pub use script::{FaultError, FaultScript};
+pub use watch::{Occasion, SAFETY_RULES, SafetyRule};
 pub use world::World;

@@ -1,7 +1,7 @@
 //! The motion of one axis, and how it goes on from reading to reading.
 use crate::fault::Fault;
 use crate::switches::{all_switches, switch_bit};
-use cell_types::{Axis, Pose, Station};
+use cell_types::{Axis, Pose, Station, motion_to};
 
 /// Where a motion leads.
 #[derive(Clone, Copy, Debug, PartialEq, Eq)]
@@ -85,6 +85,19 @@ impl Motion {
     /// changes what is shown alone: the axis moves.
     pub(crate) fn has_left(self) -> bool {
         matches!(self.phase, Phase::Between(_) | Phase::Arrived)
+    }
+
+    /// Whether the axis is at rest: it has arrived, or was stopped before it left.
+    pub(crate) fn is_over(self) -> bool {
+        self.phase == Phase::Arrived || (self.stopped && !self.has_left())
+    }
+
+    /// Where the motion leads: a pose, or of a belt the name of its motion.
+    pub(crate) fn goal(self, axis: Axis) -> Option<Pose> {
+        match self.path {
+            Path::Poses { from: _, to } => Some(to),
+            Path::Stations { to, .. } => motion_to(axis, to).map(|motion| motion.to),
+        }
     }
 
     /// The switches that an axis shows in this motion from one of its poses to another.

@@ -7,28 +7,41 @@
 //!
 //! A stopped motion goes on showing what it last showed. A motion ends where another of its axis begins or the axis is
 //! put at home, and that of a belt also where the belt is turned off.
-ghost use Rattle.std.specs.Prelude.{◌≡◌};
+ghost use Rattle.std.specs.Prelude.{◌≡◌, Some, slice_get};
+ghost use Rattle.cell_types.specs.Same.{station_number};
 ghost use Rattle.cell_sim.specs.Simulated.{opening_with};
+
+mod state;
+mod watching;
 
 use crate::axis::AxisInWorld;
 use crate::fault::Fault;
 use crate::motion::{Motion, Path, Phase};
 use crate::script::FaultScript;
+use crate::watch::{SafetyRule, Watch};
 use cell_diagnosis::Reading;
 use cell_turns::PortFault;
 use cell_types::{
     AXES, Arm, Axis, Belt, Colour, Command, Machine, Pose, STATIONS, Station, axis_number,
     axis_of_arm, faced, home, is_before_press, is_pose_of, machine_of_axis, machine_of_station,
-    motion_named, station_number, station_of_arm,
+    motion_named, press_of, station_number, station_of_arm,
 };
 use std::marker::Model;
 
-/// A simulated cell: where its axes and plates are, which motions go on, its lights, and how often machines met.
+/// A plate as it is.
+#[derive(Clone, Copy, Debug)]
+struct Plate {
+    /// The number at which it was laid, from 1.
+    number: u32,
+    is_forged: bool,
+}
+
+/// A simulated cell: where its axes and plates are, which motions go on, its lights, and how often machines met. A
+/// watched one counts besides how often its safety rules were broken.
 #[derive(Debug, Drop)]
 pub struct World {
     axes: [AxisInWorld; 9],
-    /// The plate at each station, by the number at which it was laid, from 1.
-    plates: [Option<u32>; 9],
+    plates: [Option<Plate>; 9],
     feed_light: Colour,
     deposit_light: Colour,
     /// How many plates are to be laid, but for those that are laid back.
@@ -38,23 +51,44 @@ pub struct World {
     /// How many were taken out by hand from before a press, and so can be laid back. At `u32::MAX` the count stays.
     cleared: u32,
     collisions: u32,
+    /// How many plates were forged, taken out under the deposit light and taken out by hand, and how many are gone by a
+    /// fault or a broken rule. At `u32::MAX` a count stays.
+    forged: u32,
+    taken_out: u32,
+    removed: u32,
+    lost: u32,
+    /// The plate that was taken out last under the deposit light.
+    last_taken_out: Option<u32>,
+    /// The round, from 1, and in how many rounds each machine moved. At `u32::MAX` a count stays.
+    round: u32,
+    moving_rounds: [u32; 6],
+    /// Whether who lays the plates lays the next one onto whatever is on the belt, since the light was turned green.
+    is_trusting: bool,
+    /// The count of broken rules, which is on in a watched world.
+    watch: Watch,
 }
 
 impl Model for World {
-    ghost use Rattle.std.specs.Prelude.{map};
+    ghost use Rattle.std.specs.Prelude.{map, option_map};
     ghost use Rattle.cell_sim.specs.Simulated.{Simulated};
 
     ghost Value = { Simulated };
 
     ghost view = { λ w. record {
       poses = map (λ a. a.pose) w.axes;
-      plates = w.plates;
+      plates = map (option_map (λ p. p.number)) w.plates;
       feed_light = w.feed_light;
       deposit_light = w.deposit_light;
       planned = w.plan;
       laid = w.laid;
       cleared = w.cleared;
       collisions = w.collisions;
+      forged = w.forged;
+      taken_out = w.taken_out;
+      removed = w.removed;
+      lost = w.lost;
+      last_taken_out = w.last_taken_out;
+      broken = w.watch.counts;
     } };
 }
 
@@ -84,6 +118,27 @@ impl World {
             laid: 0,
             cleared: 0,
             collisions: 0,
+            forged: 0,
+            taken_out: 0,
+            removed: 0,
+            lost: 0,
+            last_taken_out: None,
+            round: 1,
+            moving_rounds: [0; 6],
+            is_trusting: false,
+            watch: Watch::new(false),
+        }
+    }
+
+    /// A watched cell at the opening: as `new`, and it counts how often each safety rule is broken. What a broken rule
+    /// does to a plate is done in a watched cell alone; where no rule is broken, it moves and shows as one that isn't
+    /// watched.
+    pub fn watched(plates: u32) -> World
+        ensures { result ≡ opening_with plates }
+    {
+        World {
+            watch: Watch::new(true),
+            ..World::new(plates)
         }
     }
 
@@ -107,12 +162,25 @@ impl World {
         self.axes[axis_number(axis)].pose = pose;
     }
 
-    fn plate(&self, station: Station) -> Option<u32> {
-        self.plates[station_number(station)]
+    fn plate(&self, station: Station) -> Option<u32>
+        ensures { slice_get self.now.plates (station_number station) ≡ Some result }
+    {
+        match self.plates[station_number(station)] {
+            Some(plate) => Some(plate.number),
+            None => None,
+        }
     }
 
-    fn set_plate(&mut self, station: Station, plate: Option<u32>) {
+    fn set_plate(&mut self, station: Station, plate: Option<Plate>) {
         self.plates[station_number(station)] = plate;
+    }
+
+    // The plate of a station, if there is one, is gone.
+    fn lose_plate(&mut self, station: Station) {
+        if self.plate(station).is_some() {
+            self.set_plate(station, None);
+            self.lost = self.lost.saturating_add(1);
+        }
     }
 
     fn count_collision(&mut self) {
@@ -130,20 +198,30 @@ impl World {
     ) -> Result<(), PortFault> {
         match command {
             Command::Lamp(belt, colour) => self.set_light(belt, colour),
-            Command::On(axis, to) => return self.start(axis, to, faults),
+            Command::On(axis, to) => self.start(axis, to, faults)?,
             Command::Off(axis) => self.end(axis),
             Command::MagnetOn(arm) => self.grip(arm),
             Command::MagnetOff(arm) => self.lay_down(arm),
             Command::AllOff(machine) => self.stop(machine),
         }
+        self.look(Some(command));
         Ok(())
     }
 
     fn set_light(&mut self, belt: Belt, colour: Colour) {
         match belt {
-            Belt::Feed => self.feed_light = colour,
+            Belt::Feed => self.set_feed_light(colour),
             Belt::Deposit => self.deposit_light = colour,
         }
+    }
+
+    // In a watched world the light that was turned green is trusted.
+    fn set_feed_light(&mut self, colour: Colour) {
+        let is_turned = self.feed_light != colour;
+        if is_turned && self.watch.is_on {
+            self.is_trusting = colour == Colour::Green;
+        }
+        self.feed_light = colour;
     }
 
     // A motion begins in place of the one before. A command that fails counts as a motion, and nothing else comes of it,
@@ -159,6 +237,7 @@ impl World {
         if self.has_arm_at(machine_of_axis(axis)) {
             self.count_collision();
         }
+        self.look_at_start(axis, to);
         if let Some(path) = self.path(axis, to) {
             self.set_motion(axis, Some(Motion::begin(path, fault)));
         }
@@ -219,13 +298,17 @@ impl World {
     }
 
     // The plate on an arm is at the empty station before it. Over a full station or none a collision is counted, whether
-    // the arm holds a plate or not, and nothing moves.
+    // the arm holds a plate or not, and nothing moves; in a watched world the plate is gone.
     fn lay_down(&mut self, arm: Arm) {
-        match self.station_before(arm) {
+        let below = self.station_before(arm);
+        match below {
             Some(station) if self.plate(station).is_none() => {
                 self.move_plate(station_of_arm(arm), station);
             }
-            _ => self.count_collision(),
+            _ => {
+                self.count_collision();
+                self.look_at_release(arm, below);
+            }
         }
     }
 
@@ -234,7 +317,7 @@ impl World {
         if self.plate(to).is_some() {
             return;
         }
-        let plate = self.plate(from);
+        let plate = self.plates[station_number(from)];
         self.set_plate(from, None);
         self.set_plate(to, plate);
     }
@@ -242,8 +325,8 @@ impl World {
     // All motions of a machine stop where they are, and its light is red. Its magnets hold what they held.
     fn stop(&mut self, machine: Machine) {
         match machine {
-            Machine::Feed => self.feed_light = Colour::Red,
-            Machine::Deposit => self.deposit_light = Colour::Red,
+            Machine::Feed => self.set_light(Belt::Feed, Colour::Red),
+            Machine::Deposit => self.set_light(Belt::Deposit, Colour::Red),
             _ => {}
         }
         for axis in AXES {
@@ -284,22 +367,46 @@ impl World {
         })
     }
 
-    // Where the feed light is green, the belt is empty and a plate is left, it is laid at the belt's beginning. So many are
-    // left as fewer were laid than are to be laid and can be laid back.
+    // Where the feed light is green, the belt is empty and a plate is left, it is laid at the belt's beginning. So many
+    // are left as fewer were laid than are to be laid and can be laid back. Where the light is trusted, the belt isn't
+    // looked at.
     fn lay_plate(&mut self) {
         let is_empty = self.plate(Station::FeedIn).is_none()
             && self.plate(Station::FeedEnd).is_none();
         let is_left = self.laid < self.plan.saturating_add(self.cleared);
-        if self.feed_light == Colour::Green && is_empty && is_left {
+        if self.feed_light == Colour::Green && is_left && (is_empty || self.is_trusting) {
             self.laid += 1;
-            self.set_plate(Station::FeedIn, Some(self.laid));
+            self.is_trusting = false;
+            self.lay(self.laid, is_empty);
         }
+    }
+
+    // A plate is laid at the belt's beginning. Where one lies there, the new one is gone.
+    fn lay(&mut self, number: u32, is_empty: bool) {
+        if !is_empty {
+            self.count_broken(
+                SafetyRule::LaidOntoFullBelt,
+                Command::Lamp(Belt::Feed, Colour::Green),
+            );
+        }
+        if self.plate(Station::FeedIn).is_some() {
+            self.lost = self.lost.saturating_add(1);
+            return;
+        }
+        let plate = Plate {
+            number,
+            is_forged: false,
+        };
+        self.set_plate(Station::FeedIn, Some(plate));
     }
 
     // Where the deposit light is green, the plate at the belt's end is taken.
     fn take_plate(&mut self) {
-        if self.deposit_light == Colour::Green {
+        let plate = self.plate(Station::DepEnd);
+        if self.deposit_light == Colour::Green && plate.is_some() {
             self.set_plate(Station::DepEnd, None);
+            self.taken_out = self.taken_out.saturating_add(1);
+            self.last_taken_out = plate;
         }
     }
 
@@ -346,7 +453,10 @@ impl World {
         self.set_motion(axis, Some(Motion { phase, ..motion }));
         match (motion.phase, phase) {
             (Phase::Seen, Phase::Between(_)) => self.leave(axis, motion.fault),
-            (Phase::Between(_), Phase::Arrived) => self.arrive(axis, motion.path),
+            (Phase::Between(_), Phase::Arrived) => {
+                self.arrive(axis, motion.path);
+                self.look(motion.goal(axis).map(|to| Command::On(axis, to)));
+            }
             _ => {}
         }
     }
@@ -357,8 +467,8 @@ impl World {
             return;
         }
         match axis {
-            Axis::ArmOne => self.set_plate(Station::Arm1, None),
-            Axis::ArmTwo => self.set_plate(Station::Arm2, None),
+            Axis::ArmOne => self.lose_plate(Station::Arm1),
+            Axis::ArmTwo => self.lose_plate(Station::Arm2),
             _ => self.lose_plates(machine_of_axis(axis)),
         }
     }
@@ -366,21 +476,48 @@ impl World {
     fn lose_plates(&mut self, machine: Machine) {
         for station in STATIONS {
             if machine_of_station(station) == machine {
-                self.set_plate(station, None);
+                self.lose_plate(station);
             }
         }
     }
 
     // An axis is where its motion leads. The plate that a belt carries is there too, unless it was taken from the belt
-    // or another plate lies there.
+    // or another plate lies there; in a watched world it is gone where it can't lie. At the top a press forges its
+    // plate.
     fn arrive(&mut self, axis: Axis, path: Path) {
         match path {
-            Path::Poses { from: _, to } => self.set_pose(axis, to),
+            Path::Poses { from: _, to } => {
+                self.set_pose(axis, to);
+                if to == Pose::Top {
+                    self.forge(axis);
+                }
+            }
             Path::Stations { from, to, plate } => {
                 if self.plate(from) == plate {
+                    self.look_at_carrying(from, to);
                     self.move_plate(from, to);
                 }
             }
+        }
+    }
+
+    // A press forges the plate that is in it.
+    fn forge(&mut self, axis: Axis) {
+        let Some(press) = press_of(machine_of_axis(axis)) else {
+            return;
+        };
+        let place = station_number(press.station);
+        let Some(plate) = self.plates[place] else {
+            return;
+        };
+        if plate.is_forged {
+            self.count_broken(SafetyRule::ForgedTwice, Command::On(axis, Pose::Top));
+        } else {
+            self.forged = self.forged.saturating_add(1);
+            self.plates[place] = Some(Plate {
+                is_forged: true,
+                ..plate
+            });
         }
     }
 
@@ -455,7 +592,11 @@ impl World {
     /// plate that this motion carried, wherever it is. Where there is none either, nothing happens. A plate that was taken
     /// so from a station before a press is laid at the belt's beginning once more, as any other.
     pub(crate) fn remove(&mut self, station: Station) {
-        if self.take_from(station) && is_before_press(station) {
+        if !self.take_from(station) {
+            return;
+        }
+        self.removed = self.removed.saturating_add(1);
+        if is_before_press(station) {
             self.cleared = self.cleared.saturating_add(1);
         }
     }
@@ -494,6 +635,7 @@ impl World {
                 self.set_pose(axis, home(axis));
             }
         }
+        self.look(None);
     }
 }
 
