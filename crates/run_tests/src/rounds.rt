@@ -6,8 +6,8 @@ mod returns;
 
 use cell_audit::{audit, write_journal};
 use cell_runs::{Inputs, Outcome, read_inputs, run_texts, simulate};
-use cell_sim::{SimOperator, World};
-use cell_types::Totals;
+use cell_sim::{SAFETY_RULES, SimOperator, World};
+use cell_types::{STATIONS, Totals};
 use cell_workers::End;
 use std::alloc::{AllocError, Global};
 use std::process::Abort;
@@ -69,7 +69,35 @@ fn check_journal<R: AllocGlobal + Abort>(rt: &R, outcome: &Outcome, case: &str) 
     assert!(rt; answer == Ok((2, outcome.book.totals())), "{case}");
 }
 
-// What a run over a world of its own comes to. No machines may meet there.
+// How many plates are at the stations of a world.
+fn count_inside(world: &World) -> u32 {
+    let mut count = 0u32;
+    for station in STATIONS {
+        if world.plate_at(station).is_some() {
+            count = count.saturating_add(1);
+        }
+    }
+    count
+}
+
+// No machines may have met in a watched world, and no safety rule may be broken. What was laid in has to be at a
+// station, or taken out, removed or lost.
+fn check_world(rt: &impl Abort, world: &World, case: &str) {
+    assert!(rt; world.collisions() == 0, "{case}");
+    for rule in SAFETY_RULES {
+        assert!(rt; world.broken(rule) == 0, "{case}: {rule}");
+    }
+    let gone = world
+        .taken_out()
+        .saturating_add(world.removed())
+        .saturating_add(world.lost());
+    assert!(rt;
+        world.laid() == gone.saturating_add(count_inside(world)),
+        "{case}"
+    );
+}
+
+// What a run over a watched world of its own comes to.
 fn run_in_world<R: AllocGlobal + Wait + Abort>(rt: &R, texts: [&[u8]; 3], case: &str) -> Outcome {
     let [settings, lines, operator] = texts;
     let Inputs {
@@ -77,10 +105,10 @@ fn run_in_world<R: AllocGlobal + Wait + Abort>(rt: &R, texts: [&[u8]; 3], case: 
         faults,
         script,
     } = read_inputs(rt.alloc(), settings, lines, operator).expect(rt, case);
-    let world = Mutex::new(World::new(plan.plates));
+    let world = Mutex::new(World::watched(plan.plates));
     let mut hands = SimOperator::new(rt, &world);
     let outcome = simulate(rt, &plan, &faults, script, &world, &mut hands).expect(rt, case);
-    assert!(rt; world.lock(rt).collisions() == 0, "{case}");
+    check_world(rt, &world.lock(rt), case);
     check_journal(rt, &outcome, case);
     outcome
 }

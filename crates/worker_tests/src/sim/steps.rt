@@ -1,4 +1,5 @@
 //! Ways in a simulated cell, step by step, as texts.
+use crate::sim::looks::is_said;
 use cell_diagnosis::Reading;
 use cell_samples::entry_of;
 use cell_sim::{FaultScript, SimOperator, SimPort, World};
@@ -22,7 +23,10 @@ use std::sync::{Mutex, Wait};
 /// remove feed_in             the operator takes out what is at the station
 /// home press1                the operator puts the machine's axes at home
 /// collisions 2               so many collisions were counted
+/// round                      a round ends
 /// ```
+///
+/// Besides these there are the steps of `looks`.
 pub(crate) type Way = (u32, &'static str, &'static [&'static str]);
 
 /// The faults of a text. In a run that refuses one allocation it may be refused here, and not when it is read again.
@@ -41,7 +45,8 @@ fn number(rt: &impl Abort, text: &str, place: usize) -> u8 {
     word.parse::<u8>().ok().expect(rt, text)
 }
 
-fn command_in(rt: &impl Abort, step: &str) -> Command {
+/// The command of a step: of an entry, or what is switched off.
+pub(crate) fn command_in(rt: &impl Abort, step: &str) -> Command {
     let (word, name) = step.split_once(' ').unwrap_or((step, ""));
     let command = match word {
         "off" => read_axis(name.as_bytes()).map(Command::Off),
@@ -80,8 +85,16 @@ pub(crate) fn is_met<P: Port, O: OperatorPort, R: Abort + Wait>(
     hands: &mut O,
     step: &str,
 ) -> bool {
+    let said = is_said(rt, &world.lock(rt), step);
+    if let Some(is_so) = said {
+        return is_so;
+    }
     let (word, rest) = step.split_once(' ').unwrap_or((step, ""));
     match word {
+        "round" => {
+            world.lock(rt).end_round();
+            true
+        }
         "refused" => port.command(command_in(rt, rest)).is_err(),
         "remove" => hands
             .remove(read_station(rest.as_bytes()).expect(rt, step))
@@ -109,11 +122,11 @@ fn is_met_in<R: Abort + Wait>(
     is_met(rt, world, &mut port, &mut hands, step)
 }
 
-// Goes a way.
-fn run<R: AllocGlobal + Abort + Wait>(rt: &R, way: &Way) {
-    let (plates, faults, parts) = *way;
+// Goes a way in a world.
+fn run<R: AllocGlobal + Abort + Wait>(rt: &R, world: World, way: &Way) {
+    let (_, faults, parts) = *way;
     let faults = faults_of(rt, faults);
-    let world = Mutex::new(World::new(plates));
+    let world = Mutex::new(world);
     for part in parts {
         for (place, step) in part.split("; ").enumerate() {
             assert!(rt;
@@ -127,6 +140,13 @@ fn run<R: AllocGlobal + Abort + Wait>(rt: &R, way: &Way) {
 /// Goes these ways, each step of which has to be met.
 pub(crate) fn run_all<R: AllocGlobal + Abort + Wait>(rt: &R, ways: &[Way]) {
     for way in ways {
-        run(rt, way);
+        run(rt, World::new(way.0), way);
+    }
+}
+
+/// Goes these ways in watched worlds, each step of which has to be met.
+pub(crate) fn run_watched<R: AllocGlobal + Abort + Wait>(rt: &R, ways: &[Way]) {
+    for way in ways {
+        run(rt, World::watched(way.0), way);
     }
 }
