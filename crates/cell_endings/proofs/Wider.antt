@@ -3,7 +3,7 @@ use Rattle.std.proofs.Common.{◌≡◌, ℕ, ◌+◌, ◌≤◌, Bool, true, fa
 use Rattle.std.specs.Prelude.{◌&&◌, nat_le, is_none, if◌then◌else◌}
 use Rattle.std.proofs.lemmas.Bool.Decides.{nat_tests}
 use Rattle.cell_types.specs.declared.words.Entry.{Entry}
-use Rattle.cell_types.specs.declared.words.Entry.TheVariants.{Lamp, Admitted, Claimed, Yielded, Started, Arrived, Conveyed, Forged, Gripped, Dropped, Delivered, Declared, StopAsked, Quarantined, Repaired, Expected, Reinstated}
+use Rattle.cell_types.specs.declared.words.Entry.TheVariants.{Admitted, Declared}
 use Rattle.cell_views.specs.Situations.{Situation, situation_of}
 use Rattle.plate_book.specs.declared.limits.BookLimits.{BookLimits}
 use Rattle.plate_book.specs.declared.refusal.Refusal.{Refusal}
@@ -39,26 +39,12 @@ longer l m c ts more h = wider l.entries m.entries c.entries JournalFull ts ts m
 
 -- an entry that is allowed stays so by greater limits
 still_allowed : (l m : BookLimits) (c : Situation) (e : Entry) → l.entries ≤ m.entries → l.plates ≤ m.plates → is_none (first l c e) ≡ true → is_none (first m c e) ≡ true
-still_allowed l m c (Lamp b to) more plates h = longer l m c _ more h
 still_allowed l m c (Admitted k) more plates h =
     wider l.entries m.entries c.entries JournalFull _ _ more (λ t. wider l.plates m.plates c.admitted PlateLimit _ _ plates (λ u. u) t) h
-still_allowed l m c (Claimed n z) more plates h = longer l m c _ more h
-still_allowed l m c (Yielded n z) more plates h = longer l m c _ more h
-still_allowed l m c (Started a to) more plates h = longer l m c _ more h
-still_allowed l m c (Arrived a at) more plates h = longer l m c _ more h
-still_allowed l m c (Conveyed a k dest) more plates h = longer l m c _ more h
-still_allowed l m c (Forged n k) more plates h = longer l m c _ more h
-still_allowed l m c (Gripped arm k src) more plates h = longer l m c _ more h
-still_allowed l m c (Dropped arm k dest) more plates h = longer l m c _ more h
-still_allowed l m c (Delivered k) more plates h = longer l m c _ more h
 still_allowed l m c (Declared n cause) more plates h =
     let places : l.entries + 6 ≤ m.entries + 6 = omega arith in
     wider (l.entries + 6) (m.entries + 6) c.entries JournalFull _ _ places (λ t. t) h
-still_allowed l m c (StopAsked n) more plates h = longer l m c _ more h
-still_allowed l m c (Quarantined k src) more plates h = longer l m c _ more h
-still_allowed l m c (Repaired n) more plates h = longer l m c _ more h
-still_allowed l m c (Expected k) more plates h = longer l m c _ more h
-still_allowed l m c (Reinstated k) more plates h = longer l m c _ more h
+still_allowed l m c _ more plates h = longer l m c _ more h
 
 still_legal : (l m : BookLimits) (done es : List Entry) → l.entries ≤ m.entries → l.plates ≤ m.plates → legal_from l done es ≡ true → legal_from m done es ≡ true
 still_legal l m done [] more plates h = refl

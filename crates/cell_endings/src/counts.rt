@@ -1,5 +1,5 @@
 //! The plates that weren't admitted, and those that were laid back.
-ghost use Rattle.std.specs.Prelude.{◌≡◌, OnOk};
+ghost use Rattle.std.specs.Prelude.{OnOk};
 ghost use Rattle.std.specs.Io.KnownBytes.{Appends};
 ghost use Rattle.cell_endings.specs.Counts.{laid_back_of, unadmitted_of};
 

@@ -1,5 +1,5 @@
 //! The limit that ended a run.
-ghost use Rattle.std.specs.Prelude.{◌≡◌, OnOk, length};
+ghost use Rattle.std.specs.Prelude.{OnOk};
 ghost use Rattle.std.specs.Io.KnownBytes.{Appends};
 ghost use Rattle.cell_endings.specs.Limit.{full_line, limit_of};
 

@@ -1,5 +1,5 @@
 //! Finding the four fields of a plain line.
-ghost use Rattle.std.specs.Prelude.{◌≡◌, ◌≢◌, ◌≤◌, ◌<◌, ◌⊎◌, false, length, take, get_or, slice_range, Err, IfOk, IsErrOf};
+ghost use Rattle.std.specs.Prelude.{◌≡◌, ◌≢◌, ◌≤◌, ◌<◌, ◌⊎◌, false, length, take, get_or, Err, IfOk, IsErrOf};
 ghost use Rattle.csv.specs.Writing.{default_writer, needs_byte, needs_quotes};
 ghost use Rattle.cell_rows.specs.Plain.{BeginsLine, BeginsLong, EndsField, HasComma, IsLineAt, IsUnfitAt, IsUnfitLine, TakesLine};
 
@@ -22,12 +22,11 @@ pub enum Stop {
     Odd,
 }
 
-// Whether a byte can't stand in a field without quotes: a comma, a quote or a line end. Letters and digits come after a
-// comma, so that one comparison is enough for them.
+// Whether a byte can't stand in a field without quotes: a comma, a quote or a line end.
 fn ends_field(byte: u8) -> bool
     ensures { result ≡ needs_byte default_writer byte }
 {
-    byte <= b',' && matches!(byte, b',' | b'"' | b'\r' | b'\n')
+    matches!(byte, b',' | b'"' | b'\r' | b'\n')
 }
 
 // How many bytes come before the first that can't stand in a field without quotes.

@@ -1,5 +1,5 @@
 //! Numbers and plates as texts.
-ghost use Rattle.std.specs.Prelude.{◌≡◌, ◌≤◌, ◌<◌, ◌^◌, ◌==◌, length, true, Some, None};
+ghost use Rattle.std.specs.Prelude.{◌≡◌, ◌≤◌, ◌<◌, length, true, Some, None};
 ghost use Rattle.cell_types.specs.Numbers.{plate_of, number_to, is_number, all_digits, value_of};
 
 use crate::{MAX_PLATES, PlateId};

@@ -1,5 +1,5 @@
 -- What the operator's worker books and what his hands do
-use Rattle.std.proofs.Common.{◌≡◌, ◌≢◌, ◌+◌, ◌⊎◌, Bool, arith, subst, is_none, if◌then◌else◌, true, false, Option, Some, None, List, [], ◌∷◌, ◌++◌, option_to_list, is_some, refl, sym, ap, ◌∙◌, append-nil, inl, inr}
+use Rattle.std.proofs.Common.{◌≡◌, ◌+◌, ◌⊎◌, Bool, arith, subst, is_none, if◌then◌else◌, true, false, Option, Some, None, List, [], ◌∷◌, ◌++◌, option_to_list, is_some, refl, sym, ap, ◌∙◌, append-nil, inl, inr}
 use Rattle.cell_types.specs.declared.words.Actor.TheVariants as actor
 use Rattle.cell_types.specs.declared.words.Entry.{Entry}
 use Rattle.cell_types.specs.Entries.{actor_of}

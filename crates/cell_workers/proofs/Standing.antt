@@ -13,7 +13,7 @@ use Rattle.cell_types.specs.declared.words.Pose.TheVariants as pose
 use Rattle.cell_types.specs.declared.words.Actor.TheVariants as actor
 use Rattle.cell_types.specs.declared.words.Actor.{Actor}
 use Rattle.cell_types.specs.declared.words.Entry.{Entry}
-use Rattle.cell_types.specs.declared.words.Entry.TheVariants.{Lamp, Admitted, Conveyed, Forged, Delivered, StopAsked, Quarantined, Repaired, Expected}
+use Rattle.cell_types.specs.declared.words.Entry.TheVariants.{Lamp, Admitted, Claimed, Yielded, Started, Conveyed, Forged, Gripped, Dropped, Delivered}
 use Rattle.cell_types.specs.Entries.{actor_of}
 use Rattle.cell_views.specs.Views.{plate_of, is_failed, is_asked, expected_of, is_admitted}
 use Rattle.plate_book.specs.declared.limits.BookLimits.{BookLimits}
@@ -153,11 +153,12 @@ called_booked l J m p w r (Some e) h = of_some w (is_called_for l J e) true (λ 
 
 -- the operator's entries are no moves
 pub his_called : (l : BookLimits) (J : List Entry) (e : Entry) → actor_of e ≡ actor.Operator → is_called_for l J e ≡ true
-his_called l J (StopAsked m) h = refl
-his_called l J (Quarantined k src) h = refl
-his_called l J (Repaired m) h = refl
-his_called l J (Expected k) h = refl
-his_called l J _ h = cc
+his_called l J (Claimed m z) h = cc
+his_called l J (Yielded m z) h = cc
+his_called l J (Started a to) h = cc
+his_called l J (Gripped x k src) h = cc
+his_called l J (Dropped x k dest) h = cc
+his_called l J _ h = refl
 
 -- a journal with one entry more
 

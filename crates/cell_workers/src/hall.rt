@@ -1,9 +1,9 @@
 //! What the workers of a run share under one lock.
-ghost use Rattle.std.specs.Prelude.{◌≡◌, ◌≢◌, ◌<◌, ◌⊎◌, ◌↔◌, ◌&&◌, ◌++◌, ◌∷◌, [], List, true, false, None, Some, Option, IsSome, IfOk, IfErr, IfSome, OnOk, OnErr, option_to_list, is_none, slice_set, vec_capacity, vec_len};
+ghost use Rattle.std.specs.Prelude.{◌≡◌, ◌≢◌, ◌<◌, ◌⊎◌, ◌↔◌, ◌&&◌, ◌++◌, ◌∷◌, [], true, false, None, Some, Option, IsSome, IfOk, IfErr, OnOk, OnErr, option_to_list, is_none, slice_set, vec_capacity, vec_len};
 ghost use Rattle.cell_types.specs.Entries.{actor_of};
 ghost use Rattle.cell_types.specs.declared.words.Actor.TheVariants as actors;
 ghost use Rattle.cell_types.specs.Same.{machine_number};
-ghost use Rattle.cell_views.specs.Views.{count_of, is_quarantined};
+ghost use Rattle.cell_views.specs.Views.{is_quarantined};
 ghost use Rattle.plate_book.specs.Rules.Legal.{first_of};
 ghost use Rattle.cell_ledger.specs.Counts.{plus, count_one};
 ghost use Rattle.cell_ledger.specs.Held.{held};

@@ -5,7 +5,6 @@ ghost use Rattle.cell_types.specs.Same.{same_machine};
 ghost use Rattle.cell_types.specs.declared.words.Machine.{Machine as MachineValue};
 ghost use Rattle.cell_views.specs.Views.{count_of};
 ghost use Rattle.cell_ledger.specs.Counts.{nothing, plus};
-ghost use Rattle.cell_ledger.specs.Held.{held};
 ghost use Rattle.cell_ledger.specs.New.{AreBlank};
 ghost use Rattle.cell_turns.specs.Schedules.{same_actor, entries_of};
 ghost use Rattle.cell_turns.specs.Six.{at};

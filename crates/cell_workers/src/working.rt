@@ -1,11 +1,10 @@
 //! A machine's worker.
-ghost use Rattle.std.specs.Prelude.{◌≡◌, ◌≢◌, ◌≤◌, ◌<◌, ◌+◌, ◌&&◌, ◌++◌, ◌∷◌, [], ℕ, List, Bool, true, false, Option, IfOk, OnErr, IfSome, IfNone, All, length, is_none, is_some, option_to_list, Some};
+ghost use Rattle.std.specs.Prelude.{◌≡◌, ◌≢◌, ◌<◌, ◌+◌, ◌&&◌, [], ℕ, true, false, Option, IfOk, OnErr, IfNone, All, length, is_none, is_some, Some};
 ghost use Rattle.cell_types.specs.Entries.{actor_of};
 ghost use Rattle.cell_types.specs.declared.words.Actor.TheVariants as actors;
 ghost use Rattle.cell_views.specs.Views.{count_of};
 ghost use Rattle.cell_ledger.specs.Counts.{plus};
 ghost use Rattle.cell_ledger.specs.Held.{Held, held};
-ghost use Rattle.cell_diagnosis.specs.declared.reading.Reading.{Reading as ReadingValue};
 ghost use Rattle.cell_turns.specs.Logs.{Log};
 ghost use Rattle.cell_turns.specs.Sent.{Sends};
 ghost use Rattle.cell_turns.specs.Minds.{machine_of_watch, has_failed_command};

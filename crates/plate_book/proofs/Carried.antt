@@ -176,13 +176,10 @@ enters_full : (s : Snapshot) (place : ℕ → Place) (marks : ℕ → ℕ) (k : 
 enters_full s place marks k p v i n t e = comes_full s.plate k Station.FeedIn t (λ d. n t (sym i ∙ v.plates.there t k d)) e
 
 carried_step : (l : BookLimits) (s : Snapshot) (place : ℕ → Place) (marks : ℕ → ℕ) (e : Entry) → Inv s place marks → Passed (tests l (situation_in s) e) → Carried s → Carried (step e s)
-carried_step l s place marks (Entry.Lamp b to) v h c = c
 carried_step l s place marks (Entry.Admitted k) v h c = λ a q t g e f.
     let n : k ≡ s.admitted + 1 = eqb-true k (s.admitted + 1) (not_false (k == s.admitted + 1) h.1.1.1.0) in
     let nowhere : place k ≡ Place.Nowhere = v.plates.outside k (inr (omega arith)) in
     enters_full s place marks k Place.Nowhere v nowhere (λ u d. cc) t (c a q t g e f)
-carried_step l s place marks (Entry.Claimed m z) v h c = c
-carried_step l s place marks (Entry.Yielded m z) v h c = c
 carried_step l s place marks (Entry.Started a to) v h c = carried_started s a to h.1.1 c
 carried_step l s place marks (Entry.Arrived b p) v h c = λ a q t g e f. c a q t (still_goes (s.going a) q (same_axis b a) g) e f
 carried_step l s place marks (Entry.Conveyed Axis.FeedBelt k Station.FeedEnd) v h c = carried_conveyed l s place marks Axis.FeedBelt k Station.FeedEnd Station.FeedIn v (plate_at s Station.FeedIn k h.1.1.1.0) refl c
@@ -194,14 +191,13 @@ carried_step l s place marks (Entry.Gripped x k src) v h c = carried_gripped l s
 carried_step l s place marks (Entry.Dropped x k dest) v h c = carried_dropped l s place marks x k dest v h c
 carried_step l s place marks (Entry.Delivered k) v h c = carried_delivered l s place marks k v h c
 carried_step l s place marks (Entry.Declared m cause) v h c = λ a q t g e f. c a q t g e (healthy_before (s.failed (machine_of_axis a)) (same_machine m (machine_of_axis a)) f)
-carried_step l s place marks (Entry.StopAsked m) v h c = c
 carried_step l s place marks (Entry.Quarantined k src) v h c = carried_quarantined l s place marks k src v h c
 carried_step l s place marks (Entry.Repaired m) v h c = λ a q t g e f.
     c a q t (still_goes (s.going a) q (same_machine (machine_of_axis a) m) g) e (repaired_healthy (machine_of_axis a) m (s.going a) q (s.failed (machine_of_axis a)) g f)
-carried_step l s place marks (Entry.Expected k) v h c = c
 carried_step l s place marks (Entry.Reinstated k) v h c = λ a q t g e f.
     let x : s.expected ≡ Some k = is_plate_tells k s.expected (not_false (is_plate k s.expected) h.1.1.0) in
     enters_full s place marks k Place.Quarantine v (expected_there s.expected s.waits place marks k v.returns x) (λ u d. cc) t (c a q t g e f)
+carried_step l s place marks _ v h c = c
 
 carried : (l : BookLimits) (J : List Entry) → legal l J ≡ true → Carried (after J)
 carried l J h = along l (λ K. Carried (after K)) (λ a q t g e f. cc)

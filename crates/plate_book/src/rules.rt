@@ -1,5 +1,5 @@
 //! The tests of the other entries, and of every entry.
-ghost use Rattle.std.specs.Prelude.{◌≡◌, ◌+◌, ◌^◌, ◌<◌, ◌≤◌, ◌∷◌, [], ◌++◌, map, option_map};
+ghost use Rattle.std.specs.Prelude.{◌≡◌, ◌+◌, ◌<◌, ◌≤◌, ◌∷◌, [], ◌++◌, map, option_map};
 ghost use Rattle.plate_book.specs.Records.Recorded.{recorded};
 ghost use Rattle.cell_types.specs.Cell.{motion_to, machine_of_station, station_of_arm, faced_of, grips_at, drops_at};
 ghost use Rattle.cell_types.specs.declared.words.Entry.TheVariants.{Admitted};
@@ -216,6 +216,7 @@ impl Registers {
         requires { limits.entries ≤ 1000000 }
         ensures { result ≡ first limits (recorded self.now) entry }
     {
+        // Copied, since the prover doesn't take an entry that is passed on twice.
         let judged = entry;
         let (is_full, full) = self.journal_full(limits, entry);
         if is_full {

@@ -1,5 +1,5 @@
 //! The last claim of each zone by its visitor.
-ghost use Rattle.std.specs.Prelude.{ℕ, ◌≡◌, ◌+◌, ◌<◌, ◌^◌, if◌then◌else◌, slice_index_or};
+ghost use Rattle.std.specs.Prelude.{◌≡◌, ◌+◌, ◌<◌, ◌^◌, if◌then◌else◌, slice_index_or};
 ghost use Rattle.cell_types.specs.declared.words.Zone.{Zone};
 ghost use Rattle.cell_types.specs.Same.{zone_number};
 ghost use Rattle.plate_book.specs.Rules.Claims.{is_visit};

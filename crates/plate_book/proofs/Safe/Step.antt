@@ -429,8 +429,8 @@ inv_step l s place marks (Entry.Dropped arm k dest) v h = step_dropped l s place
 inv_step l s place marks (Entry.Delivered k) v h = step_delivered l s place marks k v h
 inv_step l s place marks (Entry.Declared m cause) v h =
     record { motion = v.motion; plates = v.plates; lights = lights_declared (axes_of s) s.plate s.failed s.lamp m v.lights; returns = v.returns }
-inv_step l s place marks (Entry.StopAsked m) v h = record { motion = v.motion; plates = v.plates; lights = v.lights; returns = v.returns }
 inv_step l s place marks (Entry.Quarantined k src) v h = step_quarantined l s place marks k src v h
 inv_step l s place marks (Entry.Repaired m) v h = step_repaired l s place marks m v h
 inv_step l s place marks (Entry.Expected k) v h = step_expected l s place marks k v h
 inv_step l s place marks (Entry.Reinstated k) v h = step_reinstated l s place marks k v h
+inv_step l s place marks _ v h = record { motion = v.motion; plates = v.plates; lights = v.lights; returns = v.returns }
