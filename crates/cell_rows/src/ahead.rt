@@ -137,6 +137,7 @@ impl<R: TellsFault> ReadAhead<R> {
     }
 
     /// The fields of the line that was taken last.
+    #[inline(always)]
     pub(crate) fn four(&self) -> Four<'_>
         ensures { plain_row self.now ≡ result.first.now ∷ result.second.now ∷ result.third.now ∷ result.fourth.now ∷ [] }
     {

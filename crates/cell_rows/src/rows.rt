@@ -186,6 +186,7 @@ impl<R: TellsFault> RowReader<R> {
     }
 
     /// The fields of the record that was read last, if it has four.
+    #[inline(always)]
     pub fn four(&self) -> Option<Four<'_>>
         ensures some { IfSome result (λ four. current_row self.now ≡ four.first.now ∷ four.second.now ∷ four.third.now ∷ four.fourth.now ∷ []) }
         ensures none { IsNone result → length (current_row self.now) ≢ 4 }

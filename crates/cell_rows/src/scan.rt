@@ -121,6 +121,7 @@ fn line_start(text: &[u8], at: usize, to: usize) -> Result<usize, Stop>
 }
 
 /// The places of the next line from `at` on, if it has four plain fields and ends before `to`.
+#[inline(always)]
 pub fn next_line(text: &[u8], at: usize, to: usize) -> Result<Places, Stop>
     requires { (at ≤ to) × (to ≤ length text.now) × (to ≤ 16384) }
     ensures line { IfOk result (λ places. TakesLine text.now at to places) }
