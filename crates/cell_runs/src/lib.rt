@@ -15,7 +15,8 @@ mod texts;
 pub use follow::{Followed, Following};
 pub use following::{follow_texts, follow_texts_kept, follow_texts_kept_watched};
 pub use inputs::{InputError, Inputs, read_inputs};
-pub use rounds::Outcome;
+pub use refused::refuse_input;
+pub use rounds::{Outcome, run_over};
 pub use simulation::{follow_journal, simulate};
 pub use texts::{
     KeptRun, Left, run_texts, run_texts_kept, run_texts_kept_watched, run_texts_watched,
