@@ -1,0 +1,38 @@
+-- What a run by entries has written
+use Rattle.std.proofs.Common.{◌≡◌, ◌∙◌, ◌<◌, ℕ, List, ◌++◌, Bool, true, Option, Result, Ok, Err, IfOk, IsOk, subst}
+use Rattle.std.specs.Io.KnownBytes.{Appends}
+use Rattle.std.proofs.KnownBytes.{Appends-trans}
+use Rattle.std.proofs.lemmas.Result.{IfOk-at_ok}
+use Rattle.cell_types.specs.declared.words.Entry.{Entry}
+use Rattle.plate_book.specs.declared.limits.BookLimits.{BookLimits}
+use Rattle.plate_book.specs.Rules.Legal.{legal}
+use Rattle.cell_turns.specs.declared.plan.Plan.{Plan}
+use Rattle.cell_turns.specs.declared.six.Six.{Six}
+use Rattle.cell_turns.specs.Logs.{Log}
+use Rattle.operator_desk.specs.declared.line.Line.{Line}
+use Rattle.cell_method.specs.Lines.{Row}
+use Rattle.cell_method.specs.Rounds.{Driven, Leads, Stand}
+use Rattle.cell_runs.specs.Runs.{limits_of}
+use Rattle.cell_drive.specs.Drives.{DrivesEntries, drive_line, opening}
+
+-- what holds where an answer is Ok, of one that is
+pub of-ok : {A B Q : Type 0} (r : Result A B) → IsOk r → IfOk r (λ _. Q) → Q
+of-ok (Ok a) ok q = q
+of-ok (Err e) ok q = cc
+
+-- what holds of a run with a status below 3, where that is the status of its call
+pub of-status : {E D : Type 0} (r : Result ℕ E) (status : ℕ) → (status < 3 → r ≡ Ok status) → IfOk r (λ s. s < 3 → D) → status < 3 → D
+of-status {D = D} r status same h few = IfOk-at_ok (λ s. s < 3 → D) (same few) h few
+
+-- a run that was driven from the opening, between the first line and what is told of it
+pub drove : {P : Type 0} (tells : P → Bool) (log : P → Log) (plan : Plan) (script : List Line) (s : Stand) (l k : BookLimits) (all left : Option (List (Option Row))) (K : List Entry) (ports : Six P) (w x y z : Option (List ℕ)) (told : List ℕ)
+    → s ≡ opening script → l ≡ limits_of plan → k ≡ l → legal k K ≡ true → Appends w x (drive_line plan) → Driven tells log l s all left K ports x y → Appends y z told → DrivesEntries plan script all w z
+drove tells log plan script s l k all left K ports w x y z told start limits same h first d last =
+    record {
+      after = d.after;
+      left = left;
+      leads = subst (λ m. Leads m (opening script) d.after all left) limits (subst (λ t. Leads l t d.after all left) start d.leads);
+      legal = subst (λ m. legal m d.after.journal ≡ true) (same ∙ limits) (subst (λ J. legal k J ≡ true) d.fits.journal h);
+      told = told;
+      text = Appends-trans w x z (drive_line plan) (d.after.text ++ told) first (Appends-trans x y z d.after.text told d.text last);
+    }

@@ -1,0 +1,2 @@
+pub mod Drove
+pub mod Unread

@@ -1,0 +1,261 @@
+//! A run by commands: the method answers for itself, and the world is watched.
+ghost use Rattle.std.specs.Prelude.{◌≡◌};
+
+use crate::measures::Measures;
+use crate::report::{explain_broken, write_end, write_world};
+use crate::texts::{Told, status_of, write_told};
+use crate::wish::{Wish, wish_of};
+use cell_method::{DriveError, End, LineReader, MAX_LINES, ReadingLine};
+use cell_rows::{TellsFault, read_script};
+use cell_runs::Inputs;
+use cell_sim::{FaultScript, SimOperator, SimPort, World, sim_ports};
+use cell_turns::{OperatorPort, Plan, Port, Ports};
+use cell_types::texts::{machine_word, station_word};
+use cell_types::{Command, MACHINES, Machine, Totals, machine_of_axis, machine_of_belt};
+use operator_desk::{Line, ScriptError, Task, Trigger};
+use std::alloc::Global;
+use std::io;
+use std::io::Write;
+use std::sync::{Mutex, Wait};
+
+/// The lines of the operator's script, of which none says that a plate will be laid back: by commands there is no book that
+/// expects one. The error names the first such record, counted from 1.
+pub(crate) fn raw_script(alloc: Global, operator: &[u8]) -> Result<Vec<Line>, ScriptError> {
+    let lines: Vec<Line> = read_script(alloc, operator)?;
+    let mut number: u32 = 0;
+    for line in &lines {
+        number = number.saturating_add(1);
+        if matches!(line.task, Task::Expect(_)) {
+            return Err(ScriptError::Unreadable(number));
+        }
+    }
+    Ok(lines)
+}
+
+// How a round of lines closed.
+enum Close {
+    Done,
+    End(End),
+}
+
+// What a run by commands has from round to round.
+#[derive(Drop)]
+struct Run<'a, R: Wait> {
+    rt: &'a R,
+    world: &'a Mutex<World>,
+    ports: Ports<SimPort<'a, R>>,
+    hands: SimOperator<'a, R>,
+    script: Vec<Line>,
+    // How many of the script's lines are done.
+    done: usize,
+    // How many commands came. At `u32::MAX` the count stays.
+    commands: u32,
+    measures: Measures,
+}
+
+// The machine that a command goes to. Each command names its own part of the cell, so that any port carries it out.
+fn machine_of(command: Command) -> Machine {
+    match command {
+        Command::Lamp(belt, _) => machine_of_belt(belt),
+        Command::On(axis, _) | Command::Off(axis) => machine_of_axis(axis),
+        Command::MagnetOn(_) | Command::MagnetOff(_) => Machine::Robot,
+        Command::AllOff(machine) => machine,
+    }
+}
+
+// Reads each machine in order, tells what it shows, and opens the round of a number.
+fn open<R: Wait, W: Write>(run: &mut Run<'_, R>, number: u32, writer: &mut W) -> io::Result<()> {
+    for machine in MACHINES {
+        let reading = run.ports.pick(machine).read();
+        write!(writer, "{}", ReadingLine { machine, reading })?;
+    }
+    writeln!(writer, "round,{number},,")?;
+    writer.flush()
+}
+
+// Sends a command, and gives the answer.
+fn send<R: Wait>(run: &mut Run<'_, R>, command: Command) -> &'static str {
+    run.commands = run.commands.saturating_add(1);
+    match run.ports.pick(machine_of(command)).command(command) {
+        Ok(()) => "ok,,,\n",
+        Err(_) => "failed,,,\n",
+    }
+}
+
+// Answers the lines of a round.
+fn take_lines<R: Wait, I: TellsFault, W: Write>(
+    run: &mut Run<'_, R>,
+    lines: &mut LineReader<I>,
+    writer: &mut W,
+) -> Result<Close, DriveError> {
+    for _ in 0..MAX_LINES {
+        if !lines.advance()? {
+            return Ok(Close::End(End::Quit));
+        }
+        let answer = match wish_of(lines) {
+            Wish::Done => return Ok(Close::Done),
+            Wish::Quit => return Ok(Close::End(End::Quit)),
+            Wish::Send(command) => send(run, command),
+            Wish::Nothing => "unreadable,,,\n",
+        };
+        write!(writer, "{answer}")?;
+        writer.flush()?;
+    }
+    Ok(Close::End(End::TooManyLines))
+}
+
+// Whether a line's trigger holds in the world. There are no booked failures.
+fn holds(world: &World, when: Trigger) -> bool {
+    match when {
+        Trigger::Always => true,
+        Trigger::Admitted(number) => number <= world.laid(),
+        Trigger::Delivered(number) => number <= world.taken_out(),
+        Trigger::Quarantined(number) => number <= world.removed(),
+        Trigger::Failed(_) => false,
+    }
+}
+
+// The operator's next line, where its trigger holds, and the plate that it takes out, if it does.
+fn next_line<R: Wait>(run: &Run<'_, R>) -> Option<(Task, Option<u32>)> {
+    let line = *run.script.get(run.done)?;
+    let world = run.world.lock(run.rt);
+    if !holds(&world, line.when) {
+        return None;
+    }
+    match line.task {
+        Task::Clear(station) => Some((line.task, Some(world.plate_at(station)?))),
+        task => Some((task, None)),
+    }
+}
+
+// The operator's next action, where his script has one now: he does it by hand, and it is told.
+fn operate<R: Wait, W: Write>(run: &mut Run<'_, R>, writer: &mut W) -> io::Result<()> {
+    let Some((task, plate)) = next_line(run) else {
+        return Ok(());
+    };
+    run.done = run.done.saturating_add(1);
+    match (task, plate) {
+        (Task::Stop(machine), _) => writeln!(writer, "stop_asked,{},,", machine_word(machine)),
+        (Task::Repair(machine), _) => {
+            let _ = run.hands.home(machine);
+            writeln!(writer, "repaired,{},,", machine_word(machine))
+        }
+        (Task::Clear(station), Some(plate)) => {
+            let _ = run.hands.remove(station);
+            writeln!(writer, "quarantined,{plate},{},", station_word(station))
+        }
+        _ => Ok(()),
+    }
+}
+
+// Whether all plates were laid in, none is in the cell, and nothing moves.
+fn is_finished(world: &World) -> bool {
+    for machine in MACHINES {
+        if world.is_machine_moving(machine) {
+            return false;
+        }
+    }
+    world.left() == 0 && world.is_empty()
+}
+
+// The round of a number. It answers the end that it sets, if it does.
+fn take_round<R: Wait, I: TellsFault, W: Write>(
+    run: &mut Run<'_, R>,
+    number: u32,
+    lines: &mut LineReader<I>,
+    writer: &mut W,
+) -> Result<Option<End>, DriveError> {
+    open(run, number, writer)?;
+    run.measures.open(number, &run.world.lock(run.rt));
+    match take_lines(run, lines, writer)? {
+        Close::Done => {}
+        Close::End(end) => return Ok(Some(end)),
+    }
+    operate(run, writer)?;
+    let mut world = run.world.lock(run.rt);
+    world.end_round();
+    if is_finished(&world) {
+        Ok(Some(End::Finished))
+    } else {
+        Ok(None)
+    }
+}
+
+// Rounds, until one ends the run.
+fn take_rounds<R: Wait, I: TellsFault, W: Write>(
+    run: &mut Run<'_, R>,
+    plan: &Plan,
+    lines: &mut LineReader<I>,
+    writer: &mut W,
+) -> Result<End, DriveError> {
+    for round in 0..plan.turns {
+        if let Some(end) = take_round(run, round + 1, lines, writer)? {
+            return Ok(end);
+        }
+    }
+    Ok(End::TurnLimit)
+}
+
+// What was counted in the world.
+fn totals_of(world: &World) -> Totals {
+    Totals {
+        entries: 0,
+        admitted: world.laid(),
+        forged: world.forged(),
+        quarantined: world.removed(),
+        delivered: world.taken_out(),
+        reinstated: 0,
+    }
+}
+
+// What is told of a run that ended so.
+fn told_of<R: Wait>(alloc: Global, run: &mut Run<'_, R>, end: End) -> io::Result<Vec<u8>> {
+    let mut text = Vec::new(alloc);
+    let world = run.world.lock(run.rt);
+    write_end(&mut text, end, totals_of(&world))?;
+    writeln!(text, "rounds {}", run.measures.rounds())?;
+    writeln!(text, "commands {}", run.commands)?;
+    writeln!(text, "collisions {}", world.collisions())?;
+    write_world(&mut text, &world, &mut run.measures)?;
+    Ok(text)
+}
+
+/// Lets a method drive the simulated cell by commands, with this script of the operator, tells what came of it, and gives the
+/// status.
+pub(crate) fn drive_commands<R: AllocGlobal + Wait, I: TellsFault, W: Write, E: Write>(
+    rt: &R,
+    plan: &Plan,
+    faults: &FaultScript,
+    script: Vec<Line>,
+    told: Told,
+    lines: &mut LineReader<I>,
+    writer: &mut W,
+    errors: &mut E,
+) -> Result<u8, DriveError> {
+    let world = Mutex::new(World::watched(plan.plates));
+    let mut run = Run {
+        rt,
+        world: &world,
+        ports: sim_ports(rt, &world, faults),
+        hands: SimOperator::new(rt, &world),
+        script,
+        done: 0,
+        commands: 0,
+        measures: Measures::new(rt.alloc()),
+    };
+    let ended = take_rounds(&mut run, plan, lines, writer)?;
+    let end = if run.measures.lacks_memory() {
+        End::Memory
+    } else {
+        ended
+    };
+    let Ok(text) = told_of(rt.alloc(), &mut run, end) else {
+        return Err(DriveError::OutOfMemory);
+    };
+    write_told(writer, text.as_slice())?;
+    let world = world.lock(rt);
+    if told.explain {
+        explain_broken(errors, &world)?;
+    }
+    Ok(status_of(end, world.is_safe()))
+}

@@ -1,0 +1,127 @@
+//! A run by entries.
+ghost use Rattle.std.specs.Prelude.{◌≡◌, ◌≢◌, ◌<◌, ◌⊎◌, ◌++◌, ◌∷◌, [], codes, true, IfOk, IsOk, OnOk};
+ghost use Rattle.std.specs.Io.KnownBytes.{Appends};
+ghost use Rattle.cell_runs.specs.Runs.{limits_of};
+ghost use Rattle.cell_method.specs.Lines.{lines_left};
+ghost use Rattle.cell_drive.specs.Drives.{DrivesEntries, drive_line};
+
+use crate::looker::Looker;
+use crate::report::{explain_broken, explain_untrue, write_end, write_refusals, write_world};
+use crate::texts::{Told, begin, status_of, write_told};
+use cell_audit::write_journal;
+use cell_method::{DriveError, End, LineReader, drive};
+use cell_rows::TellsFault;
+use cell_runs::Inputs;
+use cell_sim::{SimOperator, World, sim_ports};
+use cell_turns::Plan;
+use plate_book::Book;
+use std::alloc::Global;
+use std::io;
+use std::io::Write;
+use std::sync::{Mutex, Wait};
+
+// How a run ended, or the error of a device by which it broke off. Want of memory is an end.
+fn end_of(ran: Result<End, DriveError>, lacks_memory: bool) -> Result<End, DriveError>
+    ensures { IfOk result (λ end. end ≢ End.Memory → IsOk ran) }
+{
+    match ran {
+        Ok(_) if lacks_memory => Ok(End::Memory),
+        Ok(end) => Ok(end),
+        Err(DriveError::OutOfMemory) => Ok(End::Memory),
+        Err(error) => Err(error),
+    }
+}
+
+// What is told of a run that ended so.
+fn told_of<R: Wait>(
+    alloc: Global,
+    rt: &R,
+    end: End,
+    book: &Book,
+    looker: &mut Looker<'_, R>,
+    world: &Mutex<World>,
+) -> io::Result<Vec<u8>> {
+    let mut text = Vec::new(alloc);
+    let world = world.lock(rt);
+    write_end(&mut text, end, book.totals())?;
+    writeln!(text, "rounds {}", looker.measures.rounds())?;
+    writeln!(text, "entries {}", book.totals().entries)?;
+    write_refusals(&mut text, &looker.refusals)?;
+    writeln!(text, "collisions {}", world.collisions())?;
+    writeln!(text, "untrue {}", looker.untruths.count())?;
+    write_world(&mut text, &world, &mut looker.measures)?;
+    Ok(text)
+}
+
+// Whether nothing untrue was booked, and no safety rule was broken.
+fn is_in_order<R: Wait>(rt: &R, looker: &Looker<'_, R>, world: &Mutex<World>) -> bool {
+    looker.untruths.count() == 0 && world.lock(rt).is_safe()
+}
+
+// Explains what was untrue and broken in a run.
+fn explain<R: Wait, E: Write>(
+    rt: &R,
+    looker: &Looker<'_, R>,
+    world: &Mutex<World>,
+    errors: &mut E,
+) -> io::Result<()> {
+    explain_untrue(errors, &looker.untruths.firsts)?;
+    explain_broken(errors, &world.lock(rt))
+}
+
+// An empty book within a plan's limits.
+fn empty_book(alloc: Global, plan: &Plan) -> Result<Book, DriveError>
+    ensures { IfOk result (λ book. book ≡ record { limits = limits_of plan.now; entries = [] }) }
+{
+    match Book::new(alloc, plan.journal_limit, plan.plates) {
+        Ok(book) => Ok(book),
+        Err(_) => Err(DriveError::OutOfMemory),
+    }
+}
+
+/// Lets a method drive the simulated cell by entries, tells what came of it, and gives the status.
+pub(crate) fn drive_entries<R: AllocGlobal + Wait, I: TellsFault, W: Write, E: Write>(
+    rt: &R,
+    inputs: Inputs,
+    told: Told,
+    lines: &mut LineReader<I>,
+    writer: &mut W,
+    errors: &mut E,
+) -> Result<u8, DriveError>
+    ensures { IfOk result (λ status. status < 3 → DrivesEntries inputs.plan inputs.script (lines_left I.remaining lines.old) (W.contents writer.old) (W.contents writer.new)) }
+{
+    let Inputs {
+        plan,
+        faults,
+        script,
+    } = inputs;
+    let alloc = rt.alloc();
+    let mut book = empty_book(alloc, &plan)?;
+    let world = Mutex::new(World::watched(plan.plates));
+    let mut ports = sim_ports(rt, &world, &faults);
+    let mut hands = SimOperator::new(rt, &world);
+    let mut looker = Looker::new(alloc, rt, &world);
+    begin(writer, &plan)?;
+    let ran = drive(
+        lines,
+        &mut book,
+        &mut ports,
+        &mut hands,
+        script,
+        &plan,
+        writer,
+        &mut looker,
+    );
+    let end = end_of(ran, looker.lacks_memory())?;
+    let Ok(text) = told_of(alloc, rt, end, &book, &mut looker, &world) else {
+        return Err(DriveError::OutOfMemory);
+    };
+    write_told(writer, text.as_slice())?;
+    if told.explain {
+        explain(rt, &looker, &world, errors)?;
+    }
+    if told.journal && write_journal(alloc, book.journal(), errors).is_err() {
+        return Err(DriveError::WriteFault);
+    }
+    Ok(status_of(end, is_in_order(rt, &looker, &world)))
+}

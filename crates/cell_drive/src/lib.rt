@@ -1,0 +1,17 @@
+//! The simulated cell, driven by a control method over a reader and a writer: by entries of the machines' journal, or by commands
+//! to the bare machines, with what is measured of a run.
+#![tactic(auto)]
+
+mod by_commands;
+mod by_entries;
+mod looker;
+mod measures;
+mod own;
+mod refusals;
+mod report;
+mod texts;
+mod untruth;
+mod wish;
+
+pub use own::measure_texts;
+pub use texts::{Driving, drive_texts};

@@ -1,0 +1,126 @@
+//! What looks on at a run by entries: it measures, and looks whether the world contradicts what is booked.
+use crate::measures::Measures;
+use crate::refusals::Refusals;
+use crate::untruth::{Untruth, Untruths, contradiction};
+use cell_method::Onlooker;
+use cell_sim::World;
+use cell_types::{Entry, PlateId, Station};
+use plate_book::Refusal;
+use std::alloc::{AllocError, Global};
+use std::sync::{Mutex, Wait};
+
+/// What looks on at a run by entries in a world.
+#[derive(Drop)]
+pub(crate) struct Looker<'a, R: Wait> {
+    rt: &'a R,
+    world: &'a Mutex<World>,
+    pub(crate) measures: Measures,
+    pub(crate) refusals: Refusals,
+    /// The entries that the world contradicts.
+    pub(crate) untruths: Untruths,
+    /// At which number each plate was laid in last, in the order of the book's numbers; 0 where none was.
+    numbers: Vec<u32>,
+    /// Memory was refused for a plate's number.
+    lacks_memory: bool,
+}
+
+impl<'a, R: Wait> Looker<'a, R> {
+    /// What looks on in a world, before the first round.
+    pub(crate) fn new(alloc: Global, rt: &'a R, world: &'a Mutex<World>) -> Looker<'a, R> {
+        Looker {
+            rt,
+            world,
+            measures: Measures::new(alloc),
+            refusals: Refusals::none(),
+            untruths: Untruths::none(),
+            numbers: Vec::new(alloc),
+            lacks_memory: false,
+        }
+    }
+
+    /// Whether memory was refused for what is told of the run.
+    pub(crate) fn lacks_memory(&self) -> bool {
+        self.lacks_memory || self.measures.lacks_memory()
+    }
+
+    // At which number a plate of the book was laid in last.
+    fn number_of(&self, plate: PlateId) -> Option<u32> {
+        let place = plate.number() - 1;
+        match self.numbers.get(place as usize) {
+            Some(0) => None,
+            Some(number) => Some(*number),
+            None => None,
+        }
+    }
+
+    // Keeps that a plate of the book is the one that was laid in at this number.
+    fn keep(&mut self, plate: PlateId, number: u32) -> Result<(), AllocError> {
+        let place = (plate.number() - 1) as usize;
+        for _ in self.numbers.len()..place + 1 {
+            self.numbers.push(0)?;
+        }
+        if let Some(kept) = self.numbers.as_mut_slice().get_mut(place) {
+            *kept = number;
+        }
+        Ok(())
+    }
+
+    // Keeps which plate of the world is the plate that was laid in.
+    fn note_plate(&mut self, plate: PlateId) {
+        let number = self.world.lock(self.rt).plate_at(Station::FeedIn);
+        if self.keep(plate, number.unwrap_or(0)).is_err() {
+            self.lacks_memory = true;
+        }
+    }
+}
+
+// The plate that an entry names, if it names one.
+fn plate_of(entry: &Entry) -> Option<PlateId> {
+    match *entry {
+        Entry::Admitted { plate }
+        | Entry::Reinstated { plate }
+        | Entry::Delivered { plate }
+        | Entry::Conveyed { plate, .. }
+        | Entry::Forged { plate, .. }
+        | Entry::Gripped { plate, .. }
+        | Entry::Dropped { plate, .. } => Some(plate),
+        _ => None,
+    }
+}
+
+impl<R: Wait> Onlooker for Looker<'_, R> {
+    fn opened(&mut self, round: u32) {
+        let world = self.world.lock(self.rt);
+        self.measures.open(round, &world);
+    }
+
+    fn booked(&mut self, entry: &Entry) {
+        match *entry {
+            Entry::Admitted { plate } | Entry::Reinstated { plate } => self.note_plate(plate),
+            _ => {}
+        }
+        let number = match plate_of(entry) {
+            Some(plate) => self.number_of(plate),
+            None => None,
+        };
+        let fact = contradiction(&self.world.lock(self.rt), entry, number);
+        if let Some(fact) = fact {
+            let round = self.measures.rounds();
+            self.untruths.add(Untruth {
+                round,
+                entry: *entry,
+                fact,
+            });
+        }
+    }
+
+    fn refused(&mut self, why: Refusal) {
+        self.refusals.count(why);
+    }
+
+    fn acted(&mut self, _entry: &Entry) {}
+
+    fn closed(&mut self) {
+        self.world.lock(self.rt).end_round();
+    }
+}

@@ -1,0 +1,178 @@
+//! The program's own machine workers, measured as a method is.
+ghost use Rattle.std.specs.Prelude.{◌≡◌, ◌⊎◌, ℕ, List, IfOk, OnOk};
+ghost use Rattle.std.specs.Io.KnownBytes.{Appends};
+
+use crate::measures::Measures;
+use crate::report::write_world;
+use crate::texts::write_told;
+use cell_diagnosis::Reading;
+use cell_ledger::Blanks;
+use cell_lines::{WriteFault, status};
+use cell_runs::{Inputs, Outcome, read_inputs, run_over};
+use cell_sim::{FaultScript, SimOperator, SimPort, World};
+use cell_turns::{Plan, Port, PortFault, Ports};
+use cell_types::{Command, Machine};
+use operator_desk::Script;
+use plate_book::Book;
+use std::alloc::{AllocError, Global};
+use std::io;
+use std::io::Write;
+use std::marker::Brand;
+use std::sync::{Mutex, Wait};
+
+// A machine's port in a watched world, by which the rounds of a run are told apart: each begins with a reading of the feed belt.
+#[derive(Drop)]
+struct GaugedPort<'a, R: Wait> {
+    rt: &'a R,
+    world: &'a Mutex<World>,
+    measures: &'a Mutex<Measures>,
+    machine: Machine,
+    port: SimPort<'a, R>,
+}
+
+// Notes what the round so far did in the world.
+fn note_round(measures: &mut Measures, world: &World) {
+    let round = measures.rounds();
+    if round > 0 {
+        measures.open(round, world);
+    }
+}
+
+impl<R: Wait> Port for GaugedPort<'_, R> {
+    fn read(&mut self) -> Option<Reading> {
+        if self.machine == Machine::Feed {
+            let mut measures = self.measures.lock(self.rt);
+            let mut world = self.world.lock(self.rt);
+            note_round(&mut measures, &world);
+            if measures.rounds() > 0 {
+                world.end_round();
+            }
+            measures.begin();
+        }
+        self.port.read()
+    }
+
+    fn command(&mut self, command: Command) -> Result<(), PortFault> {
+        self.port.command(command)
+    }
+}
+
+// What a run over a world has: its lock, its measures and its faults.
+#[derive(Drop)]
+struct Gauges<'a, R: Wait> {
+    rt: &'a R,
+    world: &'a Mutex<World>,
+    measures: &'a Mutex<Measures>,
+    faults: &'a FaultScript,
+}
+
+impl<'a, R: Wait> Gauges<'a, R> {
+    fn port(&self, machine: Machine) -> GaugedPort<'a, R> {
+        GaugedPort {
+            rt: self.rt,
+            world: self.world,
+            measures: self.measures,
+            machine,
+            port: SimPort::new(self.rt, self.world, machine, self.faults),
+        }
+    }
+
+    fn ports(&self) -> Ports<GaugedPort<'a, R>> {
+        Ports {
+            feed: self.port(Machine::Feed),
+            table: self.port(Machine::Table),
+            robot: self.port(Machine::Robot),
+            press1: self.port(Machine::Press1),
+            press2: self.port(Machine::Press2),
+            deposit: self.port(Machine::Deposit),
+        }
+    }
+}
+
+// Runs the machines' own workers in rounds over a watched world, with an empty book.
+fn run_own<R: AllocGlobal + Wait>(
+    gauges: &Gauges<'_, R>,
+    plan: &Plan,
+    script: Script,
+) -> Result<Outcome, AllocError> {
+    let alloc = gauges.rt.alloc();
+    let Ok(book) = Book::new(alloc, plan.journal_limit, plan.plates) else {
+        return Err(AllocError);
+    };
+    let mut ports = gauges.ports();
+    let mut hands = SimOperator::new(gauges.rt, gauges.world);
+    Ok(run_over::<_, _, Brand>(
+        alloc,
+        book,
+        Blanks::new(1),
+        &mut ports,
+        &mut hands,
+        script,
+        plan,
+    ))
+}
+
+// What is told of a run.
+fn told_of<R: AllocGlobal + Wait>(gauges: &Gauges<'_, R>, book: &Book) -> io::Result<Vec<u8>> {
+    let mut text = Vec::new(gauges.rt.alloc());
+    let mut measures = gauges.measures.lock(gauges.rt);
+    let world = gauges.world.lock(gauges.rt);
+    note_round(&mut measures, &world);
+    writeln!(text, "rounds {}", measures.rounds())?;
+    writeln!(text, "entries {}", book.totals().entries)?;
+    writeln!(text, "collisions {}", world.collisions())?;
+    write_world(&mut text, &world, &mut measures)?;
+    Ok(text)
+}
+
+// Measures a run by these inputs; `None` where memory was refused.
+fn measured<R: AllocGlobal + Wait>(rt: &R, inputs: Inputs) -> Option<Vec<u8>> {
+    let Inputs {
+        plan,
+        faults,
+        script,
+    } = inputs;
+    let world = Mutex::new(World::watched(plan.plates));
+    let measures = Mutex::new(Measures::new(rt.alloc()));
+    let gauges = Gauges {
+        rt,
+        world: &world,
+        measures: &measures,
+        faults: &faults,
+    };
+    let Ok(Outcome { book, .. }) = run_own(&gauges, &plan, script) else {
+        return None;
+    };
+    let Ok(text) = told_of(&gauges, &book) else {
+        return None;
+    };
+    if measures.lock(rt).lacks_memory() {
+        return None;
+    }
+    Some(text)
+}
+
+/// Runs the machines' own workers in rounds by the texts of a run, in a cell that is watched, and writes the measures that
+/// `drive_texts` tells of a method. The status is 4 where memory was refused. Texts of which one is refused give no run, and
+/// nothing is written.
+pub fn measure_texts<R: AllocGlobal + Wait, W: Write>(
+    rt: &R,
+    settings: &[u8],
+    faults: &[u8],
+    operator: &[u8],
+    output: &mut W,
+) -> Result<u8, WriteFault>
+    ensures told { OnOk result ((told : List ℕ) × Appends (W.contents output.old) (W.contents output.new) told) }
+    ensures status { IfOk result (λ status. (status ≡ 0) ⊎ (status ≡ 4)) }
+{
+    let Ok(inputs) = read_inputs(rt.alloc(), settings, faults, operator) else {
+        return Ok(status::SUCCESS);
+    };
+    let Some(text) = measured(rt, inputs) else {
+        return Ok(status::OUT_OF_MEMORY);
+    };
+    match write_told(output, text.as_slice()) {
+        Ok(()) => Ok(status::SUCCESS),
+        Err(_) => Err(WriteFault),
+    }
+}

@@ -1,0 +1,135 @@
+//! A run by its texts.
+ghost use Rattle.std.specs.Prelude.{◌≡◌, ◌<◌, Ok, IfOk, OnOk};
+ghost use Rattle.std.specs.Io.KnownBytes.{Appends};
+ghost use Rattle.cell_drive.specs.Drives.{DrivesTexts, drive_line};
+
+use crate::by_commands::{drive_commands, raw_script};
+use crate::by_entries::drive_entries;
+use cell_audit::{WatchedWriter, WriteFault};
+use cell_lines::status;
+use cell_method::{DriveError, End, LineReader};
+use cell_rows::{TellsFault, Watched};
+use cell_runs::{InputError, Inputs, read_inputs, refuse_input};
+use cell_turns::Plan;
+use std::io;
+use std::io::{BufReader, Read, Write};
+use std::sync::Wait;
+
+/// How a method drives the cell, and what is told besides.
+#[derive(Clone, Copy, Debug, PartialEq, Eq)]
+pub struct Driving {
+    /// Whether it sends commands to the bare machines, and books no entries.
+    pub raw: bool,
+    /// Whether the journal is written to the errors at the end.
+    pub journal: bool,
+    /// Whether the first of each thing that went wrong is told to the errors.
+    pub explain: bool,
+}
+
+/// What is told to the errors at the end of a run.
+#[derive(Clone, Copy, Debug)]
+pub(crate) struct Told {
+    pub(crate) journal: bool,
+    pub(crate) explain: bool,
+}
+
+/// The status of a run that ended so, and in which all was in order or not.
+pub(crate) fn status_of(end: End, is_in_order: bool) -> u8
+    ensures { end ≡ End.Memory → result ≡ 4 }
+{
+    match end {
+        End::Memory => status::OUT_OF_MEMORY,
+        End::Finished if is_in_order => status::SUCCESS,
+        _ => status::REFUSED,
+    }
+}
+
+// The status of a run, which is its error's where it broke off, unless the writer failed.
+fn ended(ran: Result<u8, DriveError>) -> Result<u8, WriteFault>
+    ensures { IfOk result (λ status. status < 3 → ran ≡ Ok status) }
+{
+    match ran {
+        Ok(status) => Ok(status),
+        Err(DriveError::ReadFault) => Ok(status::DEVICE_FAULT),
+        Err(DriveError::WriteFault) => Err(WriteFault),
+        Err(DriveError::OutOfMemory) => Ok(status::OUT_OF_MEMORY),
+    }
+}
+
+// Lets a method drive the cell by commands, or tells what is wrong with the operator's script.
+fn drive_raw<R: AllocGlobal + Wait, I: TellsFault, W: Write, E: Write>(
+    rt: &R,
+    inputs: Inputs,
+    operator: &[u8],
+    told: Told,
+    lines: &mut LineReader<I>,
+    output: &mut W,
+    errors: &mut E,
+) -> Result<u8, DriveError> {
+    let Inputs { plan, faults, .. } = inputs;
+    let script = match raw_script(rt.alloc(), operator) {
+        Ok(script) => script,
+        Err(error) => {
+            let told = refuse_input(&mut WatchedWriter::new(output), InputError::Operator(error));
+            return told.map_err(|_| DriveError::WriteFault);
+        }
+    };
+    begin(output, &plan)?;
+    drive_commands(rt, &plan, &faults, script, told, lines, output, errors)
+}
+
+/// Begins the protocol.
+pub(crate) fn begin<W: Write>(output: &mut W, plan: &Plan) -> io::Result<()>
+    ensures { OnOk result (Appends (W.contents output.old) (W.contents output.new) (drive_line plan.now)) }
+{
+    writeln!(output, "drive,1,{},", plan.plates)
+}
+
+/// Writes what is told of a run, and flushes the writer.
+pub(crate) fn write_told<W: Write>(output: &mut W, text: &[u8]) -> Result<(), DriveError>
+    ensures { OnOk result (Appends (W.contents output.old) (W.contents output.new) text.now) }
+{
+    if WatchedWriter::new(output).write_bytes(text).is_err() {
+        return Err(DriveError::WriteFault);
+    }
+    output.flush()?;
+    Ok(())
+}
+
+/// Reads the texts of a run, the settings, the script of faults and the operator's script, and lets a method drive the simulated
+/// cell by the lines that it reads and writes; gives the exit status.
+///
+/// The first text that is refused is told as by `run_texts`, and nothing of the protocol is written. A reader that fails ends the
+/// run with status 3. Want of memory before the first round gives status 4 with nothing more written.
+pub fn drive_texts<R: AllocGlobal + Wait, I: Read + Drop, W: Write, E: Write>(
+    rt: &R,
+    settings: &[u8],
+    faults: &[u8],
+    operator: &[u8],
+    driving: Driving,
+    input: I,
+    output: &mut W,
+    errors: &mut E,
+) -> Result<u8, WriteFault>
+    // What is written is of the first text that is refused, or of a run by entries within the settings' limits.
+    ensures { IfOk result (DrivesTexts settings.now faults.now operator.now driving.raw (I.remaining input) (W.contents output.old) (W.contents output.new)) }
+{
+    let inputs = match read_inputs(rt.alloc(), settings, faults, operator) {
+        Ok(inputs) => inputs,
+        Err(error) => return refuse_input(&mut WatchedWriter::new(output), error),
+    };
+    let Ok(reader) = BufReader::new(rt.alloc(), input) else {
+        return Ok(status::OUT_OF_MEMORY);
+    };
+    let mut lines = LineReader::new(Watched::new(reader));
+    let told = Told {
+        journal: driving.journal,
+        explain: driving.explain,
+    };
+    if driving.raw {
+        let ran = drive_raw(rt, inputs, operator, told, &mut lines, output, errors);
+        return ended(ran);
+    }
+    let ran = drive_entries(rt, inputs, told, &mut lines, output, errors);
+    ended(ran)
+}

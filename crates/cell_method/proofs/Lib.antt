@@ -1,0 +1,5 @@
+pub mod Splitting
+pub mod Holding
+pub mod LineFacts
+pub mod Marks
+pub mod Runs

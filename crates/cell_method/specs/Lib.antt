@@ -1,0 +1,6 @@
+pub mod Split
+pub mod Lines
+pub mod Asked
+pub mod Replies
+pub mod Shown
+pub mod Rounds

@@ -1,0 +1,174 @@
+-- A run: where it stands, what happens in it, and where that leads
+use Rattle.std.specs.Prelude.{◌≡◌, ◌+◌, ℕ, List, [], ◌∷◌, ◌++◌, length, Option, Some, None, Bool, true, false, ⊤}
+use Rattle.std.specs.Io.KnownBytes.{Appends}
+use Rattle.cell_rows.specs.Lines.{line}
+use Rattle.cell_types.specs.Entries.{actor_of, command_of}
+use Rattle.cell_types.specs.Spelling.{record_of}
+use Rattle.cell_types.specs.declared.words.Actor.{Actor}
+use Rattle.cell_types.specs.declared.words.Actor.TheVariants as actor
+use Rattle.cell_types.specs.declared.words.Entry.{Entry}
+use Rattle.cell_types.specs.declared.words.Machine.{Machine}
+use Rattle.cell_diagnosis.specs.declared.reading.Reading.{Reading}
+use Rattle.plate_book.specs.declared.limits.BookLimits.{BookLimits}
+use Rattle.plate_book.specs.declared.refusal.Refusal.{Refusal}
+use Rattle.plate_book.specs.Rules.History.{History}
+use Rattle.plate_book.specs.Rules.Legal.{first_of}
+use Rattle.cell_turns.specs.declared.six.Six.{Six}
+use Rattle.cell_turns.specs.Logs.{Log, after_read, after_sending}
+use Rattle.cell_turns.specs.Six.{at, map_six, put}
+use Rattle.operator_desk.specs.declared.action.Action.{Action}
+use Rattle.operator_desk.specs.declared.line.Line.{Line}
+use Rattle.operator_desk.specs.Next.{entry_of, left_after, next_of}
+use Rattle.cell_method.specs.Asked.{ask_of}
+use Rattle.cell_method.specs.Lines.{Row}
+use Rattle.cell_method.specs.Replies.{booked_as, line_of}
+use Rattle.cell_method.specs.Shown.{reading_line, round_line}
+use Rattle.cell_method.specs.declared.ask.Ask.{Ask}
+use Rattle.cell_method.specs.declared.ask.Ask.TheVariants as ask
+use Rattle.cell_method.specs.declared.reply.Reply.{Reply}
+use Rattle.cell_method.specs.declared.reply.Reply.TheVariants as reply
+
+-- where a run stands: the journal, what each machine's port was asked, the operator's lines that aren't done yet and whether his
+-- hands failed, how many rounds were opened, and the text that was written
+pub record Stand : Type 0 where
+  pub journal : List Entry
+  pub logs : Six Log
+  pub lines : List Line
+  pub lost : Bool
+  pub rounds : ℕ
+  pub text : List ℕ
+
+-- what happens in a run: a machine was read and showed this, a round was opened, a line of the method was answered, or the
+-- operator's turn came. Whether the port failed on the line's command is said, and whether the operator's hands failed.
+pub data Event : Type 0 where
+  Shown : Machine → Option Reading → Event
+  Opened : Event
+  Answered : Option Row → Bool → Event
+  Operated : Bool → Event
+
+abbrev pub saying : Stand → List ℕ → Stand
+saying s text = record s { text = s.text ++ text }
+
+-- after an entry of a machine, which the book refuses so, or books: then its command goes to the machine
+abbrev pub after_judging : Option Refusal → Machine → Entry → Bool → Stand → Stand
+after_judging (Some why) m e failed s = saying s (line_of (reply.Refused why))
+after_judging None m e failed s =
+    record s {
+      journal = s.journal ++ e ∷ [];
+      logs = put s.logs m (after_sending (at s.logs m) (command_of e) failed);
+      text = s.text ++ line_of (booked_as (length (s.journal ++ e ∷ [])) failed);
+    }
+
+-- after an entry that is asked for: the operator's are none of the method's
+abbrev pub after_entry : BookLimits → Actor → Entry → Bool → Stand → Stand
+after_entry l (actor.Machine m) e failed s = after_judging (first_of l s.journal e) m e failed s
+after_entry l actor.Operator e failed s = saying s (line_of reply.Unreadable)
+
+-- after what a line asks for was done and answered
+abbrev pub after_ask : BookLimits → Ask → Bool → Stand → Stand
+after_ask l (ask.Book e) failed s = after_entry l (actor_of e) e failed s
+after_ask l ask.Nothing failed s = saying s (line_of reply.Unreadable)
+after_ask l _ failed s = s
+
+abbrev pub history : BookLimits → List Entry → History
+history l J = record { limits = l; entries = J }
+
+-- the line of an entry's record
+abbrev pub entry_line : Entry → List ℕ
+entry_line e = line (record_of e)
+
+-- after the operator's next action, if he has one: its entry is booked and told, unless his hands failed
+abbrev pub after_action : Option Action → Bool → Stand → Stand
+after_action None failed s = s
+after_action (Some a) true s = record s { lost = true }
+after_action (Some a) false s =
+    record s {
+      journal = s.journal ++ entry_of a ∷ [];
+      lines = left_after s.lines;
+      text = s.text ++ entry_line (entry_of a);
+    }
+
+-- after the operator's turn: where his hands failed he does nothing more
+abbrev pub after_operator : BookLimits → Bool → Bool → Stand → Stand
+after_operator l true failed s = s
+after_operator l false failed s = after_action (next_of s.lines (history l s.journal)) failed s
+
+abbrev pub after_event : BookLimits → Stand → Event → Stand
+after_event l s (Shown m r) = record s { logs = put s.logs m (after_read (at s.logs m) r); text = s.text ++ reading_line m r }
+after_event l s Opened = record s { rounds = s.rounds + 1; text = s.text ++ round_line (s.rounds + 1) }
+after_event l s (Answered row failed) = after_ask l (ask_of row) failed s
+after_event l s (Operated failed) = after_operator l s.lost failed s
+
+-- after these events, in order
+unfoldable pub after_events : BookLimits → Stand → List Event → Stand
+after_events l s [] = s
+after_events l s (x ∷ xs) = after_events l (after_event l s x) xs
+
+abbrev pub row_of : Event → List (Option Row)
+row_of (Answered row failed) = row ∷ []
+row_of _ = []
+
+-- the lines of the method among these events
+unfoldable pub rows_of : List Event → List (Option Row)
+rows_of [] = []
+rows_of (x ∷ xs) = row_of x ++ rows_of xs
+
+-- these lines were read, where the lines are known
+abbrev pub Reads : Option (List (Option Row)) → List (Option Row) → Option (List (Option Row)) → Type 0
+Reads None rows left = ⊤
+Reads (Some all) rows None = ⊥
+Reads (Some all) rows (Some left) = all ≡ rows ++ left
+
+-- some events lead from one stand to another, and take these lines of the method from those that were left
+pub record Leads (l : BookLimits) (s t : Stand) (all left : Option (List (Option Row))) : Type 0 where
+  pub events : List Event
+  pub leads : t ≡ after_events l s events
+  pub read : Reads all (rows_of events) left
+
+-- the journal is the stand's, and each port that tells was asked what the stand says
+pub record Fits {P : Type 0} (tells : P → Bool) (log : P → Log) (J : List Entry) (ports : Six P) (s : Stand) : Type 0 where
+  pub journal : J ≡ s.journal
+  pub logs : (m : Machine) → tells (at ports m) ≡ true → log (at ports m) ≡ at s.logs m
+
+-- the operator's script and hands, and the rounds
+pub record FitsDesk (script : List Line) (is_lost : Bool) (opened : ℕ) (s : Stand) : Type 0 where
+  pub lines : script ≡ s.lines
+  pub lost : is_lost ≡ s.lost
+  pub rounds : opened ≡ s.rounds
+
+-- where a run starts over this journal and these ports, with this script of the operator
+abbrev pub start : {P : Type 0} → (P → Log) → List Entry → Six P → List Line → Stand
+start log J ports lines = record { journal = J; logs = map_six log ports; lines = lines; lost = false; rounds = 0; text = [] }
+
+-- from a stand events lead to one where the cell is now so, and what was written there is its text
+pub record Goes {P : Type 0} (tells : P → Bool) (log : P → Log) (l : BookLimits) (s : Stand) (all left : Option (List (Option Row))) (K : List Entry) (ports : Six P) (lines : List Line) (lost : Bool) (rounds : ℕ) (old new : Option (List ℕ)) : Type 0 where
+  pub after : Stand
+  pub leads : Leads l s after all left
+  pub fits : Fits tells log K ports after
+  pub desk : FitsDesk lines lost rounds after
+  pub text : (first : Option (List ℕ)) → Appends first old s.text → Appends first new after.text
+
+-- a run that broke off: events led to the journal and to what the ports were asked; what was written isn't told
+pub record Broke {P : Type 0} (tells : P → Bool) (log : P → Log) (l : BookLimits) (s : Stand) (all : Option (List (Option Row))) (K : List Entry) (ports : Six P) : Type 0 where
+  pub after : Stand
+  pub left : Option (List (Option Row))
+  pub leads : Leads l s after all left
+  pub fits : Fits tells log K ports after
+
+-- a run: events led from its start to the journal, to what the ports were asked and to the text that was written
+pub record Driven {P : Type 0} (tells : P → Bool) (log : P → Log) (l : BookLimits) (s : Stand) (all left : Option (List (Option Row))) (K : List Entry) (ports : Six P) (old new : Option (List ℕ)) : Type 0 where
+  pub after : Stand
+  pub leads : Leads l s after all left
+  pub fits : Fits tells log K ports after
+  pub text : Appends old new after.text
+
+-- what one line did: from a stand that fits it leads to one that does, and the answer is the text that comes there
+abbrev pub AnswersBy : {P : Type 0} → (P → Bool) → (P → Log) → (Stand → Stand) → List Entry → Six P → List Entry → Six P → Reply → Type 0
+AnswersBy tells log after J ports K ports' r = (s : Stand) → Fits tells log J ports s → Fits tells log K ports' (after s) × ((after s).text ≡ s.text ++ line_of r)
+
+-- what the operator's turn did
+pub record Operates (l : BookLimits) (failed : Bool) (s : Stand) (K : List Entry) (script : List Line) (is_lost : Bool) (old new : Option (List ℕ)) : Type 0 where
+  pub journal : K ≡ (after_operator l s.lost failed s).journal
+  pub lines : script ≡ (after_operator l s.lost failed s).lines
+  pub lost : is_lost ≡ (after_operator l s.lost failed s).lost
+  pub text : (first : Option (List ℕ)) → Appends first old s.text → Appends first new (after_operator l s.lost failed s).text

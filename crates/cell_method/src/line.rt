@@ -1,0 +1,123 @@
+//! The lines of a reader's text.
+ghost use Rattle.std.specs.Prelude.{◌≡◌, ◌≢◌, ◌∷◌, [], ℕ, List, true, length, IfOk, IfSome, IsErr, IsNone, None, Some, OnOk, ◌++◌, option_map};
+ghost use Rattle.std.specs.Io.KnownBytes.{Consumes, IsAtEnd};
+ghost use Rattle.cell_method.specs.Lines.{EndsLine, Holds, TakesLine, current, is_blank, is_within, lines_left, lines_of, without_return};
+
+use crate::split::record_of;
+use arrayvec::ArrayVec;
+use cell_rows::{Four, TellsFault};
+
+// The most bytes of a line that can be a record: four fields of 20 bytes, three commas and a carriage return.
+const LONGEST_LINE: usize = 84;
+
+/// The reader failed, or a line has 2^64 - 1 bytes.
+#[derive(Clone, Copy, Debug, PartialEq, Eq)]
+pub struct ReadFault;
+
+/// The lines of a reader's text, one at a time, with the one that was read last.
+#[derive(Drop)]
+pub struct LineReader<R> {
+    source: R,
+    line: ArrayVec<u8, 84>,
+    is_long: bool,
+}
+
+// A line without the carriage return at its end.
+fn without_return(line: &[u8]) -> &[u8]
+    ensures { result.now ≡ without_return line.now }
+{
+    if let [.., b'\r'] = line {
+        &line[..line.len() - 1]
+    } else {
+        line
+    }
+}
+
+// Takes the next byte, if there is one.
+fn take_byte<R: TellsFault>(source: &mut R) -> Result<Option<u8>, ReadFault>
+    ensures some { IfOk result (λ byte. IfSome byte (λ b. Consumes (R.remaining source.old) (R.remaining source.new) (b ∷ []))) }
+    ensures none { IfOk result (λ byte. IsNone byte → Consumes (R.remaining source.old) (R.remaining source.new) [] × IsAtEnd (R.remaining source.new)) }
+{
+    let mut byte = [0];
+    match source.read_told(&mut byte) {
+        Ok(0) => Ok(None),
+        Ok(_) => Ok(Some(byte[0])),
+        Err(_) => Err(ReadFault),
+    }
+}
+
+impl<R: TellsFault> LineReader<R> {
+    /// The lines of what the reader has left. It reads nothing yet.
+    pub fn new(source: R) -> LineReader<R>
+        ensures { lines_left R.remaining result ≡ option_map lines_of (R.remaining source) }
+    {
+        LineReader {
+            source,
+            line: ArrayVec::new(),
+            is_long: false,
+        }
+    }
+
+    // Keeps one more byte of the line, as far as the line can be a record.
+    fn keep(&mut self, byte: u8)
+        ensures source { self.new.source ≡ self.old.source }
+        ensures holds { (line : List ℕ) → Holds self.old line → is_within byte ≡ true → Holds self.new (line ++ byte ∷ []) }
+    {
+        match self.line.try_push(byte) {
+            Ok(()) => {}
+            Err(_) => self.is_long = true,
+        }
+    }
+
+    // Reads a line, and says whether the text ended with it.
+    fn read_line(&mut self) -> Result<bool, ReadFault>
+        ensures { IfOk result (λ ended. (line : List ℕ) × Holds self.new line × EndsLine (R.remaining self.old.source) (R.remaining self.new.source) line ended) }
+    {
+        self.line.clear();
+        self.is_long = false;
+        for _ in 0..u64::MAX {
+            match take_byte(&mut self.source)? {
+                None => return Ok(true),
+                Some(b'\n') => return Ok(false),
+                Some(byte) => self.keep(byte),
+            }
+        }
+        Err(ReadFault)
+    }
+
+    // Whether the line is blank.
+    fn is_blank(&self) -> bool
+        ensures { (line : List ℕ) → Holds self.now line → result ≡ is_blank line }
+    {
+        !self.is_long && without_return(self.line.as_slice()).is_empty()
+    }
+
+    /// Reads the next line that isn't blank, and says whether there was one.
+    ///
+    /// It reads no further than the line feed, and holds no more of a line than a record can have.
+    pub fn advance(&mut self) -> Result<bool, ReadFault>
+        ensures { IfOk result (TakesLine (lines_left R.remaining self.old) (lines_left R.remaining self.new) (current self.new)) }
+    {
+        for _ in 0..u64::MAX {
+            let ended = self.read_line()?;
+            if !self.is_blank() {
+                return Ok(true);
+            }
+            if ended {
+                return Ok(false);
+            }
+        }
+        Err(ReadFault)
+    }
+
+    /// The record of the line that was read last, if it is one: four fields of at most 20 bytes each, and no quote.
+    pub fn four(&self) -> Option<Four<'_>>
+        ensures some { IfSome result (λ four. current self.now ≡ Some (four.first.now ∷ four.second.now ∷ four.third.now ∷ four.fourth.now ∷ [])) }
+        ensures none { IsNone result → current self.now ≡ None }
+    {
+        if self.is_long {
+            return None;
+        }
+        record_of(without_return(self.line.as_slice()))
+    }
+}
