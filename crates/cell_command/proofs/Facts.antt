@@ -2,7 +2,7 @@
 use Rattle.std.proofs.Common.{◌≡◌, ℕ, Bor, List, Option, Some, None, option_map, refl, sym}
 use Rattle.std.specs.Prelude.{IfSome, true}
 use Rattle.clap.specs.Words.{is_simple, is_simple_and_free}
-use Rattle.cell_command.specs.Shape.{cellctl, checking, explain, flagged, judging, pictured, reading, scripted, show, showing, simulating}
+use Rattle.cell_command.specs.Shape.{cellctl, checking, driving, explain, flagged, judging, pictured, reading, scripted, show, showing, simulating}
 
 abbrev pub both : {X A B : Type 0} → (X → A) → (X → B) → X → A × B
 both f g x = (f x, g x)
@@ -20,9 +20,9 @@ same-value (Some p) found h = sym h
 
 -- the program's command line is one of which clap's definitions tell the matches and the faults
 pub cellctl-simple : is_simple cellctl ≡ true
-unfolding checking explain flagged judging pictured reading scripted show showing simulating
+unfolding checking driving explain flagged judging pictured reading scripted show showing simulating
 cellctl-simple = refl
 
 pub cellctl-free : is_simple_and_free cellctl ≡ true
-unfolding checking explain flagged judging pictured reading scripted show showing simulating
+unfolding checking driving explain flagged judging pictured reading scripted show showing simulating
 cellctl-free = refl

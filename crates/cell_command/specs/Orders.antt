@@ -3,6 +3,7 @@ use Rattle.std.specs.Prelude.{◌≡◌, ℕ, Bool, true, false, List, Option, S
 use Rattle.std.specs.Borrow.{Bor}
 use Rattle.clap.specs.Words.{Row, Text, first_of, one_of, subcommand_of}
 use Rattle.cell_command.specs.Shape.{cellctl}
+use Rattle.cell_command.specs.declared.order.Driving.{Driving}
 use Rattle.cell_command.specs.declared.order.Explaining.{Explaining}
 use Rattle.cell_command.specs.declared.order.Paths.{Paths}
 use Rattle.cell_command.specs.declared.order.Running.{Running}
@@ -34,6 +35,10 @@ HasPaths rows paths = HasPath rows (codes "settings") paths.settings.now
 abbrev pub IsRun : List Row → Running → Type 0
 IsRun rows r = HasFlag rows (codes "journal") r.journal × HasFlag rows (codes "explain") r.explain × HasPaths rows r.paths
 
+-- the flag for bare machines, and the flags and files of a run
+abbrev pub IsDriven : List Row → Driving → Type 0
+IsDriven rows d = HasFlag rows (codes "raw") d.raw × IsRun rows d.running
+
 -- the flags of a picture, the journal's file, and how many entries it takes
 abbrev pub IsShown : List Row → Showing → Type 0
 IsShown rows s = HasFlag rows (codes "svg") s.svg
@@ -56,8 +61,10 @@ Fits name rows (order.Migrate file) = (name ≡ codes "migrate") × HasValue row
 Fits name rows (order.Show showing) = (name ≡ codes "show") × IsShown rows showing
 Fits name rows (order.Explain explaining) = (name ≡ codes "explain") × IsExplained rows explaining
 Fits name rows (order.Check path) = (name ≡ codes "check") × HasPath rows (codes "settings") path.now
-Fits name rows (order.Sim running) = (name ≡ codes "sim") × HasValue rows (codes "follow") None × IsRun rows running
+Fits name rows (order.Sim running) = (name ≡ codes "sim") × HasValue rows (codes "follow") None × HasFlag rows (codes "measures") false × IsRun rows running
+Fits name rows (order.Measure running) = (name ≡ codes "sim") × HasValue rows (codes "follow") None × HasFlag rows (codes "measures") true × IsRun rows running
 Fits name rows (order.Follow path running) = (name ≡ codes "sim") × HasValue rows (codes "follow") (Some path) × IsRun rows running
+Fits name rows (order.Drive driving) = (name ≡ codes "drive") × IsDriven rows driving
 Fits name rows (order.Run running) = (name ≡ codes "run") × IsRun rows running
 
 -- the words have a command that clap matches in them, and the order is of it

@@ -64,9 +64,14 @@ scripted a = with_rule (with_rule a (path_rule (codes "faults"))) (path_rule (co
 abbrev pub filed : App → App
 filed a = scripted (with_rule a (path_rule (codes "settings")))
 
--- the command that runs the cell on one thread, with the option for the file of a journal that is followed
+-- the command that runs the cell on one thread, with the option for the file of a journal that is followed and the flag for
+-- measures
 abbrev pub sim : App
-sim = filed (with_rule (flagged (new_app (codes "sim"))) (file_rule (codes "follow")))
+sim = filed (with_rule (with_rule (flagged (new_app (codes "sim"))) (file_rule (codes "follow"))) (flag_rule (codes "measures")))
+
+-- the command by which a method drives the cell, with the flag for commands to the bare machines
+abbrev pub drive : App
+drive = filed (flagged (with_rule (new_app (codes "drive")) (flag_rule (codes "raw"))))
 
 -- the command that runs the cell on threads
 abbrev pub run : App
@@ -88,11 +93,15 @@ reading = with_subcommand showing explain.top
 unfoldable pub checking : App
 checking = with_subcommand reading check.top
 
--- the program with all commands but that which runs the cell on threads
+-- the program with all commands but those by which a method drives the cell and which run it on threads
 unfoldable pub simulating : App
 simulating = with_subcommand checking sim.top
 
+-- the program with all commands but that which runs the cell on threads
+unfoldable pub driving : App
+driving = with_subcommand simulating drive.top
+
 abbrev pub cellctl : App
 cellctl =
-    let whole = with_subcommand simulating run.top in
+    let whole = with_subcommand driving run.top in
     record whole { top = for_people whole.top }

@@ -2,15 +2,15 @@
 ghost use Rattle.std.specs.Prelude.{◌≡◌, IfOk, false};
 ghost use Rattle.clap.specs.Words.{app_of, new_app, with_rule, with_subcommand};
 ghost use Rattle.clap.specs.declared.builder.command.Command.TheViews.{out-Command};
-ghost use Rattle.cell_command.specs.Shape.{audit, cellctl, check, checking, explain, file_rule, filed, flag_rule, flagged, journal_rule, judging, migrate, optional_rule, path_rule, pictured, reading, run, scripted, show, showing, sim, simulating, with_input};
+ghost use Rattle.cell_command.specs.Shape.{audit, cellctl, check, checking, drive, driving, explain, file_rule, filed, flag_rule, flagged, journal_rule, judging, migrate, optional_rule, path_rule, pictured, reading, run, scripted, show, showing, sim, simulating, with_input};
 
 use crate::help::{
     ABOUT, AFTER, AUDIT_ABOUT, AUDIT_EXAMPLE, AUDIT_HELP, CHECK_ABOUT, CHECK_EXAMPLE, CHECK_HELP,
-    ENTRY_HELP, EXPLAIN_ABOUT, EXPLAIN_EXAMPLE, EXPLAIN_HELP, EXPLAIN_USAGE, FAULTS_HELP,
-    FILE_HELP, FOLLOW_HELP, HTML_HELP, JOURNAL_HELP, MIGRATE_ABOUT, MIGRATE_EXAMPLE, MIGRATE_HELP,
-    OPERATOR_HELP, RUN_ABOUT, RUN_EXAMPLE, RUN_HELP, SETTINGS_HELP, SHOW_ABOUT, SHOW_EXAMPLE,
-    SHOW_HELP, SHOW_USAGE, SIM_ABOUT, SIM_EXAMPLE, SIM_HELP, SVG_HELP, UNICODE_HELP, VERSION,
-    WHY_HELP,
+    DRIVE_ABOUT, DRIVE_EXAMPLE, DRIVE_HELP, ENTRY_HELP, EXPLAIN_ABOUT, EXPLAIN_EXAMPLE,
+    EXPLAIN_HELP, EXPLAIN_USAGE, FAULTS_HELP, FILE_HELP, FOLLOW_HELP, HTML_HELP, JOURNAL_HELP,
+    MEASURES_HELP, MIGRATE_ABOUT, MIGRATE_EXAMPLE, MIGRATE_HELP, OPERATOR_HELP, RAW_HELP,
+    RUN_ABOUT, RUN_EXAMPLE, RUN_HELP, SETTINGS_HELP, SHOW_ABOUT, SHOW_EXAMPLE, SHOW_HELP,
+    SHOW_USAGE, SIM_ABOUT, SIM_EXAMPLE, SIM_HELP, SVG_HELP, UNICODE_HELP, VERSION, WHY_HELP,
 };
 use clap::{Arg, ArgAction, Command};
 use std::alloc::{AllocError, Global};
@@ -233,7 +233,7 @@ fn with_files<'a>(alloc: Global, command: Command<'a>) -> Result<Command<'a>, Al
     with_scripts(alloc, settings)
 }
 
-// The command that runs the cell on one thread, with the option for a journal that is followed.
+// The command that runs the cell on one thread, with the option for a journal that is followed and the flag for measures.
 fn sim_command<'a>(alloc: Global) -> Result<Command<'a>, AllocError>
     ensures app { IfOk result (λ c. app_of c ≡ sim) }
     ensures local { IfOk result (λ c. (out-Command c).has_globals ≡ false) }
@@ -241,7 +241,19 @@ fn sim_command<'a>(alloc: Global) -> Result<Command<'a>, AllocError>
     let command = described(alloc, "sim", SIM_ABOUT, SIM_HELP, SIM_EXAMPLE);
     let flagged = with_flags(alloc, command)?;
     let follow = with_file(alloc, flagged, "follow", "JOURNAL", FOLLOW_HELP)?;
-    with_files(alloc, follow)
+    let measures = with_flag(alloc, follow, "measures", MEASURES_HELP)?;
+    with_files(alloc, measures)
+}
+
+// The command by which a method drives the cell, with the flag for commands to the bare machines.
+fn drive_command<'a>(alloc: Global) -> Result<Command<'a>, AllocError>
+    ensures app { IfOk result (λ c. app_of c ≡ drive) }
+    ensures local { IfOk result (λ c. (out-Command c).has_globals ≡ false) }
+{
+    let command = described(alloc, "drive", DRIVE_ABOUT, DRIVE_HELP, DRIVE_EXAMPLE);
+    let raw = with_flag(alloc, command, "raw", RAW_HELP)?;
+    let flagged = with_flags(alloc, raw)?;
+    with_files(alloc, flagged)
 }
 
 // The command that runs the cell on threads.
@@ -309,7 +321,7 @@ fn checking_commands<'a>(alloc: Global) -> Result<Command<'a>, AllocError>
     add(reading, check)
 }
 
-// The program with all commands but that which runs the cell on threads.
+// The program with all commands but those by which a method drives the cell and which run it on threads.
 #[tactic(auto, unfolding(crate::specs::Shape::simulating))]
 fn simulating_commands<'a>(alloc: Global) -> Result<Command<'a>, AllocError>
     ensures app { IfOk result (λ c. app_of c ≡ simulating) }
@@ -320,14 +332,25 @@ fn simulating_commands<'a>(alloc: Global) -> Result<Command<'a>, AllocError>
     add(checking, sim)
 }
 
-// The program with all commands.
-fn all_commands<'a>(alloc: Global) -> Result<Command<'a>, AllocError>
-    ensures app { IfOk result (λ c. app_of c ≡ with_subcommand simulating run.top) }
+// The program with all commands but that which runs the cell on threads.
+#[tactic(auto, unfolding(crate::specs::Shape::driving))]
+fn driving_commands<'a>(alloc: Global) -> Result<Command<'a>, AllocError>
+    ensures app { IfOk result (λ c. app_of c ≡ driving) }
     ensures local { IfOk result (λ c. (out-Command c).has_globals ≡ false) }
 {
     let simulating = simulating_commands(alloc)?;
+    let drive = drive_command(alloc)?;
+    add(simulating, drive)
+}
+
+// The program with all commands.
+fn all_commands<'a>(alloc: Global) -> Result<Command<'a>, AllocError>
+    ensures app { IfOk result (λ c. app_of c ≡ with_subcommand driving run.top) }
+    ensures local { IfOk result (λ c. (out-Command c).has_globals ≡ false) }
+{
+    let driving = driving_commands(alloc)?;
     let run = run_command(alloc)?;
-    add(simulating, run)
+    add(driving, run)
 }
 
 /// The command line of the program.

@@ -213,6 +213,52 @@ pub(crate) const SIM_EXAMPLE: &str = "\
 Example: cellctl sim examples/press_fails.toml \\
            examples/press_fails.faults examples/press_fails.operator";
 
+pub(crate) const DRIVE_ABOUT: &str = "Let a control method drive the simulated cell";
+
+pub(crate) const DRIVE_HELP: &str = "\
+Lets a control method, a process of its own, drive the simulated cell in
+rounds: it reads the method's lines on standard input and writes to standard
+output. SETTINGS, FAULTS and OPERATOR are the files of the command sim, and are
+told in the same lines where one is refused. The machines' own workers don't
+run; the operator does his script. docs/DRIVING.md has the whole protocol.
+
+Each line is a record of four fields, at most 20 bytes each, with no quotes.
+First drive,1,PLATES, is written, and then in each round
+  reading,MACHINE,SWITCHES,PRESENCE
+                 for each machine, or missing,MACHINE,,
+  round,R,,      now the method writes lines, each of which is answered
+A line is the record of a machine's entry, as of the command audit:
+  ok,N,,                 it is booked as entry N, and its command was sent
+  failed,N,,             it is booked as entry N, and its command failed
+  refused,NAME,WORD,     it isn't allowed, and nothing is done
+  unreadable,,,          it is no such record
+or with --raw, where nothing is booked, a command to the bare machines:
+  on,AXIS,POSE,          off,AXIS,,         all_off,MACHINE,,
+  magnet_on,ARM,,        magnet_off,ARM,,   lamp,LIGHT,COLOUR,
+answered by ok,,, or failed,,, or unreadable,,,. Then the method ends the round
+by done,,, or the run by quit,,, or by the end of its lines.
+
+At the end it writes end,WHY,, with why the run ended, the lines of the command
+sim below it, and what was measured. The ends:
+  finished         all plates were laid in, and none is left in the cell
+  turn limit       as many rounds as the settings allow
+  full             the journal has as many entries as the settings allow
+  quit             the method ended it
+  too many lines   10000 lines in one round
+  memory           memory was refused
+
+With --journal the journal's text stands on standard error, and with --explain
+the first entry of each kind that isn't so in the cell, and where each safety
+rule was broken first.
+
+Exit status: 0 finished with nothing untrue and no rule broken, 1 else, or a
+text refused, 2 wrong arguments, 3 a read or a write failed, 4 out of memory.";
+
+pub(crate) const DRIVE_EXAMPLE: &str = "\
+Example: cellctl drive examples/cell.toml /dev/null /dev/null";
+
+pub(crate) const RAW_HELP: &str = "Take commands to the bare machines, and no entries";
+
 pub(crate) const RUN_ABOUT: &str = "Run the simulated cell on threads";
 
 pub(crate) const RUN_HELP: &str = "\
@@ -295,6 +341,8 @@ pub(crate) const EXPLAIN_EXAMPLE: &str = "Example: cellctl explain examples/refu
 pub(crate) const JOURNAL_HELP: &str = "Print the run's journal alone";
 
 pub(crate) const FOLLOW_HELP: &str = "Take the run of this journal again";
+
+pub(crate) const MEASURES_HELP: &str = "Tell the measures of a run in rounds";
 
 pub(crate) const WHY_HELP: &str = "Say on standard error why the run ended so";
 

@@ -3,7 +3,7 @@ ghost use Rattle.std.specs.Prelude.{IfOk, IfSome, codes, map};
 ghost use Rattle.clap.specs.Kinds.{FailsBy};
 ghost use Rattle.clap.specs.Words.{fault_of, found_of, rows_of};
 ghost use Rattle.cell_command.specs.Shape.{cellctl};
-ghost use Rattle.cell_command.specs.Orders.{Fits, HasFlag, HasPath, HasPaths, HasValue, IsExplained, IsOrdered, IsRun, IsShown};
+ghost use Rattle.cell_command.specs.Orders.{Fits, HasFlag, HasPath, HasPaths, HasValue, IsDriven, IsExplained, IsOrdered, IsRun, IsShown};
 
 use crate::command::command;
 use clap::{ArgMatches, Error};
@@ -24,6 +24,14 @@ pub struct Running<'a> {
     pub journal: bool,
     pub explain: bool,
     pub paths: Paths<'a>,
+}
+
+/// How a method is to drive the simulated cell: whether by commands to the bare machines, what is printed besides, and where its
+/// files are.
+#[derive(Clone, Copy, Debug, PartialEq, Eq)]
+pub struct Driving<'a> {
+    pub raw: bool,
+    pub running: Running<'a>,
 }
 
 /// How a journal is to be shown: which flags are given, the file that has it, if it isn't on standard input, and the number of
@@ -61,8 +69,12 @@ pub enum Order<'a> {
     Check(&'a str),
     /// Run the simulated cell on one thread.
     Sim(Running<'a>),
+    /// Run the simulated cell on one thread, in rounds, and tell the run's measures.
+    Measure(Running<'a>),
     /// Follow the journal in the file of this path on one thread, with the simulated cell.
     Follow(&'a str, Running<'a>),
+    /// Let a method drive the simulated cell over the standard streams.
+    Drive(Driving<'a>),
     /// Run the simulated cell by workers on threads.
     Run(Running<'a>),
 }
@@ -99,15 +111,26 @@ fn run_words<'a>(matches: &ArgMatches<'a>) -> Option<Running<'a>>
     })
 }
 
-// How the simulated cell is to be run on one thread: in rounds, or after the journal that is named.
+// How the simulated cell is to be run on one thread: in rounds, with measures or without, or after the journal that is named.
 fn sim_words<'a>(matches: &ArgMatches<'a>) -> Option<Order<'a>>
     ensures { IfSome result (Fits (codes "sim") (rows_of (found_of matches.now))) }
 {
     let running = run_words(matches)?;
     match value(matches, "follow") {
         Some(path) => Some(Order::Follow(path, running)),
+        None if flag(matches, "measures") => Some(Order::Measure(running)),
         None => Some(Order::Sim(running)),
     }
+}
+
+// How a method is to drive the cell.
+fn drive_words<'a>(matches: &ArgMatches<'a>) -> Option<Driving<'a>>
+    ensures { IfSome result (IsDriven (rows_of (found_of matches.now))) }
+{
+    Some(Driving {
+        raw: flag(matches, "raw"),
+        running: run_words(matches)?,
+    })
 }
 
 // How a journal is to be shown.
@@ -160,6 +183,7 @@ fn order_of<'a>(name: &str, matches: &ArgMatches<'a>) -> Option<Order<'a>>
         "explain" => Some(Order::Explain(explain_words(matches))),
         "check" => Some(Order::Check(path(matches, "settings")?)),
         "sim" => sim_words(matches),
+        "drive" => Some(Order::Drive(drive_words(matches)?)),
         "run" => Some(Order::Run(run_words(matches)?)),
         _ => None,
     }

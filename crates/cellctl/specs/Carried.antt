@@ -18,6 +18,8 @@ use Rattle.cell_command.specs.declared.order.Running.{Running}
 use Rattle.cell_command.specs.declared.order.Showing.{Showing}
 use Rattle.cell_command.specs.declared.order.Order.{Order}
 use Rattle.cell_command.specs.declared.order.Order.TheVariants as order
+use Rattle.cell_command.specs.declared.order.Driving.{Driving}
+use Rattle.cell_drive.specs.Drives.{DrivesTexts}
 use Rattle.cell_explain.specs.Explained.{EndsAsAudit, EndsAsCheck, EndsAsFaults, EndsAsScript}
 use Rattle.cell_lines.specs.Lines.{TellsAudit, TellsMigration, StopsMigration, TellsPart as PartOfAudit}
 use Rattle.cell_runs.specs.Runs.{TellsRun, TellsPart as PartOfRun}
@@ -127,6 +129,21 @@ RunsFiles threads running old new written =
     × MatchResult written (TellsRun settings faults operator threads running.journal old new) (λ _. PartOfRun settings faults operator threads running.journal old new))
     ⊎ TellsTooLong old new written
 
+-- what a method that drives the cell by the texts of files has written, unless the settings are too long
+abbrev pub DrivesFiles : Driving → Option (List ℕ) → Option (List ℕ) → Option (List ℕ) → Result ℕ WriteFault → Type 0
+DrivesFiles driving input old new written =
+    ((settings : List ℕ) × (faults : List ℕ) × (operator : List ℕ) × IfOk written (DrivesTexts settings faults operator driving.raw input old new))
+    ⊎ TellsTooLong old new written
+
+-- what is written of a run by the texts of its files and then of its measures, unless the settings are too long: the status is
+-- the run's, but where memory was refused for the measures
+abbrev pub MeasuresFiles : Running → Option (List ℕ) → Option (List ℕ) → Result ℕ WriteFault → Type 0
+MeasuresFiles running old new written =
+    ((settings : List ℕ) × (faults : List ℕ) × (operator : List ℕ) × IfOk written (λ status. (run : Option (List ℕ)) × (ran : ℕ)
+    × TellsRun settings faults operator false running.journal old run ran × (measures : List ℕ) × Appends run new measures
+    × ((status ≡ ran) ⊎ (status ≡ 4))))
+    ⊎ TellsTooLong old new written
+
 -- what is written where the journal of a file is followed by the texts of three others, unless the settings are too long
 abbrev pub FollowsFiles : Running → Option (List ℕ) → Option (List ℕ) → Result ℕ WriteFault → Type 0
 FollowsFiles running old new written =
@@ -156,7 +173,9 @@ CarriesOut (order.Explain explaining) input old new old_errors new_errors writte
 CarriesOut (order.Check path) input old new old_errors new_errors written =
     ChecksSettings old new written × (new_errors ≡ old_errors)
 CarriesOut (order.Sim running) input old new old_errors new_errors written = RunsFiles false running old new written × (new_errors ≡ old_errors)
+CarriesOut (order.Measure running) input old new old_errors new_errors written = MeasuresFiles running old new written × (new_errors ≡ old_errors)
 CarriesOut (order.Follow path running) input old new old_errors new_errors written = FollowsFiles running old new written × (new_errors ≡ old_errors)
+CarriesOut (order.Drive driving) input old new old_errors new_errors written = DrivesFiles driving input old new written
 CarriesOut (order.Run running) input old new old_errors new_errors written = RunsFiles true running old new written × (new_errors ≡ old_errors)
 
 -- the status of an order for which this was written

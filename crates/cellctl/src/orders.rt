@@ -1,13 +1,14 @@
 //! What is done for an order, over any reader and writers.
-ghost use Rattle.std.specs.Prelude.{◌≡◌, IfErr, IfOk};
-ghost use Rattle.cellctl.specs.Carried.{Audits, CarriesOut, ChecksSettings, FollowsFiles, MigratesText, OfText, RunsFiles};
+ghost use Rattle.std.specs.Prelude.{◌≡◌, ◌⊎◌, IfErr, IfOk};
+ghost use Rattle.cellctl.specs.Carried.{Audits, CarriesOut, ChecksSettings, DrivesFiles, FollowsFiles, MeasuresFiles, MigratesText, OfText, RunsFiles};
 
 use crate::explain::explain_words;
 use crate::failure::Failure;
 use crate::show::show_words;
 use crate::texts::{journal_in, script_in, settings_in, tell_too_long};
-use cell_command::{Order, Paths, Running};
-use cell_lines::{WriteFault, audit_lines, migrate_lines};
+use cell_command::{Driving, Order, Paths, Running};
+use cell_drive::{drive_texts, measure_texts};
+use cell_lines::{WriteFault, audit_lines, migrate_lines, status};
 use cell_runs::{KeptRun, Left, follow_texts_kept, run_texts_kept};
 use cell_settings::check_lines;
 use std::io::{Read, Write};
@@ -125,6 +126,48 @@ fn run_files<'a, R: AllocGlobal + Files + Threads + Wait + Sync, W: Write>(
     Ok(with_ending(ran, running.explain, faults, operator))
 }
 
+// The status of a run with its measures: the run's, but where memory was refused for the measures.
+fn status_with(run: u8, measures: u8) -> u8
+    ensures { (result ≡ run) ⊎ (result ≡ 4) }
+{
+    if measures == status::OUT_OF_MEMORY {
+        measures
+    } else {
+        run
+    }
+}
+
+// Runs the simulated cell in rounds by what three files say, and tells what is measured of it. The files are all read before any is
+// judged.
+fn measure_files<'a, R: AllocGlobal + Files + Threads + Wait + Sync, W: Write>(
+    rt: &R,
+    output: &mut W,
+    running: Running<'a>,
+) -> Result<Carried, Failure<'a>>
+    ensures { IfOk result (λ c. MeasuresFiles running.entry (W.contents output.old) (W.contents output.new) c.written) }
+{
+    let Texts {
+        settings,
+        faults,
+        operator,
+    } = read_files(rt, running.paths)?;
+    let Some(settings) = settings else {
+        return Ok(without_ending(tell_too_long(output)));
+    };
+    let settings = settings.as_slice();
+    let (scripted, commanded) = (faults.as_slice(), operator.as_slice());
+    let journal = running.journal;
+    let ran = run_texts_kept(rt, settings, scripted, commanded, false, journal, output);
+    let Ok((status, left)) = ran else {
+        return Ok(without_ending(Err(WriteFault)));
+    };
+    let Ok(measured) = measure_texts(rt, settings, scripted, commanded, output) else {
+        return Ok(without_ending(Err(WriteFault)));
+    };
+    let told = Ok((status_with(status, measured), left));
+    Ok(with_ending(told, running.explain, faults, operator))
+}
+
 // Follows the journal in a file by what three files say. All files are read before any is judged.
 fn follow_files<'a, R: AllocGlobal + Files + Wait, W: Write>(
     rt: &R,
@@ -153,6 +196,41 @@ fn follow_files<'a, R: AllocGlobal + Files + Wait, W: Write>(
         output,
     );
     Ok(with_ending(told, running.explain, faults, operator))
+}
+
+// Lets a method on the input drive the simulated cell by what three files say. The files are all read before any is judged.
+fn drive_files<'a, R: AllocGlobal + Files + Wait, I: Read + Drop, W: Write, E: Write>(
+    rt: &R,
+    input: I,
+    output: &mut W,
+    errors: &mut E,
+    driving: Driving<'a>,
+) -> Result<Result<u8, WriteFault>, Failure<'a>>
+    ensures { IfOk result (λ written. DrivesFiles driving.entry (I.remaining input) (W.contents output.old) (W.contents output.new) written) }
+{
+    let Texts {
+        settings,
+        faults,
+        operator,
+    } = read_files(rt, driving.running.paths)?;
+    let Some(settings) = settings else {
+        return Ok(tell_too_long(output));
+    };
+    let told = cell_drive::Driving {
+        raw: driving.raw,
+        journal: driving.running.journal,
+        explain: driving.running.explain,
+    };
+    Ok(drive_texts(
+        rt,
+        settings.as_slice(),
+        faults.as_slice(),
+        operator.as_slice(),
+        told,
+        input,
+        output,
+        errors,
+    ))
 }
 
 // Audits the journal in a file, or that on the input where no file is named.
@@ -229,7 +307,11 @@ pub(crate) fn carry_out<
         )?)),
         Order::Check(path) => Ok(without_ending(check(rt, output, path)?)),
         Order::Sim(running) => run_files(rt, output, false, running),
+        Order::Measure(running) => measure_files(rt, output, running),
         Order::Follow(path, running) => follow_files(rt, output, path, running),
+        Order::Drive(driving) => Ok(without_ending(drive_files(
+            rt, input, output, errors, driving,
+        )?)),
         Order::Run(running) => run_files(rt, output, true, running),
     }
 }

@@ -17,7 +17,7 @@ const ORDERS: [&str; 7] = [
     "cellctl check settings.toml|Check(\"settings.toml\")",
 ];
 
-const REFUSED: [&str; 22] = [
+const REFUSED: [&str; 25] = [
     "cellctl brew|InvalidSubcommand",
     "cellctl run|MissingRequiredArgument",
     "cellctl sim|MissingRequiredArgument",
@@ -27,6 +27,9 @@ const REFUSED: [&str; 22] = [
     "cellctl sim a b c --follow|InvalidValue",
     "cellctl run a b c d|UnknownArgument",
     "cellctl run --follow a b c d|UnknownArgument",
+    "cellctl run --measures a b c|UnknownArgument",
+    "cellctl drive a b|MissingRequiredArgument",
+    "cellctl drive --measures a b c|UnknownArgument",
     "cellctl check|MissingRequiredArgument",
     "cellctl check one.toml two.toml|UnknownArgument",
     "cellctl audit one.journal two.journal|UnknownArgument",
@@ -42,7 +45,7 @@ const REFUSED: [&str; 22] = [
     "cellctl|DisplayHelpOnMissingArgumentOrSubcommand",
 ];
 
-const RUNS: [&str; 4] = [
+const RUNS: [&str; 8] = [
     "cellctl sim cell.toml none.faults none.operator|Sim(Running { journal: false, explain: false, \
         paths: Paths { settings: \"cell.toml\", faults: \"none.faults\", operator: \"none.operator\" } })",
     "cellctl sim cell.toml none.faults none.operator --journal|Sim(Running { journal: true, explain: false, \
@@ -50,6 +53,16 @@ const RUNS: [&str; 4] = [
     "cellctl sim --follow run.journal --journal cell.toml none.faults none.operator|\
         Follow(\"run.journal\", Running { journal: true, explain: false, \
         paths: Paths { settings: \"cell.toml\", faults: \"none.faults\", operator: \"none.operator\" } })",
+    "cellctl sim --measures cell.toml none.faults none.operator|Measure(Running { journal: false, explain: false, \
+        paths: Paths { settings: \"cell.toml\", faults: \"none.faults\", operator: \"none.operator\" } })",
+    "cellctl sim --measures --follow run.journal cell.toml none.faults none.operator|\
+        Follow(\"run.journal\", Running { journal: false, explain: false, \
+        paths: Paths { settings: \"cell.toml\", faults: \"none.faults\", operator: \"none.operator\" } })",
+    "cellctl drive cell.toml none.faults none.operator|Drive(Driving { raw: false, running: Running { journal: false, \
+        explain: false, paths: Paths { settings: \"cell.toml\", faults: \"none.faults\", operator: \"none.operator\" } } })",
+    "cellctl drive --raw --explain cell.toml none.faults none.operator|\
+        Drive(Driving { raw: true, running: Running { journal: false, \
+        explain: true, paths: Paths { settings: \"cell.toml\", faults: \"none.faults\", operator: \"none.operator\" } } })",
     "cellctl run --explain cell.toml none.faults none.operator|Run(Running { journal: false, explain: true, \
         paths: Paths { settings: \"cell.toml\", faults: \"none.faults\", operator: \"none.operator\" } })",
 ];
