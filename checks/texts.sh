@@ -189,7 +189,8 @@ outputs_that_fail() {
     printf 'profile,1,,\n' > journal
     for words in 'audit' 'migrate' 'show' 'show --svg' 'show --html' 'explain' 'explain --settings good' '--help' '--version' 'check good' \
         'audit journal' 'migrate journal' 'show --file journal' 'explain journal' 'sim good none none' 'sim --explain good none none' \
-        'sim --journal good none none' 'run good none none' 'run --journal good none none'; do
+        'sim --journal good none none' 'sim --measures good none none' 'run good none none' 'run --journal good none none' \
+        'drive good none none' 'drive --raw good none none'; do
         # The words of a command are parted at blanks.
         # shellcheck disable=SC2086
         {
