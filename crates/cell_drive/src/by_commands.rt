@@ -1,5 +1,4 @@
 //! A run by commands: the method answers for itself, and the world is watched.
-ghost use Rattle.std.specs.Prelude.{◌≡◌};
 
 use crate::measures::Measures;
 use crate::report::{explain_broken, write_end, write_world};
@@ -7,7 +6,6 @@ use crate::texts::{Told, status_of, write_told};
 use crate::wish::{Wish, wish_of};
 use cell_method::{DriveError, End, LineReader, MAX_LINES, ReadingLine};
 use cell_rows::{TellsFault, read_script};
-use cell_runs::Inputs;
 use cell_sim::{FaultScript, SimOperator, SimPort, World, sim_ports};
 use cell_turns::{OperatorPort, Plan, Port, Ports};
 use cell_types::texts::{machine_word, station_word};

@@ -1,9 +1,8 @@
 //! A run by entries.
-ghost use Rattle.std.specs.Prelude.{◌≡◌, ◌≢◌, ◌<◌, ◌⊎◌, ◌++◌, ◌∷◌, [], codes, true, IfOk, IsOk, OnOk};
-ghost use Rattle.std.specs.Io.KnownBytes.{Appends};
+ghost use Rattle.std.specs.Prelude.{◌≡◌, ◌≢◌, ◌<◌, [], IfOk, IsOk};
 ghost use Rattle.cell_runs.specs.Runs.{limits_of};
 ghost use Rattle.cell_method.specs.Lines.{lines_left};
-ghost use Rattle.cell_drive.specs.Drives.{DrivesEntries, drive_line};
+ghost use Rattle.cell_drive.specs.Drives.{DrivesEntries};
 
 use crate::looker::Looker;
 use crate::report::{explain_broken, explain_untrue, write_end, write_refusals, write_world};

@@ -14,7 +14,7 @@ use cell_turns::{Plan, Port, PortFault, Ports};
 use cell_types::{Command, Machine};
 use operator_desk::Script;
 use plate_book::Book;
-use std::alloc::{AllocError, Global};
+use std::alloc::AllocError;
 use std::io;
 use std::io::Write;
 use std::marker::Brand;

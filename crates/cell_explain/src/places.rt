@@ -1,5 +1,5 @@
 //! Where the records of a text stand in it, by the rules of csv.
-ghost use Rattle.std.specs.Prelude.{◌≡◌, ◌≤◌, IfSome, length};
+ghost use Rattle.std.specs.Prelude.{◌≤◌, IfSome, length};
 ghost use Rattle.cell_explain.specs.Told.{StandsIn};
 
 /// Where in a text the next byte comes.

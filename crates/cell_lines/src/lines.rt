@@ -1,5 +1,5 @@
 //! What is printed for an audit and for a migration.
-ghost use Rattle.std.specs.Prelude.{◌≡◌, ◌≢◌, ◌⊎◌, [], IfErr, IfOk, IsErr, Ok, OnOk, codes, true};
+ghost use Rattle.std.specs.Prelude.{◌≡◌, ◌≢◌, ◌⊎◌, [], IfOk, IsErr, Ok, OnOk, codes, true};
 ghost use Rattle.std.specs.Io.KnownBytes.{Appends};
 ghost use Rattle.cell_rows.specs.Rows.{IsOpen, device_failed, rows_left};
 ghost use Rattle.cell_audit.specs.Migrated.{rows_in};

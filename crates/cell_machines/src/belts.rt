@@ -1,5 +1,5 @@
 //! What the two belts do next.
-ghost use Rattle.std.specs.Prelude.{◌≡◌, Bool, not, ◌&&◌, true, false};
+ghost use Rattle.std.specs.Prelude.{◌≡◌, ◌&&◌, true};
 ghost use Rattle.cell_types.specs.declared.words.Entry.TheVariants.{Started};
 ghost use Rattle.cell_types.specs.declared.words.Axis.TheVariants as axes;
 ghost use Rattle.cell_types.specs.declared.words.Pose.TheVariants as poses;

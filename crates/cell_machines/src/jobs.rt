@@ -1,5 +1,5 @@
 //! The robot's jobs, each named by the pose of the turn where it is done.
-ghost use Rattle.std.specs.Prelude.{◌≡◌, not, ◌&&◌, ◌||◌};
+ghost use Rattle.std.specs.Prelude.{◌≡◌, ◌&&◌, ◌||◌};
 ghost use Rattle.cell_types.specs.Cell.{faced};
 ghost use Rattle.cell_types.specs.After.{is_machine};
 ghost use Rattle.cell_views.specs.Situations.{situation_of};

@@ -1,5 +1,5 @@
 //! What the robot does next.
-ghost use Rattle.std.specs.Prelude.{◌≡◌, ℕ, not, ◌&&◌, ◌||◌, true, false, map, is_some, IfSome};
+ghost use Rattle.std.specs.Prelude.{◌≡◌, not, ◌&&◌, ◌||◌, true, false, map, is_some};
 ghost use Rattle.cell_types.specs.Cell.{grips_at, drops_at, station_of_arm};
 ghost use Rattle.cell_types.specs.Same.{same_pose};
 ghost use Rattle.cell_types.specs.declared.words.Entry.TheVariants.{Gripped, Dropped};

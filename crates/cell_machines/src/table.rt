@@ -1,5 +1,5 @@
 //! What the table does next.
-ghost use Rattle.std.specs.Prelude.{◌≡◌, not, ◌&&◌, true, false};
+ghost use Rattle.std.specs.Prelude.{◌≡◌, ◌&&◌};
 ghost use Rattle.cell_types.specs.declared.words.Machine.TheVariants as machines;
 ghost use Rattle.cell_views.specs.Situations.{situation_of};
 ghost use Rattle.cell_machines.specs.Table.{is_lift_at_target, is_turn_at_target, is_table_at_rest, is_at_target, is_off_target};

@@ -1,5 +1,5 @@
 //! What a line of a method asks for.
-ghost use Rattle.std.specs.Prelude.{◌≡◌, codes};
+ghost use Rattle.std.specs.Prelude.{◌≡◌};
 ghost use Rattle.cell_method.specs.Asked.{ask_of, asked_by, has_word, to_book};
 ghost use Rattle.cell_method.specs.Lines.{current};
 

@@ -1,5 +1,5 @@
 //! A round's lines: each is answered, and the entry that it asks for is booked where it is allowed.
-ghost use Rattle.std.specs.Prelude.{◌≡◌, Bool, IfOk, IsErr, List, ℕ, true};
+ghost use Rattle.std.specs.Prelude.{◌≡◌, Bool, IfOk, IsErr, true};
 ghost use Rattle.cell_types.specs.Entries.{actor_of, command_of};
 ghost use Rattle.cell_types.specs.declared.words.Actor.TheVariants as actors;
 ghost use Rattle.plate_book.specs.Rules.Legal.{first_of};

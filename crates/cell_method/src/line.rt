@@ -1,5 +1,5 @@
 //! The lines of a reader's text.
-ghost use Rattle.std.specs.Prelude.{◌≡◌, ◌≢◌, ◌∷◌, [], ℕ, List, true, length, IfOk, IfSome, IsErr, IsNone, None, Some, OnOk, ◌++◌, option_map};
+ghost use Rattle.std.specs.Prelude.{◌≡◌, ◌∷◌, [], ℕ, List, true, IfOk, IfSome, IsNone, None, Some, ◌++◌, option_map};
 ghost use Rattle.std.specs.Io.KnownBytes.{Consumes, IsAtEnd};
 ghost use Rattle.cell_method.specs.Lines.{EndsLine, Holds, TakesLine, current, is_blank, is_within, lines_left, lines_of, without_return};
 

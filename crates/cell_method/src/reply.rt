@@ -1,5 +1,5 @@
 //! The answer to a line of a method.
-ghost use Rattle.std.specs.Prelude.{◌≡◌, OnOk, codes};
+ghost use Rattle.std.specs.Prelude.{◌≡◌, OnOk};
 ghost use Rattle.std.specs.Io.KnownBytes.{Appends};
 ghost use Rattle.cell_method.specs.Replies.{line_of, word_or_blank};
 

@@ -1,5 +1,5 @@
 //! The four fields of a line.
-ghost use Rattle.std.specs.Prelude.{◌≡◌, ◌≢◌, ◌<◌, ◌∷◌, ◌++◌, [], length, IfSome, IsNone, Some, None};
+ghost use Rattle.std.specs.Prelude.{◌≡◌, ◌≢◌, ◌<◌, ◌∷◌, [], length, IfSome, IsNone, Some, None};
 ghost use Rattle.cell_method.specs.Split.{fields_after, fits, has_quote, record_of};
 
 use cell_rows::Four;

@@ -1,5 +1,5 @@
 //! The text of settings.
-ghost use Rattle.std.specs.Prelude.{◌≡◌, ◌≤◌, ◌<◌, length, IfOk, IfSome, IsNone};
+ghost use Rattle.std.specs.Prelude.{◌≤◌, ◌<◌, length, IfOk, IfSome, IsNone};
 ghost use Rattle.cell_reading.specs.Parts.{IsWhole};
 
 use crate::more::read_on;

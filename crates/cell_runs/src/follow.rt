@@ -1,8 +1,7 @@
 //! A run on one thread that follows a journal: for each of its entries the entry's actor alone acts, until he books one.
-ghost use Rattle.std.specs.Prelude.{◌≡◌, ◌<◌, ◌+◌, ◌++◌, [], ℕ, List, true, false, Some, IfOk, IfErr, option_to_list, length, slice_get};
+ghost use Rattle.std.specs.Prelude.{◌≡◌, ◌<◌, ◌+◌, ◌++◌, [], false, Some, IfOk, IfErr, option_to_list};
 ghost use Rattle.cell_types.specs.Entries.{actor_of};
 ghost use Rattle.cell_types.specs.declared.words.Machine.{Machine as MachineValue};
-ghost use Rattle.cell_types.specs.declared.words.Entry.{Entry as EntryValue};
 ghost use Rattle.cell_types.specs.declared.words.Actor.TheVariants as actors;
 ghost use Rattle.cell_turns.specs.declared.six.Six.{Six as SixValue};
 ghost use Rattle.cell_turns.specs.Minds.{Mind, machine_of_watch};

@@ -7,7 +7,7 @@ ghost use Rattle.cell_turns.specs.declared.plan.Plan.{Plan as PlanValue};
 ghost use Rattle.operator_desk.specs.declared.line.Line.{Line};
 ghost use Rattle.cell_runs.specs.Followed.{IsFollowed};
 ghost use Rattle.cell_runs.specs.Runs.{counts_after, kept, limits_of};
-ghost use Rattle.cell_runs.specs.Told.{PartOfFollowed, PrintsOrLacks, WritesFollowed, end_of, first_line, followed_status, followed_text};
+ghost use Rattle.cell_runs.specs.Told.{PartOfFollowed, PrintsOrLacks, WritesFollowed, end_of, first_line, followed_status};
 
 use crate::follow::{Followed, Following};
 use crate::report::write_counts;

@@ -2,7 +2,6 @@
 ghost use Rattle.std.specs.Prelude.{◌≡◌, IfOk, IsErr, OnOk, true};
 ghost use Rattle.std.specs.Io.KnownBytes.{Appends};
 ghost use Rattle.cell_audit.specs.Watched.{IsSameWriter, WritesPart, bytes_held, has_refused};
-ghost use Rattle.cell_settings.specs.Settings.{numbers_of};
 ghost use Rattle.cell_settings.specs.Checked.{TellsCheck, TellsPart, WritesLine, error_line, line_of, path_line};
 
 use crate::error::SettingsError;

@@ -1,6 +1,5 @@
 //! Which keys settings have, and the first that is unknown.
 ghost use Rattle.std.specs.Prelude.{◌≡◌, Err, Some, is_some, option_and_then, option_map};
-ghost use Rattle.cell_types.specs.Texts.{axis_named};
 ghost use Rattle.toml.specs.Data.{as_table, get_member};
 ghost use Rattle.toml.specs.View.{table_view, view};
 ghost use Rattle.cell_settings.specs.Keys.{dotted, is_axis_key, is_limit_key, is_number_key, stray, stray_at, stray_axis, stray_limit, stray_top};

@@ -1,5 +1,5 @@
 //! Reading settings.
-ghost use Rattle.std.specs.Prelude.{◌≡◌, ◌≤◌, IfOk, Result, Ok};
+ghost use Rattle.std.specs.Prelude.{Result, Ok};
 ghost use Rattle.toml.specs.View.{table_view};
 ghost use Rattle.cell_settings.specs.Settings.{AnswersText, Gives, GivesNumbers, axes_due, numbers_due, numbers_of, settings_due};
 ghost use Rattle.cell_types.specs.Texts.{all_axis};

@@ -1,14 +1,10 @@
 //! Schedules of turns and acts by hand, on one thread.
-ghost use Rattle.std.specs.Prelude.{◌≡◌, ◌≢◌, ◌≤◌, ◌<◌, ◌+◌, ◌^◌, ◌++◌, ◌∷◌, [], ℕ, List, Bool, true, false, IfOk, IfSome, OnOk, OnErr, is_none, option_to_list};
-ghost use Rattle.cell_types.specs.Entries.{actor_of};
+ghost use Rattle.std.specs.Prelude.{◌≡◌, ◌≤◌, ◌<◌, ◌+◌, ◌^◌, ◌++◌, ◌∷◌, [], List, Bool, true, false, IfOk, OnOk, OnErr};
 ghost use Rattle.cell_types.specs.declared.words.Actor.TheVariants as actors;
 ghost use Rattle.cell_types.specs.declared.words.Machine.{Machine as MachineValue};
-ghost use Rattle.cell_types.specs.declared.words.Entry.{Entry as EntryValue};
-ghost use Rattle.cell_views.specs.Views.{count_of};
 ghost use Rattle.plate_book.specs.Rules.History.{History};
 ghost use Rattle.plate_book.specs.Rules.Legal.{legal};
-ghost use Rattle.cell_ledger.specs.Counts.{plus};
-ghost use Rattle.cell_ledger.specs.Held.{Held, held};
+ghost use Rattle.cell_ledger.specs.Held.{Held};
 ghost use Rattle.cell_turns.specs.declared.six.Six.{Six as SixValue};
 ghost use Rattle.cell_turns.specs.declared.schedule.Step.{Step as StepValue};
 ghost use Rattle.cell_turns.specs.declared.schedule.Step.TheVariants as steps;
@@ -17,8 +13,7 @@ ghost use Rattle.cell_turns.specs.Six.{at, map_six};
 ghost use Rattle.cell_turns.specs.Logs.{Log, ActLog};
 ghost use Rattle.cell_turns.specs.Sent.{Sends};
 ghost use Rattle.cell_turns.specs.Acts.{Did, ActedAtMost};
-ghost use Rattle.cell_turns.specs.Minds.{Mind, FitsMind, machine_of_watch, has_failed_command};
-ghost use Rattle.cell_turns.specs.Turns.{IsDecided, mind_after};
+ghost use Rattle.cell_turns.specs.Minds.{machine_of_watch, has_failed_command};
 ghost use Rattle.cell_turns.specs.Schedules.{Scheduled, Grown, AllSent, act_at, CanStop, Stopped};
 ghost use Rattle.cell_turns.specs.Steps.{TurnedAt, TurnedAway, GrewBy};
 

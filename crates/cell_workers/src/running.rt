@@ -13,7 +13,7 @@ ghost use Rattle.cell_workers.specs.Report.{IsReport, AreAllOf};
 
 use crate::ends::End;
 use crate::hall::{Hall, Room};
-use crate::team::{Crew, Done, Lent, Team, crew_of, lend, run_team};
+use crate::team::{Done, Lent, Team, crew_of, lend, run_team};
 use crate::{OperatorPort, Plan, Port, Ports, Six};
 use cell_journal::Journal;
 use cell_ledger::{Blanks, Kept, Run, Shares};

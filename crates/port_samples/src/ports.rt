@@ -1,5 +1,5 @@
 //! A port that tells what it was asked and fails as a test wants.
-ghost use Rattle.std.specs.Prelude.{◌≡◌, ◌+◌, ◌++◌, ◌∷◌, [], true, is_ok, if◌then◌else◌};
+ghost use Rattle.std.specs.Prelude.{◌≡◌, ◌+◌, true, if◌then◌else◌};
 
 use crate::Failing;
 use cell_diagnosis::Reading;

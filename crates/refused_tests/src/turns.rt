@@ -1,5 +1,5 @@
 //! Turns and schedules of turns.
-ghost use Rattle.std.specs.Prelude.{◌≡◌, ◌<◌, ◌≤◌};
+ghost use Rattle.std.specs.Prelude.{◌≡◌, ◌<◌};
 ghost use Rattle.cell_types.specs.declared.words.Machine.{Machine as MachineValue};
 ghost use Rattle.cell_turns.specs.Six.{at};
 ghost use Rattle.cell_turns.specs.Minds.{machine_of_watch};

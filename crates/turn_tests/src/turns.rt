@@ -9,7 +9,7 @@ use cell_diagnosis::{Limits, Reading};
 use cell_ledger::{Blanks, Kept, Run, Shares};
 use cell_samples::{LAID_BACK, Told, begun, book_all};
 use cell_turns::{Plan, TurnError, Watch, turn};
-use cell_types::{Belt, Colour, Command, Entry, Machine, read_fields};
+use cell_types::{Belt, Colour, Command, Entry, Machine};
 use plate_book::{Book, Refusal};
 use std::alloc::Global;
 use std::marker::Brand;
