@@ -2,15 +2,16 @@
 """Tries the edits of edits/: changes of the code, mostly of one line, after which it does another thing than its contract
 says, so that the prover has to refuse them. Usage: checks/edits.sh [changed | all | tried | CRATE..]
 
-  changed   (no word) those of the crates whose digest isn't in edits/TRIED
+  changed   (no word) those whose digest isn't in edits/TRIED
   all       those of every crate
   CRATE..   those of these crates
-  tried     tries none: says which crates changed since all their edits were refused, and fails where there is one
+  tried     tries none: says which crates have edits that weren't refused as they stand, and fails where there is one
 
 It first proves what isn't proved. Then `rt must-fail` tries the edits of several crates side by side, each crate in a room of
 its own, in which they stand in must-fail/, and where there are fewer crates than processors several edits of each. It says of
-each whether it was refused, and by what. edits/TRIED has a line for each crate whose edits were all refused: a digest over
-its src, specs, proofs and edits."""
+each whether it was refused, and by what. edits/TRIED has a line for each edit that was refused: a digest over the edit, the
+file that it changes, the crate's specs and proofs, and what its other files promise. Imports and hints to inline count for
+nothing in it, since they change no meaning."""
 
 import hashlib
 import os
@@ -35,40 +36,66 @@ def edits_of(crate):
     return [f"{folder}/{it}" for it in names if it.endswith(".edit")]
 
 
-def digest_of(crate):
-    """A digest over the files of a crate's sources and edits."""
-    digest = hashlib.sha256()
-    folders = [*(f"crates/{crate}/{part}" for part in rooms.PARTS), f"edits/{crate}"]
-    walks = [walk for folder in folders for walk in os.walk(f"{rooms.TREE}/{folder}")]
+def plain(text):
+    """The text of a source file without its imports and its hints to inline."""
+    text = re.sub(r"^(?:ghost )?use [^;]*;\n", "", text, flags=re.MULTILINE)
+    return re.sub(r"^ *#\[inline(?:\(always\))?\]\n", "", text, flags=re.MULTILINE)
+
+
+def promises(text):
+    """What the functions of a source file promise and require."""
+    return "\n".join(line.strip() for line in text.split("\n") if re.match(r" *(?:ensures|requires) ", line))
+
+
+def read(file):
+    with open(file, encoding="utf-8") as text:
+        return text.read()
+
+
+def name_of(edit):
+    """The name of an edit in edits/TRIED."""
+    return f"{os.path.basename(os.path.dirname(edit))}/{os.path.basename(edit).removesuffix('.edit')}"
+
+
+def digest_of(edit):
+    """A digest over an edit and all that it depends on in its crate."""
+    crate = f"{rooms.TREE}/crates/{os.path.basename(os.path.dirname(edit))}"
+    changed = f"{crate}/{re.search(r'^file: (.*)$', read(edit), re.MULTILINE)[1]}"
+    walks = [walk for part in rooms.PARTS for walk in os.walk(f"{crate}/{part}")]
+    parts = [read(edit)]
     for file in sorted(f"{at}/{it}" for at, _, names in walks for it in names):
-        with open(file, "rb") as text:
-            sum_of_file = hashlib.sha256(text.read()).hexdigest()
-        digest.update(f"{os.path.relpath(file, rooms.TREE)}\n{sum_of_file}\n".encode())
-    return digest.hexdigest()
+        text = read(file)
+        if file.startswith(f"{crate}/src/"):
+            text = plain(text) if file == changed else promises(text)
+        parts.append(f"{os.path.relpath(file, crate)}\n{text}")
+    return hashlib.sha256("\n".join(parts).encode()).hexdigest()
 
 
 def read_tried():
-    """The digests at which all edits of crates were refused."""
+    """The digests at which edits were refused."""
     if not os.path.isfile(TRIED):
         return {}
     with open(TRIED, encoding="utf-8") as lines:
         return dict(line.split() for line in lines)
 
 
-def note_tried(crate, digest):
-    """Notes that all edits of a crate were refused, or by no digest that they weren't."""
-    tried = {**read_tried(), crate: digest}
+def note_tried(digests):
+    """Notes the digests at which edits were refused, and none for those that weren't."""
+    tried = {**read_tried(), **digests}
+    there = {name_of(edit) for crate in rooms.read_crates() for edit in edits_of(crate)}
     with open(f"{TRIED}.new", "w", encoding="utf-8") as lines:
-        lines.writelines(f"{name} {tried[name]}\n" for name in sorted(tried) if tried[name] and edits_of(name))
+        lines.writelines(f"{name} {tried[name]}\n" for name in sorted(tried) if tried[name] and name in there)
     os.replace(f"{TRIED}.new", TRIED)
 
 
-def try_crate(crates, name, jobs, place):
-    """Tries the edits of a crate in a room, so many side by side, where they stand where rt looks for them, and returns what rt
+def try_crate(crates, name, edits, jobs, place):
+    """Tries edits of a crate in a room, so many side by side, where they stand where rt looks for them, and returns what rt
     said."""
     room = f"{place}/{name}"
     rooms.open_room(room, crates, [name])
-    shutil.copytree(f"{EDITS}/{name}", f"{room}/crates/{name}/must-fail")
+    os.makedirs(f"{room}/crates/{name}/must-fail")
+    for edit in edits:
+        shutil.copy(edit, f"{room}/crates/{name}/must-fail")
     kept = f"{rooms.TREE}/crates/{name}/out/incremental"
     if os.path.isdir(kept):
         rooms.link(kept, f"{room}/crates/{name}/out/incremental")
@@ -77,51 +104,54 @@ def try_crate(crates, name, jobs, place):
     return said
 
 
-def try_all(names):
-    """Tries the edits of these crates, several crates side by side, and notes those whose edits were all refused. Returns how
-    many crates have one that wasn't."""
+def try_all(due):
+    """Tries these edits, by their crates, several crates side by side, and notes those that were refused. Returns how many
+    weren't."""
     crates, clock, printing, failed = rooms.read_crates(), rooms.Clock(), threading.Lock(), []
     with tempfile.TemporaryDirectory(prefix="edits-") as place:
 
         def task(name, jobs):
-            digest = digest_of(name)
-            said = try_crate(crates, name, jobs, place)
-            refused = len(re.findall(rf"^(?:rt: )?must-fail {name}/\S+: refused, as it must be", said, re.MULTILINE))
-            is_well = refused == len(edits_of(name)) and digest_of(name) == digest
+            digests = {name_of(edit): digest_of(edit) for edit in due[name]}
+            said = try_crate(crates, name, due[name], jobs, place)
+            refused = re.findall(rf"^(?:rt: )?must-fail ({name}/\S+): refused, as it must be", said, re.MULTILINE)
+            refused = {it.removesuffix(".edit") for it in refused}
+            now = {name_of(edit): digest_of(edit) for edit in due[name]}
             with printing:
                 print(said, end="")
-                print(f"edits: {name}: {refused} of {len(edits_of(name))} refused, after {clock}", flush=True)
-                note_tried(name, digest if is_well else None)
-                failed.extend([] if is_well else [name])
+                print(f"edits: {name}: {len(refused)} of {len(digests)} refused, after {clock}", flush=True)
+                note_tried({it: digests[it] if it in refused and now[it] == digests[it] else None for it in digests})
+                failed.extend(it for it in digests if it not in refused or now[it] != digests[it])
             return True
 
-        rank = {it: rooms.lines_of(it) * (len(edits_of(it)) + 10) for it in names}
-        tasks = {it: ([], rank[it], lambda jobs, name=it: task(name, jobs)) for it in names}
+        rank = {it: rooms.lines_of(it) * (len(due[it]) + 10) for it in due}
+        tasks = {it: ([], rank[it], lambda jobs, name=it: task(name, jobs)) for it in due}
         lanes = rooms.lanes()
-        rooms.in_lanes(tasks, lanes, max(1, lanes // len(names)))
+        rooms.in_lanes(tasks, lanes, max(1, lanes // len(due)))
     return len(failed)
 
 
 def main(words):
     named = [it for it in sorted(rooms.read_crates()) if edits_of(it)]
     tried = read_tried()
-    changed = [it for it in named if tried.get(it) != digest_of(it)]
+    changed = {it: [edit for edit in edits_of(it) if tried.get(name_of(edit)) != digest_of(edit)] for it in named}
+    changed = {it: edits for it, edits in changed.items() if edits}
     if words == ["tried"]:
-        for it in changed:
-            print(f"edits: {it} or its edits changed since all of them were refused: checks/edits.sh tries them")
+        for it, edits in changed.items():
+            print(f"edits: {len(edits)} of {it} weren't refused as they and the crate stand: checks/edits.sh tries them")
         return 1 if changed else 0
     unknown = [it for it in words if it not in named and it not in ("changed", "all")]
     if unknown or len(words) > 1 and {"changed", "all"} & {*words}:
         print(f"edits: no crate with edits is named {' '.join(unknown or words)}", file=sys.stderr)
         return 2
-    names = named if words == ["all"] else changed if words in ([], ["changed"]) else words
-    if not names:
+    whole = {it: edits_of(it) for it in (named if words == ["all"] else words)}
+    due = changed if words in ([], ["changed"]) else whole
+    if not due:
         print("edits: every edit was tried on these sources")
         return 0
+    count = sum(len(edits) for edits in due.values())
     with rooms.alone():
-        failed = try_all(names) if prove.prove_all(names) else len(names)
-    count = sum(len(edits_of(it)) for it in names)
-    print(f"edits: {count} tried of {len(names)} crates, {failed} crates with one that wasn't refused")
+        failed = try_all(due) if prove.prove_all([*due]) else count
+    print(f"edits: {count} tried of {len(due)} crates, {failed} that weren't refused")
     return 1 if failed else 0
 
 
