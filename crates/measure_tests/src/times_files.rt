@@ -1,0 +1,99 @@
+//! Files of times.
+use cell_measures::{Durations, Motion, read_durations};
+use cell_types::{Axis, Pose};
+use std::process::Abort;
+
+fn time_of<R: AllocGlobal + Abort>(rt: &R, text: &str, axis: Axis, to: Pose) -> u16 {
+    match read_durations(rt.alloc(), text.as_bytes()) {
+        Ok(durations) => durations.of(Motion { axis, to }),
+        Err(_) => panic!(rt; "the text is refused"),
+    }
+}
+
+// The text is refused by this line.
+fn is_refused<R: AllocGlobal + Abort>(rt: &R, text: &str, line: &str) {
+    match read_durations(rt.alloc(), text.as_bytes()) {
+        Ok(_) => panic!(rt; "the text is taken"),
+        Err(error) => {
+            let told = error.line(rt.alloc()).expect(rt, "memory");
+            let told = told.expect(rt, "a line");
+            assert!(rt; told.as_str() == line);
+        }
+    }
+}
+
+const TIMES: &str = "\
+[time]
+press_one = 4
+table_lift.high = 0
+feed_belt.to_table = 1000
+";
+
+#[test]
+fn times_are_read(rt: HostRuntime) {
+    assert_eq!(&rt; time_of(&rt, "", Axis::PressOne, Pose::Top), 1);
+    assert_eq!(&rt; time_of(&rt, TIMES, Axis::PressOne, Pose::Top), 4);
+    assert_eq!(&rt; time_of(&rt, TIMES, Axis::PressOne, Pose::Bottom), 4);
+    assert_eq!(&rt; time_of(&rt, TIMES, Axis::PressTwo, Pose::Bottom), 1);
+    assert_eq!(&rt; time_of(&rt, TIMES, Axis::TableLift, Pose::High), 0);
+    assert_eq!(&rt; time_of(&rt, TIMES, Axis::TableLift, Pose::Low), 1);
+    assert_eq!(&rt; time_of(&rt, TIMES, Axis::FeedBelt, Pose::ToTable), 1000);
+    assert_eq!(&rt; time_of(&rt, TIMES, Axis::FeedBelt, Pose::ToEnd), 1);
+}
+
+#[test]
+fn times_are_refused(rt: HostRuntime) {
+    is_refused(&rt, "press_one", "times NotToml");
+    is_refused(&rt, "time = 3\n", "times UnknownKey time");
+    is_refused(&rt, "[times]\n", "times UnknownKey times");
+    is_refused(
+        &rt,
+        "[time]\npress_three = 1\n",
+        "times UnknownKey time.press_three",
+    );
+    is_refused(
+        &rt,
+        "[time]\npress_one.low = 1\n",
+        "times UnknownKey time.press_one.low",
+    );
+    is_refused(
+        &rt,
+        "[time]\nfeed_belt.rest = 1\n",
+        "times UnknownKey time.feed_belt.rest",
+    );
+    is_refused(
+        &rt,
+        "[time]\npress_one = 1001\n",
+        "times OutOfRange time.press_one",
+    );
+    is_refused(
+        &rt,
+        "[time]\npress_one.top = -1\n",
+        "times OutOfRange time.press_one.top",
+    );
+    is_refused(
+        &rt,
+        "[time]\npress_one = 1.5\n",
+        "times NotNumber time.press_one",
+    );
+    is_refused(
+        &rt,
+        "[time]\n\"a\\tb\" = 1\n",
+        "times UnknownKey time.a\\u0009b",
+    );
+}
+
+// An unknown key is told before a number that is out of range.
+#[test]
+fn the_first_error_is_told(rt: HostRuntime) {
+    is_refused(
+        &rt,
+        "[time]\narm_one = 1001\nzebra = 1\n",
+        "times UnknownKey time.zebra",
+    );
+    is_refused(
+        &rt,
+        "[time]\narm_one = 1001\narm_two = 1.5\n",
+        "times OutOfRange time.arm_one",
+    );
+}
