@@ -1,12 +1,13 @@
 -- What the lines of a text give, line by line
-use Rattle.std.proofs.Common.{◌≡◌, ◌∙◌, ◌≤◌, ◌<◌, ◌==◌, ◌&&◌, ℕ, List, [], ◌∷◌, ◌++◌, length, Bool, true, false, not, Option, Some, None, if◌then◌else◌, ap, sym, refl, subst, arith, rules, tests, append_assoc, append-nil}
+use Rattle.std.proofs.Common.{◌≡◌, ◌∙◌, ◌≤◌, ◌<◌, ◌==◌, ◌&&◌, ◌^◌, ◌-◌, ◌+◌, ◌⊎◌, ℕ, inl, inr, List, [], ◌∷◌, ◌++◌, length, Bool, true, false, not, Option, Some, None, if◌then◌else◌, ap, sym, refl, subst, arith, rules, tests, append_assoc, append-nil}
 use Rattle.std.specs.Prelude.{option_map, ⊤}
 use Rattle.std.specs.List.{list_all}
 use Rattle.std.specs.Io.KnownBytes.{Consumes}
 use Rattle.std.proofs.lemmas.Bool.{ltb-true, ltb-false}
-use Rattle.std.proofs.lemmas.List.{take_all}
+use Rattle.std.proofs.KnownBytes.{Consumes-nil, Consumes-trans}
+use Rattle.std.proofs.lemmas.List.{take_all, length-append}
 use Rattle.cell_method.specs.Split.{record_of}
-use Rattle.cell_method.specs.Lines.{EndsLine, HoldsLine, Row, TakesLine, given, is_blank, is_within, lines_after, lines_of, without_return}
+use Rattle.cell_method.specs.Lines.{EndsLine, HoldsLine, IsEndless, Row, TakesLine, given, is_blank, is_within, lines_after, lines_of, without_return}
 use Rattle.cell_method.proofs.Holding.{long-none, return-length}
 
 -- lines that are known stay as they were
@@ -112,3 +113,35 @@ held-blank items false line h =
 
 pub taken-same : (a b c : Option (List ℕ)) (bs : List ℕ) → c ≡ b → Consumes a b bs → Consumes a c bs
 taken-same a b c bs e h = subst (λ x. Consumes a x bs) (sym e) h
+
+-- a line with one more byte
+pub one-longer : (line : List ℕ) (b n : ℕ) → length line ≡ n → length (line ++ b ∷ []) ≡ n + 1
+one-longer line b n h = length-append line (b ∷ []) ∙ omega (arith, h)
+
+-- bytes of which there are as many as these were read
+pub record ReadsSome (old new : Option (List ℕ)) (count : ℕ) : Type 0 where
+  pub text : List ℕ
+  pub taken : Consumes old new text
+  pub many : count ≤ length text
+
+pub none-read : (a : Option (List ℕ)) → ReadsSome a a 0
+none-read a = record { text = []; taken = Consumes-nil a; many = omega arith }
+
+-- one more line, and its line feed
+pub read-more : (a b c : Option (List ℕ)) (count : ℕ) (line : List ℕ) → ReadsSome a b count → EndsLine b c line false → ReadsSome a c (count + 1)
+read-more a b c count line r ends = record {
+  text = r.text ++ (line ++ 10 ∷ []);
+  taken = Consumes-trans a b c _ _ r.taken ends;
+  many = omega (arith, r.many, length-append r.text (line ++ 10 ∷ []), length-append line (10 ∷ []));
+}
+
+endless-after : (a b c : Option (List ℕ)) (count : ℕ) → ReadsSome a b count → IsEndless b c → IsEndless a c
+endless-after a b c count r (text, taken, many) = (r.text ++ text, Consumes-trans a b c _ _ r.taken taken, omega (arith, many, length-append r.text text))
+
+pub endless-read : (a b : Option (List ℕ)) (count : ℕ) → 2 ^ 64 - 1 ≤ count → ReadsSome a b count → IsEndless a b
+endless-read a b count much r = (r.text, r.taken, omega (arith, much, r.many))
+
+-- a fault after these bytes
+pub fault-after : {F : Type 0} (a b c : Option (List ℕ)) (count : ℕ) → ReadsSome a b count → F ⊎ IsEndless b c → F ⊎ IsEndless a c
+fault-after a b c count r (inl failed) = inl failed
+fault-after a b c count r (inr endless) = inr (endless-after a b c count r endless)

@@ -1,7 +1,7 @@
 //! The lines of a reader's text.
-ghost use Rattle.std.specs.Prelude.{◌≡◌, ◌∷◌, [], ℕ, List, true, IfOk, IfSome, IsNone, None, Some, ◌++◌, option_map};
+ghost use Rattle.std.specs.Prelude.{◌≡◌, ◌⊎◌, ◌∷◌, [], ℕ, List, true, IfOk, IfSome, IsErr, IsNone, None, Some, ◌++◌, option_map};
 ghost use Rattle.std.specs.Io.KnownBytes.{Consumes, IsAtEnd};
-ghost use Rattle.cell_method.specs.Lines.{EndsLine, Holds, TakesLine, current, is_blank, is_within, lines_left, lines_of, without_return};
+ghost use Rattle.cell_method.specs.Lines.{EndsLine, Holds, IsEndless, TakesLine, bytes_left, current, has_failed, is_blank, is_within, lines_left, lines_of, without_return};
 
 use crate::split::record_of;
 use arrayvec::ArrayVec;
@@ -37,6 +37,7 @@ fn without_return(line: &[u8]) -> &[u8]
 fn take_byte<R: TellsFault>(source: &mut R) -> Result<Option<u8>, ReadFault>
     ensures some { IfOk result (λ byte. IfSome byte (λ b. Consumes (R.remaining source.old) (R.remaining source.new) (b ∷ []))) }
     ensures none { IfOk result (λ byte. IsNone byte → Consumes (R.remaining source.old) (R.remaining source.new) [] × IsAtEnd (R.remaining source.new)) }
+    ensures fault { IsErr result → R.failed source.new ≡ true }
 {
     let mut byte = [0];
     match source.read_told(&mut byte) {
@@ -71,11 +72,12 @@ impl<R: TellsFault> LineReader<R> {
 
     // Reads a line, and says whether the text ended with it.
     fn read_line(&mut self) -> Result<bool, ReadFault>
-        ensures { IfOk result (λ ended. (line : List ℕ) × Holds self.new line × EndsLine (R.remaining self.old.source) (R.remaining self.new.source) line ended) }
+        ensures line { IfOk result (λ ended. (line : List ℕ) × Holds self.new line × EndsLine (R.remaining self.old.source) (R.remaining self.new.source) line ended) }
+        ensures fault { IsErr result → (has_failed R.failed self.new ≡ true) ⊎ IsEndless (bytes_left R.remaining self.old) (bytes_left R.remaining self.new) }
     {
         self.line.clear();
         self.is_long = false;
-        for _ in 0..u64::MAX {
+        for _count in 0..u64::MAX {
             match take_byte(&mut self.source)? {
                 None => return Ok(true),
                 Some(b'\n') => return Ok(false),
@@ -96,9 +98,11 @@ impl<R: TellsFault> LineReader<R> {
     ///
     /// It reads no further than the line feed, and holds no more of a line than a record can have.
     pub fn advance(&mut self) -> Result<bool, ReadFault>
-        ensures { IfOk result (TakesLine (lines_left R.remaining self.old) (lines_left R.remaining self.new) (current self.new)) }
+        ensures line { IfOk result (TakesLine (lines_left R.remaining self.old) (lines_left R.remaining self.new) (current self.new)) }
+        // It answers an error only where the reader failed, or after more bytes than a count can have.
+        ensures fault { IsErr result → (has_failed R.failed self.new ≡ true) ⊎ IsEndless (bytes_left R.remaining self.old) (bytes_left R.remaining self.new) }
     {
-        for _ in 0..u64::MAX {
+        for _count in 0..u64::MAX {
             let ended = self.read_line()?;
             if !self.is_blank() {
                 return Ok(true);

@@ -18,20 +18,20 @@ pub returns-then-not-branch-clause-goes : goal.returns-then-not-branch-clause-go
 returns-then-not-branch-clause-goes g c = λ s fits.
     let found : c.in_ok-advance.field-0 ≡ false = search rules in
     goes-end _ _ _ _ _ _ _ _ _ _ _ _ _ _ (current c.advance.new.self) (c.loop.invariant.goes s fits)
-    (subst (TakesLine (lines_left g.R.Read.remaining c.loop.lines) (lines_left g.R.Read.remaining c.advance.new.self) (current c.advance.new.self)) found c.in_ok-advance.ensures)
+    (subst (TakesLine (lines_left g.R.Read.remaining c.loop.lines) (lines_left g.R.Read.remaining c.advance.new.self) (current c.advance.new.self)) found c.in_ok-advance.ensures.line)
 
 pub returns-in-Done-clause-goes : goal.returns-in-Done-clause-goes
 returns-in-Done-clause-goes g c = λ s fits.
     let found : c.in_ok-advance.field-0 ≡ true = search rules in
     goes-close _ _ _ _ _ _ _ _ _ _ _ _ _ _ (current c.advance.new.self) _ (c.loop.invariant.goes s fits)
-    (subst (TakesLine (lines_left g.R.Read.remaining c.loop.lines) (lines_left g.R.Read.remaining c.advance.new.self) (current c.advance.new.self)) found c.in_ok-advance.ensures)
+    (subst (TakesLine (lines_left g.R.Read.remaining c.loop.lines) (lines_left g.R.Read.remaining c.advance.new.self) (current c.advance.new.self)) found c.in_ok-advance.ensures.line)
     c.in-Done.ensures (λ t. refl)
 
 pub returns-in-Quit-clause-goes : goal.returns-in-Quit-clause-goes
 returns-in-Quit-clause-goes g c = λ s fits.
     let found : c.in_ok-advance.field-0 ≡ true = search rules in
     goes-close _ _ _ _ _ _ _ _ _ _ _ _ _ _ (current c.advance.new.self) _ (c.loop.invariant.goes s fits)
-    (subst (TakesLine (lines_left g.R.Read.remaining c.loop.lines) (lines_left g.R.Read.remaining c.advance.new.self) (current c.advance.new.self)) found c.in_ok-advance.ensures)
+    (subst (TakesLine (lines_left g.R.Read.remaining c.loop.lines) (lines_left g.R.Read.remaining c.advance.new.self) (current c.advance.new.self)) found c.in_ok-advance.ensures.line)
     c.in-Quit.ensures (λ t. refl)
 
 pub returns-in_err-tell-clause-broke : goal.returns-in_err-tell-clause-broke
@@ -41,7 +41,7 @@ returns-in_err-tell-clause-broke g c =
     elim c.match-ask_of.branch [ in-Book w ↦ ap to_book w.wanted-is ∙ w.in-Book.ensures | in-Nothing w ↦ ap to_book w.wanted-is ∙ w.in-Nothing.ensures ] in
     let (failed, answers) = c.take-reply.ensures.answers in
     λ _ s fits. broke-line _ _ _ _ _ _ _ _ _ _ _ _ _ _ _ _ (current c.advance.new.self) (to_book c.match-ask_of.wanted) failed c.take-reply.result (c.loop.invariant.goes s fits)
-    (subst (TakesLine (lines_left g.R.Read.remaining c.loop.lines) (lines_left g.R.Read.remaining c.advance.new.self) (current c.advance.new.self)) found c.in_ok-advance.ensures)
+    (subst (TakesLine (lines_left g.R.Read.remaining c.loop.lines) (lines_left g.R.Read.remaining c.advance.new.self) (current c.advance.new.self)) found c.in_ok-advance.ensures.line)
     asks (answers-limits _ _ _ _ _ _ _ _ _ _ _ c.loop.invariant.limits answers)
 
 pub loop-preserved : goal.loop-preserved
@@ -53,6 +53,6 @@ loop-preserved g c =
     record {
       limits = c.take-reply.ensures.limits ∙ c.loop.invariant.limits;
       goes = λ s fits. goes-line _ _ _ _ _ _ _ _ _ _ _ _ _ _ _ _ _ (current c.advance.new.self) (to_book c.match-ask_of.wanted) failed c.take-reply.result (c.loop.invariant.goes s fits)
-          (subst (TakesLine (lines_left g.R.Read.remaining c.loop.lines) (lines_left g.R.Read.remaining c.advance.new.self) (current c.advance.new.self)) found c.in_ok-advance.ensures)
+          (subst (TakesLine (lines_left g.R.Read.remaining c.loop.lines) (lines_left g.R.Read.remaining c.advance.new.self) (current c.advance.new.self)) found c.in_ok-advance.ensures.line)
           asks (answers-limits _ _ _ _ _ _ _ _ _ _ _ c.loop.invariant.limits answers) c.in_ok-tell.ensures;
     }
