@@ -7,6 +7,13 @@ use Rattle.cell_audit.specs.declared.error.AuditError.{AuditError}
 use Rattle.cell_picture.specs.Answers.{answer_text}
 use Rattle.cell_picture.specs.Told.{facts_told, last_of}
 use Rattle.cell_page.specs.Rows.{row_text}
+use Rattle.cell_page.specs.declared.error.PageError.{PageError}
+use Rattle.cell_page.specs.declared.error.PageError.TheVariants as error
+
+-- an error as it is told
+abbrev pub error_text : PageError → List ℕ
+error_text error.TooManyEntries = codes "TooManyEntries"
+error_text error.WriteFault = codes "WriteFault"
 
 -- the row of a journal: what a picture shows of it, and its last entry
 abbrev pub row_of : List Entry → List ℕ

@@ -12,6 +12,11 @@ pub enum PageError {
 }
 
 impl fmt::Display for PageError {
+    ghost use Rattle.std.specs.Prelude.{Some};
+    ghost use Rattle.cell_page.specs.Page.{error_text};
+
+    ghost output = { λ why. Some (error_text why) };
+
     fn fmt<W: fmt::Write>(&self, f: &mut fmt::Formatter<W>) -> fmt::Result {
         match self {
             PageError::TooManyEntries => write!(f, "TooManyEntries"),
