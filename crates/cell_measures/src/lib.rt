@@ -20,7 +20,7 @@ pub use measures::{Held, Measures, Spent, Spread};
 pub use motion::{Motion, motion_of};
 pub use read::{TimesError, read_durations};
 pub use rows::{Number, Row, rows_of};
-pub use table::{Measured, csv_of, table_of};
+pub use table::{Measured, csv_of, lines_of, table_of};
 pub use tally::measure;
 pub use times::times_of;
 pub use waits::{machine_of, plate_of};

@@ -1,5 +1,6 @@
 //! What is told of how a journal's time goes.
-ghost use Rattle.std.specs.Prelude.{◌≡◌, ◌<◌, ◌+◌, ◌^◌};
+ghost use Rattle.std.specs.Prelude.{◌≡◌, ◌<◌, ◌+◌, ◌^◌, Some, slice_get};
+ghost use Rattle.cell_types.specs.Same.{machine_number, zone_number};
 ghost use Rattle.cell_measures.specs.Sums.{whole};
 
 use cell_types::{Machine, Zone, machine_number, zone_number};
@@ -133,12 +134,16 @@ impl Measures {
     };
 
     /// How a machine spent the time.
-    pub fn of_machine(&self, machine: Machine) -> Spent {
+    pub fn of_machine(&self, machine: Machine) -> Spent
+        ensures spent { slice_get self.now.machines (machine_number machine) ≡ Some result }
+    {
         self.machines[machine_number(machine)]
     }
 
     /// How long a zone was held.
-    pub fn of_zone(&self, zone: Zone) -> Held {
+    pub fn of_zone(&self, zone: Zone) -> Held
+        ensures held { slice_get self.now.zones (zone_number zone) ≡ Some result }
+    {
         self.zones[zone_number(zone)]
     }
 }

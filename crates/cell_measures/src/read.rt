@@ -25,6 +25,11 @@ pub enum TimesError {
 }
 
 impl From<AllocError> for TimesError {
+    ghost use Rattle.std.specs.Prelude.{◌≡◌};
+    ghost use Rattle.cell_measures.specs.declared.read.TimesError.TheVariants as error;
+
+    ghost from_gives = { λ _ e. e ≡ error.OutOfMemory };
+
     fn from(_error: AllocError) -> TimesError {
         TimesError::OutOfMemory
     }

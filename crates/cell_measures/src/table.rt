@@ -1,4 +1,4 @@
-//! Measures as a table, and as lines of CSV.
+//! Measures as a table, as lines of words, and as lines of CSV.
 use crate::measures::Measures;
 use crate::rows::{Row, rows_of};
 use std::alloc::{AllocError, Global};
@@ -130,6 +130,27 @@ pub fn table_of(alloc: Global, journals: &[Measured<'_>]) -> Result<String, Allo
         }
         push_block(alloc, &mut text, block)?;
         first = first.saturating_add(COLUMNS);
+    }
+    Ok(text)
+}
+
+// The line of a number: the word `time`, what it is of, which it is, and the number, or a dash where there is none.
+fn push_row(alloc: Global, text: &mut String, row: &Row) -> Result<(), AllocError> {
+    text.push_str("time ")?;
+    text.push_str(row.of)?;
+    text.push_str(" ")?;
+    text.push_str(row.name)?;
+    text.push_str(" ")?;
+    text.push_str(number_text(alloc, row, "-")?.as_str())?;
+    text.push_str("\n")
+}
+
+/// The measures of one journal as lines of four words, one for each number, in the order of the table: `time`, what the
+/// number is of, which it is, and the number, or a dash where there isn't one.
+pub fn lines_of(alloc: Global, measures: &Measures) -> Result<String, AllocError> {
+    let mut text = String::new(alloc);
+    for row in rows_of(alloc, measures)? {
+        push_row(alloc, &mut text, &row)?;
     }
     Ok(text)
 }

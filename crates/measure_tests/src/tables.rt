@@ -1,6 +1,6 @@
 //! Tables, and lines of CSV.
 use crate::samples::journal_of;
-use cell_measures::{Durations, Measured, Measures, csv_of, measure, table_of};
+use cell_measures::{Durations, Measured, Measures, csv_of, lines_of, measure, table_of};
 use cell_samples::ONE_PLATE;
 use std::process::Abort;
 
@@ -46,6 +46,25 @@ fn six_journals(rt: HostRuntime) {
     assert!(&rt; table.as_str().lines().any(|line| line.len() == 79));
     assert!(&rt; table.as_str().contains("\n\n6: f\n"));
     assert_eq!(&rt; table.as_str().lines().count(), 5 + 1 + 54 + 1 + 1 + 1 + 54);
+}
+
+const FIRST_LINES: &str = "\
+time journal entries 62
+time journal time 18
+time plates delivered 1
+time plates per_1000 -
+time plate least 18
+";
+
+// One of a journal, and the dashes of one without entries.
+#[test]
+fn lines_of_words(rt: HostRuntime) {
+    let lines = lines_of(rt.alloc(), &one_plate(&rt)).expect(&rt, "memory");
+    assert!(&rt; lines.as_str().starts_with(FIRST_LINES));
+    assert!(&rt; lines.as_str().contains("\ntime feed moving 2\n"));
+    assert_eq!(&rt; lines.as_str().lines().count(), 54);
+    let none = lines_of(rt.alloc(), &Measures::NONE).expect(&rt, "memory");
+    assert!(&rt; none.as_str().ends_with("\ntime to_repair most -\n"));
 }
 
 #[test]
