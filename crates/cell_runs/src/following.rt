@@ -16,6 +16,7 @@ use crate::texts::{KeptRun, Left};
 use cell_audit::{AuditError, WatchedWriter, WriteFault, read_journal};
 use cell_journal::Journal;
 use cell_lines::{audit_lines_watched, status};
+use cell_measures::Durations;
 use cell_sim::{SimOperator, World};
 use std::alloc::{AllocError, Global};
 use std::io::Write;
@@ -38,8 +39,9 @@ fn write_followed<R: AllocGlobal + Wait, W: Write>(
         plan,
         faults,
         script,
+        durations,
     } = inputs;
-    let world = Mutex::new(World::new(plan.plates));
+    let world = Mutex::new(World::new(plan.plates).with_durations(durations));
     let mut hands = SimOperator::new(rt, &world);
     match follow_journal(rt, &plan, &faults, script, &world, &mut hands, followed) {
         Ok(following) => {
@@ -114,6 +116,7 @@ pub fn follow_texts_kept_watched<R: AllocGlobal + Wait, W: Write>(
     settings: &[u8],
     faults: &[u8],
     operator: &[u8],
+    durations: &Durations,
     journal: bool,
     writer: &mut WatchedWriter<'_, W>,
 ) -> Result<(u8, Left), WriteFault>
@@ -124,13 +127,16 @@ pub fn follow_texts_kept_watched<R: AllocGlobal + Wait, W: Write>(
     ensures fault { IsErr result → has_refused writer.new ≡ true }
 {
     match read_inputs(rt.alloc(), settings, faults, operator) {
-        Ok(inputs) => follow_text(rt, followed, inputs, journal, writer),
+        Ok(mut inputs) => {
+            inputs.durations = *durations;
+            follow_text(rt, followed, inputs, journal, writer)
+        }
         Err(error) => Ok((refuse_input(writer, error)?, Left::Nothing)),
     }
 }
 
 /// Reads the texts of a run, the settings, the script of faults and the operator's script, and the text of a journal, and takes that
-/// run again on this thread: for each entry of the journal in order the entry's actor alone acts, until he books one. A machine
+/// run again on this thread, with motions that take so many readings: for each entry of the journal in order the entry's actor alone acts, until he books one. A machine
 /// takes turns at readings of its port, at most as many as the settings have; the operator does his next action, if there is one. It
 /// ends where all entries were booked, or at the first in whose place another one is booked, or none.
 ///
@@ -149,6 +155,7 @@ pub fn follow_texts_kept<R: AllocGlobal + Wait, W: Write>(
     settings: &[u8],
     faults: &[u8],
     operator: &[u8],
+    durations: &Durations,
     journal: bool,
     writer: &mut W,
 ) -> Result<(u8, Left), WriteFault>
@@ -164,12 +171,14 @@ pub fn follow_texts_kept<R: AllocGlobal + Wait, W: Write>(
         settings,
         faults,
         operator,
+        durations,
         journal,
         &mut writer,
     )
 }
 
-/// Follows a journal by its text and those of its run, as `follow_texts_kept` does, and gives the exit status alone.
+/// Follows a journal by its text and those of its run, as `follow_texts_kept` does with motions as short as they can be, and gives
+/// the exit status alone.
 pub fn follow_texts<R: AllocGlobal + Wait, W: Write>(
     rt: &R,
     followed: &[u8],
@@ -185,7 +194,14 @@ pub fn follow_texts<R: AllocGlobal + Wait, W: Write>(
     ensures part { IsErr result → TellsPartFollowed followed.now settings.now faults.now operator.now journal (W.contents writer.old) (W.contents writer.new) }
 {
     let (status, _kept) = follow_texts_kept(
-        rt, followed, settings, faults, operator, journal, writer,
+        rt,
+        followed,
+        settings,
+        faults,
+        operator,
+        &Durations::ONE,
+        journal,
+        writer,
     )?;
     Ok(status)
 }

@@ -1,6 +1,7 @@
 //! The three texts of a run.
 ghost use Rattle.cell_runs.specs.Inputs.{AreInputs};
 
+use cell_measures::Durations;
 use cell_settings::{SettingsError, read_settings};
 use cell_sim::{FaultError, FaultScript};
 use cell_workers::Plan;
@@ -13,6 +14,8 @@ pub struct Inputs {
     pub plan: Plan,
     pub faults: FaultScript,
     pub script: Script,
+    /// How many readings each motion of the simulated cell takes. No text says it: each takes one.
+    pub durations: Durations,
 }
 
 /// The first text of a run that is refused, in the order of these cases, and why.
@@ -49,6 +52,7 @@ pub fn read_inputs(
             plan,
             faults,
             script,
+            durations: Durations::ONE,
         }),
         Err(error) => Err(InputError::Operator(error)),
     }

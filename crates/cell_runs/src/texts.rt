@@ -11,6 +11,7 @@ use crate::simulation::{ports_of, simulate};
 use cell_audit::{WatchedWriter, WriteFault};
 use cell_journal::Journal;
 use cell_lines::status;
+use cell_measures::Durations;
 use cell_sim::{SimOperator, World};
 use cell_workers::{End, Plan, Report, RunError, run_cell};
 use std::alloc::AllocError;
@@ -66,8 +67,9 @@ fn write_rounds<R: AllocGlobal + Wait, W: Write>(
         plan,
         faults,
         script,
+        durations,
     } = inputs;
-    let world = Mutex::new(World::new(plan.plates));
+    let world = Mutex::new(World::new(plan.plates).with_durations(durations));
     let mut hands = SimOperator::new(rt, &world);
     match simulate(rt, &plan, &faults, script, &world, &mut hands) {
         Ok(outcome) => {
@@ -97,9 +99,10 @@ fn write_threads<R: AllocGlobal + Threads + Wait + Sync, W: Write>(
         plan,
         faults,
         script,
+        durations,
     } = inputs;
     let alloc = rt.alloc();
-    let world = Mutex::new(World::new(plan.plates));
+    let world = Mutex::new(World::new(plan.plates).with_durations(durations));
     let mut ports = ports_of(rt, &world, &faults);
     let mut hands = SimOperator::new(rt, &world);
     match run_cell(rt, alloc, &mut ports, &mut hands, script, &plan) {
@@ -119,6 +122,7 @@ pub fn run_texts_kept_watched<R: AllocGlobal + Threads + Wait + Sync, W: Write>(
     settings: &[u8],
     faults: &[u8],
     operator: &[u8],
+    durations: &Durations,
     threads: bool,
     journal: bool,
     writer: &mut WatchedWriter<'_, W>,
@@ -131,7 +135,8 @@ pub fn run_texts_kept_watched<R: AllocGlobal + Threads + Wait + Sync, W: Write>(
     ensures fault { IsErr result → has_refused writer.new ≡ true }
 {
     match read_inputs(rt.alloc(), settings, faults, operator) {
-        Ok(inputs) => {
+        Ok(mut inputs) => {
+            inputs.durations = *durations;
             if threads {
                 write_threads(rt, inputs, journal, writer)
             } else {
@@ -160,7 +165,14 @@ pub fn run_texts_watched<R: AllocGlobal + Threads + Wait + Sync, W: Write>(
     ensures fault { IsErr result → has_refused writer.new ≡ true }
 {
     let (status, _left) = run_texts_kept_watched(
-        rt, settings, faults, operator, threads, journal, writer,
+        rt,
+        settings,
+        faults,
+        operator,
+        &Durations::ONE,
+        threads,
+        journal,
+        writer,
     )?;
     Ok(status)
 }
@@ -205,14 +217,15 @@ pub fn run_texts<R: AllocGlobal + Threads + Wait + Sync, W: Write>(
     )
 }
 
-/// Runs the simulated cell by its texts, as `run_texts` does, and gives besides the exit status what the run left: its journal,
-/// its end and its plan, where no text is refused, and memory and threads are to be had. It is `run_texts_kept_watched` over a new
-/// writer that notes.
+/// Runs the simulated cell by its texts, as `run_texts` does, with motions that take so many readings, and gives besides the exit
+/// status what the run left: its journal, its end and its plan, where no text is refused, and memory and threads are to be had. It
+/// is `run_texts_kept_watched` over a new writer that notes.
 pub fn run_texts_kept<R: AllocGlobal + Threads + Wait + Sync, W: Write>(
     rt: &R,
     settings: &[u8],
     faults: &[u8],
     operator: &[u8],
+    durations: &Durations,
     threads: bool,
     journal: bool,
     writer: &mut W,
@@ -229,6 +242,7 @@ pub fn run_texts_kept<R: AllocGlobal + Threads + Wait + Sync, W: Write>(
         settings,
         faults,
         operator,
+        durations,
         threads,
         journal,
         &mut writer,

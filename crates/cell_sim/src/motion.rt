@@ -40,13 +40,15 @@ pub(crate) struct Motion {
     pub phase: Phase,
     /// How many readings are still missing before the motion is read at all, also after a stop.
     pub missing: u32,
+    /// How many readings show nothing between its two ends, beside the first that does and those of a fault.
+    pub further: u32,
     /// Whether all motors of the machine were stopped since. The motion then stays in its phase, and shows what it showed.
     pub stopped: bool,
 }
 
 impl Motion {
-    /// A motion that begins.
-    pub(crate) fn begin(path: Path, fault: Option<Fault>) -> Motion {
+    /// A motion that begins. Its duration is how many readings show nothing between its two ends, one at least.
+    pub(crate) fn begin(path: Path, fault: Option<Fault>, duration: u16) -> Motion {
         let missing = match fault {
             Some(Fault::Silent(readings)) => readings,
             _ => 0,
@@ -56,6 +58,7 @@ impl Motion {
             fault,
             phase: Phase::Begun,
             missing,
+            further: u32::from(duration.saturating_sub(1)),
             stopped: false,
         }
     }
@@ -76,8 +79,8 @@ impl Motion {
     fn phase_after_leaving(self) -> Phase {
         match self.fault {
             Some(Fault::NoMotion) => Phase::Seen,
-            Some(Fault::Slow(readings)) => Phase::Between(readings),
-            _ => Phase::Between(0),
+            Some(Fault::Slow(readings)) => Phase::Between(self.further.saturating_add(readings)),
+            _ => Phase::Between(self.further),
         }
     }
 

@@ -3,7 +3,8 @@
 //! A motion begins with the command to move an axis and goes on with the readings of its machine. The first reading shows
 //! the pose that the axis leaves, the second nothing, the third and all later ones the pose that it reaches, and at the
 //! third the axis has that pose. A belt shows the plate that it carries, at the stations where the motion begins and ends,
-//! in place of switches; from the third reading on the plate is where the motion ends. All else is shown as it is.
+//! in place of switches; from the third reading on the plate is where the motion ends. All else is shown as it is. A motion
+//! of a longer duration shows nothing in as many readings.
 //!
 //! A stopped motion goes on showing what it last showed. A motion ends where another of its axis begins or the axis is
 //! put at home, and that of a belt also where the belt is turned off.
@@ -20,6 +21,7 @@ use crate::motion::{Motion, Path, Phase};
 use crate::script::FaultScript;
 use crate::watch::{SafetyRule, Watch};
 use cell_diagnosis::Reading;
+use cell_measures::Durations;
 use cell_turns::PortFault;
 use cell_types::{
     AXES, Arm, Axis, Belt, Colour, Command, Machine, Pose, STATIONS, Station, axis_number,
@@ -66,6 +68,8 @@ pub struct World {
     is_trusting: bool,
     /// The count of broken rules, which is on in a watched world.
     watch: Watch,
+    /// In how many readings each motion shows nothing, one at least.
+    durations: Durations,
 }
 
 impl Model for World {
@@ -127,6 +131,7 @@ impl World {
             moving_rounds: [0; 6],
             is_trusting: false,
             watch: Watch::new(false),
+            durations: Durations::ONE,
         }
     }
 
@@ -140,6 +145,15 @@ impl World {
             watch: Watch::new(true),
             ..World::new(plates)
         }
+    }
+
+    /// The same cell with motions that take these durations, each counted in readings of its machine. A motion of 1 or 0 is as
+    /// short as it can be, as all are in a new cell: one reading shows nothing between its ends.
+    pub fn with_durations(mut self, durations: Durations) -> World
+        ensures { result ≡ self }
+    {
+        self.durations = durations;
+        self
     }
 
     /// How often an axis of the table, a press or the deposit belt was told to move while an arm was out there, and how
@@ -239,7 +253,8 @@ impl World {
         }
         self.look_at_start(axis, to);
         if let Some(path) = self.path(axis, to) {
-            self.set_motion(axis, Some(Motion::begin(path, fault)));
+            let duration = self.durations.of(cell_measures::Motion { axis, to });
+            self.set_motion(axis, Some(Motion::begin(path, fault, duration)));
         }
         Ok(())
     }

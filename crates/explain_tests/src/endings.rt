@@ -1,6 +1,7 @@
 //! What is said of a run's end.
 use crate::said::check_said;
 use cell_endings::write_ending;
+use cell_measures::Durations;
 use cell_runs::{Left, run_texts_kept};
 use std::process::Abort;
 use std::sync::Wait;
@@ -58,6 +59,7 @@ fn check_run<R: AllocGlobal + Abort + Threads + Wait + Sync>(
         settings.as_bytes(),
         faults,
         script,
+        &Durations::ONE,
         false,
         false,
         &mut written,

@@ -104,8 +104,9 @@ fn run_in_world<R: AllocGlobal + Wait + Abort>(rt: &R, texts: [&[u8]; 3], case: 
         plan,
         faults,
         script,
+        durations,
     } = read_inputs(rt.alloc(), settings, lines, operator).expect(rt, case);
-    let world = Mutex::new(World::watched(plan.plates));
+    let world = Mutex::new(World::watched(plan.plates).with_durations(durations));
     let mut hands = SimOperator::new(rt, &world);
     let outcome = simulate(rt, &plan, &faults, script, &world, &mut hands).expect(rt, case);
     check_world(rt, &world.lock(rt), case);

@@ -15,8 +15,9 @@ fn played<R: AllocGlobal + Wait + Abort>(rt: &R, removing: Failing, homing: Fail
         plan,
         faults,
         script,
+        durations,
     } = read_inputs(rt.alloc(), b"plates = 6", lines, operator).expect(rt, "the texts are good");
-    let world = Mutex::new(World::new(plan.plates));
+    let world = Mutex::new(World::new(plan.plates).with_durations(durations));
     let hands = SimOperator::new(rt, &world);
     let mut hands = TellingHands::new(rt.alloc(), hands, removing, homing, 10).expect(rt, "memory");
     simulate(rt, &plan, &faults, script, &world, &mut hands).expect(rt, "memory")

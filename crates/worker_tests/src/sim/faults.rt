@@ -1,5 +1,7 @@
 //! The faults of motions, each on an axis with switches and on a belt.
-use crate::sim::steps::{Way, run_all};
+use crate::sim::steps::{Way, run_all, run_timed};
+use cell_measures::Durations;
+use cell_types::{Axis, Pose};
 
 // A motion that doesn't happen leaves the press where it was.
 const NO_MOTION: &str = "\
@@ -113,4 +115,28 @@ const AT_SENSORS: [Way; 10] = [
 fn a_fault_shows_at_switches_and_at_sensors(rt: HostRuntime) {
     run_all(&rt, &AT_SWITCHES);
     run_all(&rt, &AT_SENSORS);
+}
+
+// A motion of three readings shows what a slow one of two more shows, and a fault comes besides.
+const TIMED: [Way; 4] = [
+    (0, "", &[SLOW]),
+    (0, "press_one,1,slow,1\n", &[SLOWER]),
+    (0, "press_one,1,no_motion,\n", &[NO_LONG_MOTION]),
+    (1, "", &[STARTED, BELT_SLOW]),
+];
+
+const SLOWER: &str = "\
+    started,press_one,top; press1 1 0 0 0; press1 any 4; press1 2 0 0 0; started,press_one,bottom; press1 any 2; \
+    press1 4 0 0 0";
+
+const NO_LONG_MOTION: &str = "\
+    started,press_one,top; press1 1 0 0 0; press1 1 0 0 0; press1 1 0 0 0; press1 1 0 0 0";
+
+#[test]
+fn a_motion_takes_its_time(rt: HostRuntime) {
+    let mut durations = Durations::ONE;
+    durations.set(Axis::PressOne, Pose::Top, 3);
+    durations.set_axis(Axis::FeedBelt, 2);
+    durations.set_axis(Axis::TableTurn, 0);
+    run_timed(&rt, &durations, &TIMED);
 }

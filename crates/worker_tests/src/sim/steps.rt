@@ -1,6 +1,7 @@
 //! Ways in a simulated cell, step by step, as texts.
 use crate::sim::looks::is_said;
 use cell_diagnosis::Reading;
+use cell_measures::Durations;
 use cell_samples::entry_of;
 use cell_sim::{FaultScript, SimOperator, SimPort, World};
 use cell_turns::{OperatorPort, Port};
@@ -141,6 +142,17 @@ fn run<R: AllocGlobal + Abort + Wait>(rt: &R, world: World, way: &Way) {
 pub(crate) fn run_all<R: AllocGlobal + Abort + Wait>(rt: &R, ways: &[Way]) {
     for way in ways {
         run(rt, World::new(way.0), way);
+    }
+}
+
+/// Goes these ways in worlds whose motions take these times, each step of which has to be met.
+pub(crate) fn run_timed<R: AllocGlobal + Abort + Wait>(
+    rt: &R,
+    durations: &Durations,
+    ways: &[Way],
+) {
+    for way in ways {
+        run(rt, World::new(way.0).with_durations(*durations), way);
     }
 }
 
