@@ -11,6 +11,8 @@ use Rattle.cell_page.specs.declared.error.PageError.{PageError}
 use Rattle.cell_page.specs.declared.error.PageError.TheVariants as page
 use Rattle.cell_show.specs.declared.error.ShowError.{ShowError}
 use Rattle.cell_show.specs.declared.error.ShowError.TheVariants as error
+use Rattle.cell_show.specs.declared.show.Form.{Form}
+use Rattle.cell_show.specs.declared.show.Form.TheVariants as form
 
 -- the error where a page isn't written
 abbrev pub of_page : PageError → ShowError
@@ -33,7 +35,7 @@ AsksPast entry (error.NoSuchEntry n) = (k : ℕ) × (entry ≡ Some k) × (n < k
 AsksPast entry error.TooManyEntries = ⊤
 AsksPast entry error.WriteFault = ⊤
 
--- a text has as many good entries as are told where there is no such entry, and else too many for a page
+-- a text has as many good entries as are told where there is no such entry, and else too many for a page or a chart
 abbrev pub TellsEntries : ShowError → List Row → Type 0
 TellsEntries (error.NoSuchEntry n) rows = (J : List Entry) × AreGood J rows × (length J ≡ n)
 TellsEntries error.TooManyEntries rows = (J : List Entry) × AreGood J rows × (20000 < length J)
@@ -43,6 +45,12 @@ TellsEntries error.WriteFault rows = ⊤
 abbrev pub HasEntry : Option ℕ → List Row → Type 0
 HasEntry entry rows = (J : List Entry) × AreGood J rows × IfSome entry (λ k. k ≤ length J)
 
+-- a form that shows only so many entries
+abbrev pub HasBound : Form → Type 0
+HasBound form.Page = ⊤
+HasBound (form.Chart durations) = ⊤
+HasBound _ = ⊥
+
 -- the word for so many entries
 abbrev pub entries_word : ℕ → List ℕ
 entries_word n = if n == 1 then codes "entry" else codes "entries"
@@ -50,5 +58,5 @@ entries_word n = if n == 1 then codes "entry" else codes "entries"
 -- what is printed of an error
 abbrev pub error_text : ShowError → List ℕ
 error_text (error.NoSuchEntry n) = codes "NoSuchEntry: the journal has " ++ (decimal n ++ (codes " " ++ entries_word n))
-error_text error.TooManyEntries = codes "TooManyEntries: a page shows at most " ++ (decimal 20000 ++ codes " entries")
+error_text error.TooManyEntries = codes "TooManyEntries: a page or a chart shows at most " ++ (decimal 20000 ++ codes " entries")
 error_text error.WriteFault = codes "WriteFault"

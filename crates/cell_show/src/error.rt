@@ -12,7 +12,7 @@ use std::fmt;
 pub enum ShowError {
     /// The journal has only so many entries before the first that can't be read or isn't allowed. Nothing was written.
     NoSuchEntry(u32),
-    /// The journal has more entries than a page shows. Nothing was written.
+    /// The journal has more entries than a page or a chart shows. Nothing was written.
     TooManyEntries,
     /// The writer failed. A first part may be written.
     WriteFault,
@@ -40,7 +40,7 @@ impl fmt::Display for ShowError {
             ShowError::TooManyEntries => {
                 write!(
                     f,
-                    "TooManyEntries: a page shows at most {MAX_PAGE_ENTRIES} entries"
+                    "TooManyEntries: a page or a chart shows at most {MAX_PAGE_ENTRIES} entries"
                 )
             }
             ShowError::WriteFault => write!(f, "WriteFault"),

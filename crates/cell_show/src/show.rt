@@ -1,13 +1,15 @@
 //! Showing the cell as the first entries of a journal left it.
-ghost use Rattle.std.specs.Prelude.{◌≡◌, ◌≢◌, ◌≤◌, ◌<◌, ℕ, IfErr, IfOk, IfSome, Ok, length, true};
+ghost use Rattle.std.specs.Prelude.{◌≡◌, ◌≢◌, ◌≤◌, ◌<◌, ℕ, IfErr, IfOk, IfSome, Ok, false, length, true};
 ghost use Rattle.cell_rows.specs.Rows.{IsOpen, device_failed, rows_left};
 ghost use Rattle.cell_audit.specs.Migrated.{rows_in};
 ghost use Rattle.cell_lines.specs.Lines.{status_of};
-ghost use Rattle.cell_show.specs.Shown.{TellsStatus, AsksPast, TellsEntries, HasEntry};
+ghost use Rattle.cell_show.specs.Shown.{TellsStatus, AsksPast, TellsEntries, HasBound, HasEntry};
 
 use crate::ShowError;
 use cell_audit::{AuditError, read_rows};
+use cell_chart::{ChartError, draw_chart};
 use cell_lines::status;
+use cell_measures::Durations;
 use cell_page::write_page;
 use cell_picture::{Scene, draw_picture, draw_text, facts_after};
 use cell_rows::{RowReader, TellsFault, Watched};
@@ -27,6 +29,8 @@ pub enum Form {
     Picture,
     /// As one page with all states, in HTML.
     Page,
+    /// As one picture file with an axis of time, in SVG, in which motions take so long.
+    Chart(Durations),
 }
 
 // The status of an audit's answer.
@@ -41,19 +45,43 @@ fn status_of(answer: &Result<(u8, Totals), AuditError>) -> u8
     }
 }
 
-// Writes what the first entries of a book left.
+// Writes the chart of a book's first entries, and says whether there was memory for it.
+fn draw_times<W: Write>(
+    alloc: Global,
+    writer: &mut W,
+    durations: &Durations,
+    book: &Book,
+    entries: u32,
+    answer: Option<AuditError>,
+) -> Result<bool, ShowError>
+    ensures entry { (n : ℕ) → result ≢ Err (ShowError.NoSuchEntry n) }
+    ensures long { result ≡ Err ShowError.TooManyEntries → 20000 < length book.now.entries }
+    ensures nothing { IfErr result (λ e. e ≢ ShowError.WriteFault → writer.new ≡ writer.old) }
+    ensures memory { result ≡ Ok false → writer.new ≡ writer.old }
+{
+    match draw_chart(alloc, writer, book.journal(), entries, durations, answer) {
+        Ok(()) => Ok(true),
+        Err(ChartError::OutOfMemory) => Ok(false),
+        Err(ChartError::TooManyEntries) => Err(ShowError::TooManyEntries),
+        Err(ChartError::WriteFault) => Err(ShowError::WriteFault),
+    }
+}
+
+// Writes what the first entries of a book left, and says whether there was memory for it.
 fn draw<W: Write>(
+    alloc: Global,
     writer: &mut W,
     form: Form,
     book: &Book,
     entries: u32,
     answer: Option<AuditError>,
-) -> Result<(), ShowError>
+) -> Result<bool, ShowError>
     requires { entries ≤ length book.now.entries }
     ensures entry { (n : ℕ) → result ≢ Err (ShowError.NoSuchEntry n) }
-    ensures page { result ≡ Err ShowError.TooManyEntries → form ≡ Form.Page }
+    ensures bound { result ≡ Err ShowError.TooManyEntries → HasBound form }
     ensures long { result ≡ Err ShowError.TooManyEntries → 20000 < length book.now.entries }
     ensures nothing { IfErr result (λ e. e ≢ ShowError.WriteFault → writer.new ≡ writer.old) }
+    ensures memory { result ≡ Ok false → writer.new ≡ writer.old }
 {
     let (facts, last) = facts_after(book, entries);
     let scene = Scene {
@@ -67,8 +95,11 @@ fn draw<W: Write>(
         Form::Unicode => draw_text(writer, &scene, true)?,
         Form::Picture => draw_picture(writer, &scene)?,
         Form::Page => write_page(writer, book, answer)?,
+        Form::Chart(durations) => {
+            return draw_times(alloc, writer, &durations, book, entries, answer);
+        }
     }
-    Ok(())
+    Ok(true)
 }
 
 /// Shows the cell as the first entries of the records that a reader has left it, as `show_journal` does those of a text.
@@ -85,7 +116,7 @@ pub fn show_rows<R: TellsFault, W: Write>(
     ensures there { IfOk result (λ status. status ≤ 1 → IfSome (rows_left R.remaining rows.old) (HasEntry entry)) }
     ensures past { IfErr result (AsksPast entry) }
     ensures entries { IfErr result (λ why. IfSome (rows_left R.remaining rows.old) (TellsEntries why)) }
-    ensures page { result ≡ Err ShowError.TooManyEntries → form ≡ Form.Page }
+    ensures bound { result ≡ Err ShowError.TooManyEntries → HasBound form }
     ensures nothing { IfErr result (λ e. e ≢ ShowError.WriteFault → writer.new ≡ writer.old) }
     // It gives the status of a reader that failed only where a failed read was noted.
     ensures fault { result ≡ Ok 3 → device_failed R.failed rows.new ≡ true }
@@ -102,8 +133,12 @@ pub fn show_rows<R: TellsFault, W: Write>(
     if shown > entries {
         return Err(ShowError::NoSuchEntry(entries));
     }
-    draw(writer, form, &reading.book, shown, reading.answer.err())?;
-    Ok(status)
+    let answer = reading.answer.err();
+    if draw(alloc, writer, form, &reading.book, shown, answer)? {
+        Ok(status)
+    } else {
+        Ok(status::OUT_OF_MEMORY)
+    }
 }
 
 /// Shows the cell as the first `entry` entries of the journal on the reader left it, or all of them where `entry` is `None`,
@@ -129,8 +164,8 @@ pub fn show_journal<R: Read + Drop, W: Write>(
     ensures past { IfErr result (AsksPast entry) }
     // There are as many good entries as are told, or too many for a page.
     ensures entries { IfErr result (λ why. IfSome (rows_in (R.remaining reader)) (TellsEntries why)) }
-    // Only a page has too many entries.
-    ensures page { result ≡ Err ShowError.TooManyEntries → form ≡ Form.Page }
+    // Only a page or a chart has too many entries.
+    ensures bound { result ≡ Err ShowError.TooManyEntries → HasBound form }
     ensures nothing { IfErr result (λ e. e ≢ ShowError.WriteFault → writer.new ≡ writer.old) }
 {
     let mut rows = RowReader::new(alloc, Watched::new(reader));

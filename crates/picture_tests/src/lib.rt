@@ -3,6 +3,8 @@
 #![tactic(auto)]
 
 #[cfg(test)]
+mod charts;
+#[cfg(test)]
 mod drawings;
 #[cfg(test)]
 mod pages;

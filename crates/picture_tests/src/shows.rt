@@ -1,5 +1,6 @@
 //! What is shown for journals' texts, and what readers and writers that fail leave of it.
 use crate::texts::OPENING;
+use cell_measures::Durations;
 use cell_samples::{FailingReader, FailingWriter};
 use cell_show::{Form, ShowError, show_journal};
 use std::alloc::Global;
@@ -77,7 +78,7 @@ type Case = (
 );
 
 // A legal journal is shown after each entry, and in each form.
-const LEGAL_CASES: [Case; 8] = [
+const LEGAL_CASES: [Case; 9] = [
     (LEGAL, Form::Text, None, Ok(0), ADMITTED, ""),
     (LEGAL, Form::Text, Some(2), Ok(0), ADMITTED, ""),
     (LEGAL, Form::Text, Some(1), Ok(0), LIT, ""),
@@ -92,6 +93,14 @@ const LEGAL_CASES: [Case; 8] = [
         "</html>\n",
     ),
     (LEGAL, Form::Unicode, None, Ok(0), "After 2 entries", "┘\n"),
+    (
+        LEGAL,
+        Form::Chart(Durations::ONE),
+        None,
+        Ok(0),
+        "<svg xmlns=",
+        "</svg>\n",
+    ),
     (
         LEGAL,
         Form::Text,
@@ -173,7 +182,13 @@ fn shows_nothing_where_the_reader_fails(rt: HostRuntime) {
 // The writer fails after so many bytes, and these are written.
 #[test]
 fn tells_that_the_writer_failed(rt: HostRuntime) {
-    for form in [Form::Text, Form::Unicode, Form::Picture, Form::Page] {
+    for form in [
+        Form::Text,
+        Form::Unicode,
+        Form::Picture,
+        Form::Page,
+        Form::Chart(Durations::ONE),
+    ] {
         for left in [0, 1, 500] {
             let mut writer = FailingWriter::new(Vec::new(rt.alloc()), left);
             let answer = show_journal(rt.alloc(), LEGAL.as_bytes(), form, None, &mut writer);

@@ -87,7 +87,7 @@ fn draws<W: Write>(writer: &mut W, scene: &Scene, form: Form) -> bool {
     match form {
         Form::Text => draw_text(writer, scene, false).is_ok(),
         Form::Unicode => draw_text(writer, scene, true).is_ok(),
-        Form::Picture | Form::Page => draw_picture(writer, scene).is_ok(),
+        Form::Picture | Form::Page | Form::Chart(_) => draw_picture(writer, scene).is_ok(),
     }
 }
 
@@ -98,6 +98,13 @@ pub fn drawn(rt: &impl Abort, alloc: Global, scene: &Scene, form: Form) -> Strin
     String::from_utf8_lossy(alloc, bytes.as_slice()).expect(rt, "memory")
 }
 
+/// A book of these records.
+pub fn booked(rt: &impl Abort, alloc: Global, records: &[&str]) -> Book {
+    let mut book = Book::new(alloc, 100, 100).ok().expect(rt, "a book");
+    book_all(&mut book, records).expect(rt, "a record that is allowed");
+    book
+}
+
 /// The state after all of these records, with the last of their entries and this answer, as it is drawn.
 pub fn drawn_after(
     rt: &impl Abort,
@@ -106,8 +113,7 @@ pub fn drawn_after(
     answer: Option<AuditError>,
     form: Form,
 ) -> String {
-    let mut book = Book::new(alloc, 100, 100).ok().expect(rt, "a book");
-    book_all(&mut book, records).expect(rt, "a record that is allowed");
+    let book = booked(rt, alloc, records);
     let entries = book.journal().len();
     let (facts, last) = facts_after(&book, entries);
     let scene = Scene {

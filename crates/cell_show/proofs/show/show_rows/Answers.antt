@@ -12,11 +12,14 @@ returns-in_default-clause-status g c = (Err error.OutOfMemory, wants-memory _, r
 pub returns-then-status-gt-REFUSED-clause-status : goal.returns-then-status-gt-REFUSED-clause-status
 returns-then-status-gt-REFUSED-clause-status g c = (c.in-Ok.reading.answer, c.in-Ok.ensures.due, c.status_of-status.ensures)
 
-pub returns-clause-status : goal.returns-clause-status
-returns-clause-status g c = (c.in-Ok.reading.answer, c.in-Ok.ensures.due, c.status_of-status.ensures)
+pub returns-then-branch-clause-status : goal.returns-then-branch-clause-status
+returns-then-branch-clause-status g c = (c.in-Ok.reading.answer, c.in-Ok.ensures.due, c.status_of-status.ensures)
 
-pub returns-clause-there : goal.returns-clause-there
-returns-clause-there g c = λ low.
+pub returns-clause-status : goal.returns-clause-status
+returns-clause-status g c = (Err error.OutOfMemory, wants-memory _, refl)
+
+pub returns-then-branch-clause-there : goal.returns-then-branch-clause-there
+returns-then-branch-clause-there g c = λ low.
     let book = c.in-Ok.reading.book.entries in
     let n = c.len-entries.result in
     let are : IfSome (rows_left g.R.Read.remaining c.args.rows.now) (AreGood book) =

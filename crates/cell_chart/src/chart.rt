@@ -1,0 +1,211 @@
+//! The chart as one SVG file.
+ghost use Rattle.std.specs.Prelude.{◌≡◌, ◌≢◌, ◌<◌, ◌↔◌, Err, IfErr, length};
+
+use crate::error::ChartError;
+use crate::follow::{Drawing, end, follow};
+use crate::lanes::{Lane, Lanes, bottom};
+use crate::scale::Scale;
+use cell_audit::AuditError;
+use cell_journal::Journal;
+use cell_measures::{Durations, times_of};
+use cell_picture::AnswerLine;
+use cell_types::texts::{axis_word, machine_word, station_word, zone_word};
+use cell_types::{AXES, MACHINES, STATIONS, ZONES, owner, visitor};
+use std::alloc::Global;
+use std::fmt::Display;
+use std::io;
+use std::io::Write;
+
+/// The most entries of a journal of which a chart is drawn.
+pub const MAX_CHART_ENTRIES: u32 = 20_000;
+
+// The latest of some times; 0 of none.
+fn latest(times: &[u64]) -> u64 {
+    let mut latest = 0;
+    for time in times {
+        latest = *time.max(&latest);
+    }
+    latest
+}
+
+// Writes what stands before a lane.
+fn draw_label<W: Write, D: Display + Drop>(out: &mut W, lane: Lane, label: D) -> io::Result<()> {
+    let y = lane.top().saturating_add(15);
+    writeln!(out, "<text x=\"10\" y=\"{y}\">{label}</text>")
+}
+
+// Writes what stands before the lanes of axes.
+fn draw_axis_labels<W: Write>(out: &mut W) -> io::Result<()> {
+    for axis in AXES {
+        draw_label(out, Lane::Axis(axis), axis_word(axis))?;
+    }
+    Ok(())
+}
+
+// Writes what stands before the lanes of zones: each with the machines between which it lies.
+fn draw_zone_labels<W: Write>(out: &mut W) -> io::Result<()> {
+    for zone in ZONES {
+        let machines = (machine_word(owner(zone)), machine_word(visitor(zone)));
+        let word = zone_word(zone);
+        draw_label(
+            out,
+            Lane::Zone(zone),
+            format_args!("{word} {}, {}", machines.0, machines.1),
+        )?;
+    }
+    Ok(())
+}
+
+// Writes what stands before the lanes of stations.
+fn draw_station_labels<W: Write>(out: &mut W) -> io::Result<()> {
+    for station in STATIONS {
+        draw_label(out, Lane::Station(station), station_word(station))?;
+    }
+    Ok(())
+}
+
+// Draws a mark of the axis of time.
+fn draw_mark<W: Write>(out: &mut W, scale: Scale, time: u64) -> io::Result<()> {
+    let x = scale.x(time);
+    let end = bottom();
+    writeln!(
+        out,
+        "<line x1=\"{x}\" y1=\"66\" x2=\"{x}\" y2=\"{end}\" stroke=\"#dddddd\"/>\n\
+         <text x=\"{x}\" y=\"60\" text-anchor=\"middle\">{time}</text>"
+    )
+}
+
+// Draws the marks of the axis of time.
+fn draw_marks<W: Write>(out: &mut W, scale: Scale) -> io::Result<()> {
+    let step = scale.step();
+    let mut time = 0;
+    for _ in 0..1000 {
+        draw_mark(out, scale, time)?;
+        time = step.saturating_add(time);
+        if time > scale.total() {
+            break;
+        }
+    }
+    Ok(())
+}
+
+// Writes how many entries there are, how much time they take, and why there are no more.
+fn draw_heading<W: Write>(
+    out: &mut W,
+    entries: usize,
+    scale: Scale,
+    answer: Option<AuditError>,
+) -> io::Result<()> {
+    let (right, height) = (scale.right(), bottom().saturating_add(20));
+    writeln!(
+        out,
+        "<svg xmlns=\"http://www.w3.org/2000/svg\" viewBox=\"0 0 {right} {height}\" width=\"{right}\" height=\"{height}\" \
+         font-family=\"Helvetica, Arial, sans-serif\" font-size=\"11\" fill=\"#111111\">\n\
+         <rect width=\"{right}\" height=\"{height}\" fill=\"#ffffff\"/>"
+    )?;
+    let word = if entries == 1 { "entry" } else { "entries" };
+    let time = scale.total();
+    writeln!(
+        out,
+        "<text x=\"10\" y=\"20\" font-size=\"14\" font-weight=\"bold\">{entries} {word}, least time {time}</text>"
+    )?;
+    match answer {
+        Some(why) => {
+            let line = AnswerLine(why);
+            writeln!(
+                out,
+                "<text x=\"10\" y=\"38\" font-weight=\"bold\">{line}</text>"
+            )
+        }
+        None => Ok(()),
+    }
+}
+
+// Draws what goes on at the end in the lanes of axes and of failures.
+fn end_machines<W: Write>(out: &mut W, drawing: &mut Drawing) -> io::Result<()> {
+    let time = drawing.scale.total();
+    for axis in AXES {
+        end(out, drawing, Lane::Axis(axis), time)?;
+    }
+    for machine in MACHINES {
+        end(out, drawing, Lane::Failure(machine), time)?;
+    }
+    Ok(())
+}
+
+// Draws what goes on at the end in the lanes of zones and of stations.
+fn end_places<W: Write>(out: &mut W, drawing: &mut Drawing) -> io::Result<()> {
+    let time = drawing.scale.total();
+    for zone in ZONES {
+        end(out, drawing, Lane::Zone(zone), time)?;
+    }
+    for station in STATIONS {
+        end(out, drawing, Lane::Station(station), time)?;
+    }
+    Ok(())
+}
+
+// Draws what each entry ends.
+fn draw_entries<W: Write>(
+    out: &mut W,
+    drawing: &mut Drawing,
+    journal: &Journal,
+    ends: &[u64],
+) -> io::Result<()> {
+    for place in 0..journal.len() {
+        if let Some(time) = ends.get(place as usize) {
+            follow(out, drawing, &journal.at(place), *time)?;
+        }
+    }
+    Ok(())
+}
+
+fn draw<W: Write>(
+    out: &mut W,
+    journal: &Journal,
+    ends: &[u64],
+    answer: Option<AuditError>,
+) -> io::Result<()> {
+    let scale = Scale::new(latest(ends));
+    draw_heading(out, ends.len(), scale, answer)?;
+    draw_marks(out, scale)?;
+    draw_axis_labels(out)?;
+    draw_zone_labels(out)?;
+    draw_station_labels(out)?;
+    let mut drawing = Drawing {
+        scale,
+        lanes: Lanes::EMPTY,
+    };
+    draw_entries(out, &mut drawing, journal, ends)?;
+    end_machines(out, &mut drawing)?;
+    end_places(out, &mut drawing)?;
+    writeln!(out, "</svg>")
+}
+
+/// Draws the first `entries` entries of a journal, which has at most 20,000, on an axis of time, as one SVG file: each entry is
+/// where it ends at the earliest, by `times_of`. A lane for each axis shows its motions with their words, one for each zone who
+/// holds it, and one for each station which plate is there; a machine is marked from where it is booked failed to its repair.
+/// Above stand how many entries are drawn and their time, and the audit's answer where the journal's text isn't legal.
+///
+/// `WriteFault` comes only where the writer failed; a first part of the file was written then.
+pub fn draw_chart<W: Write>(
+    alloc: Global,
+    writer: &mut W,
+    journal: &Journal,
+    entries: u32,
+    durations: &Durations,
+    answer: Option<AuditError>,
+) -> Result<(), ChartError>
+    ensures long { (result ≡ Err ChartError.TooManyEntries) ↔ (20000 < length journal.now.entries) }
+    ensures nothing { IfErr result (λ e. e ≢ ChartError.WriteFault → writer.new ≡ writer.old) }
+{
+    if journal.len() > MAX_CHART_ENTRIES {
+        return Err(ChartError::TooManyEntries);
+    }
+    let ends = times_of(alloc, journal, durations)?;
+    let taken = ends.len().min(entries as usize);
+    match draw(writer, journal, &ends[..taken], answer) {
+        Ok(()) => Ok(()),
+        Err(_) => Err(ChartError::WriteFault),
+    }
+}
