@@ -225,12 +225,13 @@ pub(crate) fn drive_commands<R: AllocGlobal + Wait, I: TellsFault, W: Write, E: 
     plan: &Plan,
     faults: &FaultScript,
     script: Vec<Line>,
+    world: World,
     told: Told,
     lines: &mut LineReader<I>,
     writer: &mut W,
     errors: &mut E,
 ) -> Result<u8, DriveError> {
-    let world = Mutex::new(World::watched(plan.plates));
+    let world = Mutex::new(world);
     let mut run = Run {
         rt,
         world: &world,

@@ -5,9 +5,12 @@ ghost use Rattle.cell_method.specs.Lines.{lines_left};
 ghost use Rattle.cell_drive.specs.Drives.{DrivesEntries};
 
 use crate::looker::Looker;
-use crate::report::{explain_broken, explain_untrue, write_end, write_refusals, write_world};
+use crate::report::{
+    explain_broken, explain_untrue, write_end, write_refusals, write_times, write_world,
+};
 use crate::texts::{Told, begin, status_of, write_told};
 use cell_audit::write_journal;
+use cell_measures::Durations;
 use cell_method::{DriveError, End, LineReader, drive};
 use cell_rows::TellsFault;
 use cell_runs::Inputs;
@@ -39,6 +42,7 @@ fn told_of<R: Wait>(
     book: &Book,
     looker: &mut Looker<'_, R>,
     world: &Mutex<World>,
+    durations: &Durations,
 ) -> io::Result<Vec<u8>> {
     let mut text = Vec::new(alloc);
     let world = world.lock(rt);
@@ -49,6 +53,7 @@ fn told_of<R: Wait>(
     writeln!(text, "collisions {}", world.collisions())?;
     writeln!(text, "untrue {}", looker.untruths.count())?;
     write_world(&mut text, &world, &mut looker.measures)?;
+    write_times(alloc, &mut text, book.journal(), durations)?;
     Ok(text)
 }
 
@@ -93,10 +98,11 @@ pub(crate) fn drive_entries<R: AllocGlobal + Wait, I: TellsFault, W: Write, E: W
         plan,
         faults,
         script,
+        durations,
     } = inputs;
     let alloc = rt.alloc();
     let mut book = empty_book(alloc, &plan)?;
-    let world = Mutex::new(World::watched(plan.plates));
+    let world = Mutex::new(World::watched(plan.plates).with_durations(durations));
     let mut ports = sim_ports(rt, &world, &faults);
     let mut hands = SimOperator::new(rt, &world);
     let mut looker = Looker::new(alloc, rt, &world);
@@ -112,7 +118,7 @@ pub(crate) fn drive_entries<R: AllocGlobal + Wait, I: TellsFault, W: Write, E: W
         &mut looker,
     );
     let end = end_of(ran, looker.lacks_memory())?;
-    let Ok(text) = told_of(alloc, rt, end, &book, &mut looker, &world) else {
+    let Ok(text) = told_of(alloc, rt, end, &book, &mut looker, &world, &durations) else {
         return Err(DriveError::OutOfMemory);
     };
     write_told(writer, text.as_slice())?;

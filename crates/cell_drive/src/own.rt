@@ -3,11 +3,12 @@ ghost use Rattle.std.specs.Prelude.{◌≡◌, ◌⊎◌, ℕ, List, IfOk, OnOk}
 ghost use Rattle.std.specs.Io.KnownBytes.{Appends};
 
 use crate::measures::Measures;
-use crate::report::write_world;
+use crate::report::{write_times, write_world};
 use crate::texts::write_told;
 use cell_diagnosis::Reading;
 use cell_ledger::Blanks;
 use cell_lines::{WriteFault, status};
+use cell_measures::Durations;
 use cell_runs::{Inputs, Outcome, read_inputs, run_over};
 use cell_sim::{FaultScript, SimOperator, SimPort, World};
 use cell_turns::{Plan, Port, PortFault, Ports};
@@ -113,8 +114,13 @@ fn run_own<R: AllocGlobal + Wait>(
 }
 
 // What is told of a run.
-fn told_of<R: AllocGlobal + Wait>(gauges: &Gauges<'_, R>, book: &Book) -> io::Result<Vec<u8>> {
-    let mut text = Vec::new(gauges.rt.alloc());
+fn told_of<R: AllocGlobal + Wait>(
+    gauges: &Gauges<'_, R>,
+    book: &Book,
+    durations: &Durations,
+) -> io::Result<Vec<u8>> {
+    let alloc = gauges.rt.alloc();
+    let mut text = Vec::new(alloc);
     let mut measures = gauges.measures.lock(gauges.rt);
     let world = gauges.world.lock(gauges.rt);
     note_round(&mut measures, &world);
@@ -122,6 +128,7 @@ fn told_of<R: AllocGlobal + Wait>(gauges: &Gauges<'_, R>, book: &Book) -> io::Re
     writeln!(text, "entries {}", book.totals().entries)?;
     writeln!(text, "collisions {}", world.collisions())?;
     write_world(&mut text, &world, &mut measures)?;
+    write_times(alloc, &mut text, book.journal(), durations)?;
     Ok(text)
 }
 
@@ -131,8 +138,9 @@ fn measured<R: AllocGlobal + Wait>(rt: &R, inputs: Inputs) -> Option<Vec<u8>> {
         plan,
         faults,
         script,
+        durations,
     } = inputs;
-    let world = Mutex::new(World::watched(plan.plates));
+    let world = Mutex::new(World::watched(plan.plates).with_durations(durations));
     let measures = Mutex::new(Measures::new(rt.alloc()));
     let gauges = Gauges {
         rt,
@@ -143,7 +151,7 @@ fn measured<R: AllocGlobal + Wait>(rt: &R, inputs: Inputs) -> Option<Vec<u8>> {
     let Ok(Outcome { book, .. }) = run_own(&gauges, &plan, script) else {
         return None;
     };
-    let Ok(text) = told_of(&gauges, &book) else {
+    let Ok(text) = told_of(&gauges, &book, &durations) else {
         return None;
     };
     if measures.lock(rt).lacks_memory() {
@@ -152,22 +160,24 @@ fn measured<R: AllocGlobal + Wait>(rt: &R, inputs: Inputs) -> Option<Vec<u8>> {
     Some(text)
 }
 
-/// Runs the machines' own workers in rounds by the texts of a run, in a cell that is watched, and writes the measures that
-/// `drive_texts` tells of a method. The status is 4 where memory was refused. Texts of which one is refused give no run, and
+/// Runs the machines' own workers in rounds by the texts of a run, in a cell that is watched and whose motions take so many
+/// readings, and writes the measures that `drive_texts` tells of a method. The status is 4 where memory was refused. Texts of which one is refused give no run, and
 /// nothing is written.
 pub fn measure_texts<R: AllocGlobal + Wait, W: Write>(
     rt: &R,
     settings: &[u8],
     faults: &[u8],
     operator: &[u8],
+    durations: &Durations,
     output: &mut W,
 ) -> Result<u8, WriteFault>
     ensures told { OnOk result ((told : List ℕ) × Appends (W.contents output.old) (W.contents output.new) told) }
     ensures status { IfOk result (λ status. (status ≡ 0) ⊎ (status ≡ 4)) }
 {
-    let Ok(inputs) = read_inputs(rt.alloc(), settings, faults, operator) else {
+    let Ok(mut inputs) = read_inputs(rt.alloc(), settings, faults, operator) else {
         return Ok(status::SUCCESS);
     };
+    inputs.durations = *durations;
     let Some(text) = measured(rt, inputs) else {
         return Ok(status::OUT_OF_MEMORY);
     };

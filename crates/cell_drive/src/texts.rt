@@ -7,9 +7,11 @@ use crate::by_commands::{drive_commands, raw_script};
 use crate::by_entries::drive_entries;
 use cell_audit::{WatchedWriter, WriteFault};
 use cell_lines::status;
+use cell_measures::Durations;
 use cell_method::{DriveError, End, LineReader};
 use cell_rows::{TellsFault, Watched};
 use cell_runs::{InputError, Inputs, read_inputs, refuse_input};
+use cell_sim::World;
 use cell_turns::Plan;
 use std::io;
 use std::io::{BufReader, Read, Write};
@@ -24,6 +26,8 @@ pub struct Driving {
     pub journal: bool,
     /// Whether the first of each thing that went wrong is told to the errors.
     pub explain: bool,
+    /// How many readings each motion takes.
+    pub durations: Durations,
 }
 
 /// What is told to the errors at the end of a run.
@@ -66,7 +70,12 @@ fn drive_raw<R: AllocGlobal + Wait, I: TellsFault, W: Write, E: Write>(
     output: &mut W,
     errors: &mut E,
 ) -> Result<u8, DriveError> {
-    let Inputs { plan, faults, .. } = inputs;
+    let Inputs {
+        plan,
+        faults,
+        durations,
+        ..
+    } = inputs;
     let script = match raw_script(rt.alloc(), operator) {
         Ok(script) => script,
         Err(error) => {
@@ -75,7 +84,10 @@ fn drive_raw<R: AllocGlobal + Wait, I: TellsFault, W: Write, E: Write>(
         }
     };
     begin(output, &plan)?;
-    drive_commands(rt, &plan, &faults, script, told, lines, output, errors)
+    let world = World::watched(plan.plates).with_durations(durations);
+    drive_commands(
+        rt, &plan, &faults, script, world, told, lines, output, errors,
+    )
 }
 
 /// Begins the protocol.
@@ -115,7 +127,10 @@ pub fn drive_texts<R: AllocGlobal + Wait, I: Read + Drop, W: Write, E: Write>(
     ensures { IfOk result (DrivesTexts settings.now faults.now operator.now driving.raw (I.remaining input) (W.contents output.old) (W.contents output.new)) }
 {
     let inputs = match read_inputs(rt.alloc(), settings, faults, operator) {
-        Ok(inputs) => inputs,
+        Ok(mut inputs) => {
+            inputs.durations = driving.durations;
+            inputs
+        }
         Err(error) => return refuse_input(&mut WatchedWriter::new(output), error),
     };
     let Ok(reader) = BufReader::new(rt.alloc(), input) else {

@@ -50,6 +50,9 @@ fn a_plate_is_carried_through_the_cell(rt: HostRuntime) -> Result<(), Fail> {
     assert!(rt; has_line(text, "end,finished,,"));
     assert!(rt; has_line(text, "forged 1") && has_line(text, "delivered 1"));
     assert!(rt;
+        has_line(text, "time plates delivered 1") && has_line(text, "time to_repair least -")
+    );
+    assert!(rt;
         has_line(text, "untrue 0") && has_line(text, "broken 0") && has_line(text, "refused 0")
     );
     assert!(rt; written.errors.as_slice() == journal.as_slice());

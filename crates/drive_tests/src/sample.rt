@@ -1,5 +1,6 @@
 //! What a method has written.
 use cell_drive::{Driving, drive_texts};
+use cell_measures::Durations;
 use std::process::Abort;
 use std::sync::Wait;
 use std::test::Fail;
@@ -9,6 +10,7 @@ pub(crate) const ENTRIES: Driving = Driving {
     raw: false,
     journal: false,
     explain: false,
+    durations: Durations::ONE,
 };
 
 /// By commands, and nothing told besides.
@@ -16,6 +18,7 @@ pub(crate) const COMMANDS: Driving = Driving {
     raw: true,
     journal: false,
     explain: false,
+    durations: Durations::ONE,
 };
 
 /// What the machines show at the opening, and that the first round is open.
