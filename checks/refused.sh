@@ -237,6 +237,9 @@ refuse_shown() {
     refuse_words answer_is_right "explain --settings (no TOML)" explain --settings "$examples/press_fails.faults"
     refuse_words answer_is_right "explain --faults" explain --faults "$examples/press_fails.operator"
     refuse_words answer_is_right "explain --operator" explain --operator "$examples/press_fails.operator"
+    refuse_words answer_is_right "measure" measure --times "$examples/measures/times.toml" "$examples/whole.journal" \
+        "$examples/refused.journal"
+    refuse_words answer_is_right "measure --csv" measure --csv "$examples/whole.journal"
 }
 
 refuse_program() {

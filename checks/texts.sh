@@ -122,6 +122,9 @@ endless_texts() {
     measure 'an explanation of it' 'line 1: the first record is profile,1,, or profile,2,,' 1 8 1 explain /dev/zero
     measure 'an audit of a named file of yes' 'unreadable 0' 1 8 1 audit <(yes)
     measure 'an audit of a named journal without an end' 'refused 1000001 JournalFull' 1 64 5 audit <(cat first; yes $'claimed,robot,z3,\nyielded,robot,z3,')
+    measure 'measures of a named file of bytes 0' 'unreadable 0' 1 8 1 measure /dev/zero
+    measure 'measures of a journal without an end' 'refused 1000001 JournalFull' 1 128 10 measure <(cat first; yes $'claimed,robot,z3,\nyielded,robot,z3,')
+    measure 'measures by times of bytes 0' 'times TooLong' 1 16 1 measure --times /dev/zero first
     for command in sim run; do
         measure "$command, settings of bytes 0" 'settings TooLong' 1 16 1 $command /dev/zero none none
         measure "$command, settings of yes" 'settings TooLong' 1 16 1 $command <(yes) none none
@@ -157,8 +160,8 @@ odd_names() {
 # Each command with a stack of 512 KB.
 small_stack() {
     printf 'profile,1,,\n' > journal
-    for words in 'audit' 'migrate' 'show' 'show --svg' 'show --html' 'explain' 'explain --settings good' 'check good' \
-        'sim --explain good none none' 'run good none none'; do
+    for words in 'audit' 'migrate' 'show' 'show --svg' 'show --html' 'explain' 'explain --settings good' 'measure journal' \
+        'check good' 'sim --explain good none none' 'run good none none'; do
         # The words of a command are parted at blanks.
         # shellcheck disable=SC2086
         (ulimit -S -s 512 && exec "$cellctl" $words < journal > said 2> told)
@@ -188,8 +191,8 @@ unwritten() {
 outputs_that_fail() {
     printf 'profile,1,,\n' > journal
     for words in 'audit' 'migrate' 'show' 'show --svg' 'show --html' 'explain' 'explain --settings good' '--help' '--version' 'check good' \
-        'audit journal' 'migrate journal' 'show --file journal' 'explain journal' 'sim good none none' 'sim --explain good none none' \
-        'sim --journal good none none' 'sim --measures good none none' 'run good none none' 'run --journal good none none' \
+        'audit journal' 'migrate journal' 'show --file journal' 'explain journal' 'measure journal' 'measure --csv journal' 'sim good none none' 'sim --explain good none none' \
+        'sim --journal good none none' 'sim --measures good none none' 'run good none none' 'run --journal good none none' 'run --measures good none none' \
         'drive good none none' 'drive --raw good none none'; do
         # The words of a command are parted at blanks.
         # shellcheck disable=SC2086
@@ -215,7 +218,7 @@ files_that_fail() {
     long=$(printf 'n%.0s' {1..300})
     escape=$'\e[31m\xc2\x9b'
     for words in 'audit' 'migrate' 'show --file' 'show 3 -f' 'show --html --file' 'explain' 'explain --settings' 'explain --faults' \
-        'explain --operator' 'check' 'sim good none' 'run good none'; do
+        'explain --operator' 'measure' 'measure none' 'measure none --times' 'check' 'sim good none' 'run good none'; do
         while read -r file reason; do
             # The words of a command are parted at blanks.
             # shellcheck disable=SC2086

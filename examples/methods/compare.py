@@ -28,6 +28,8 @@ def words(text):
     for line in text.splitlines():
         if line.startswith("end,"):
             told["end"] = line.split(",")[1]
+        elif line.startswith("time journal time "):
+            told["least time"] = int(line.split()[3])
         elif line.count(" ") == 1 and line.split()[1].isdigit():
             told[line.split()[0]] = int(line.split()[1])
         else:
@@ -51,6 +53,11 @@ def run(method, texts):
     return words(text)
 
 
+def mean_of(numbers):
+    """The mean of numbers, if there are any."""
+    return round(statistics.mean(numbers)) if numbers else "-"
+
+
 def compare(method, folder):
     def one(number):
         return run(method, (f"{folder}/settings", f"{folder}/{number}", "/dev/null"))
@@ -68,11 +75,13 @@ def main():
     names = ["own"] + [os.path.basename(method) for method in sys.argv[1:]]
     rows = [["", *names], ["without a fault"], ["end"] + [runs[0].get("end", "?") for runs in results]]
     rows += [[count] + [runs[0].get(count, 0) for runs in results] for count in COUNTS]
+    rows += [["least time"] + [runs[0].get("least time", "-") for runs in results]]
     rows += [[f"with each of {len(FAULTS) - 1} single faults"]]
     rows += [["finished"] + [sum(one.get("end") == "finished" for one in runs[1:]) for runs in results]]
     for count in COUNTS:
         sums = [[one.get(count, 0) for one in runs[1:]] for runs in results]
         rows += [[count] + [round(statistics.mean(each)) if count == "rounds" else sum(each) for each in sums]]
+    rows += [["least time"] + [mean_of([one["least time"] for one in runs[1:] if "least time" in one]) for runs in results]]
     for row in rows:
         print("".join(f"{cell:>14}" if column else f"{cell:<14}" for column, cell in enumerate(row)))
 

@@ -1,8 +1,10 @@
 -- The subcommand that clap's matches name, and what is matched below it.
-use Rattle.std.proofs.Common.{◌≡◌, ℕ, Bor, List, Option, Some, None, option_map, refl, sym}
+use Rattle.std.proofs.Common.{◌≡◌, ℕ, Bor, List, Option, Some, None, ap, map, option_map, refl, sym, ◌∙◌}
 use Rattle.std.specs.Prelude.{IfSome, true}
-use Rattle.clap.specs.Words.{is_simple, is_simple_and_free}
-use Rattle.cell_command.specs.Shape.{cellctl, checking, driving, explain, flagged, judging, pictured, reading, scripted, show, showing, simulating}
+use Rattle.clap.specs.Words.{all_of, is_simple, is_simple_and_free, matched_of, raw_values, rows_of}
+use Rattle.clap.specs.declared.parser.matches.Found.{Found}
+use Rattle.clap.proofs.WalkLemmas.{raw_values-rows}
+use Rattle.cell_command.specs.Shape.{cellctl, checking, driving, explain, flagged, judging, measure, measuring, pictured, reading, scripted, show, showing, simulating}
 
 abbrev pub both : {X A B : Type 0} → (X → A) → (X → B) → X → A × B
 both f g x = (f x, g x)
@@ -18,11 +20,17 @@ pub same-value : (o : Option (Bor (List ℕ))) (found : Option (List ℕ)) → o
 same-value None found h = tt
 same-value (Some p) found h = sym h
 
+-- the values that were found, as a list has them
+pub same-values : (found : Found) (id : List ℕ) (texts values : List (Bor (List ℕ))) → Some (map (λ v. v.now) texts) ≡ option_map raw_values (matched_of found id)
+    → values ≡ texts → all_of id (rows_of found) ≡ Some (map (λ v. v.now) values)
+same-values found id texts values h same =
+    sym (raw_values-rows found id) ∙ sym h ∙ ap (λ (l : List (Bor (List ℕ))). Some (map (λ v. v.now) l)) (sym same)
+
 -- the program's command line is one of which clap's definitions tell the matches and the faults
 pub cellctl-simple : is_simple cellctl ≡ true
-unfolding checking driving explain flagged judging pictured reading scripted show showing simulating
+unfolding checking driving explain flagged judging measure measuring pictured reading scripted show showing simulating
 cellctl-simple = refl
 
 pub cellctl-free : is_simple_and_free cellctl ≡ true
-unfolding checking driving explain flagged judging pictured reading scripted show showing simulating
+unfolding checking driving explain flagged judging measure measuring pictured reading scripted show showing simulating
 cellctl-free = refl

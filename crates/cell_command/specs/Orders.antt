@@ -1,10 +1,11 @@
 -- What an order has of the words
-use Rattle.std.specs.Prelude.{◌≡◌, ℕ, Bool, true, false, List, Option, Some, None, codes, option_map}
+use Rattle.std.specs.Prelude.{◌≡◌, ℕ, Bool, true, false, List, Option, Some, None, codes, map, option_map}
 use Rattle.std.specs.Borrow.{Bor}
-use Rattle.clap.specs.Words.{Row, Text, first_of, one_of, subcommand_of}
+use Rattle.clap.specs.Words.{Row, Text, all_of, first_of, one_of, subcommand_of}
 use Rattle.cell_command.specs.Shape.{cellctl}
 use Rattle.cell_command.specs.declared.order.Driving.{Driving}
 use Rattle.cell_command.specs.declared.order.Explaining.{Explaining}
+use Rattle.cell_command.specs.declared.order.Measuring.{Measuring}
 use Rattle.cell_command.specs.declared.order.Paths.{Paths}
 use Rattle.cell_command.specs.declared.order.Running.{Running}
 use Rattle.cell_command.specs.declared.order.Showing.{Showing}
@@ -19,6 +20,10 @@ HasPath rows id path = first_of id rows ≡ Some path
 abbrev pub HasValue : List Row → Text → Option (Bor (List ℕ)) → Type 0
 HasValue rows id value = option_map (λ v. v.now) value ≡ first_of id rows
 
+-- the values that are matched at an id
+abbrev pub HasValues : List Row → Text → List (Bor (List ℕ)) → Type 0
+HasValues rows id values = all_of id rows ≡ Some (map (λ v. v.now) values)
+
 -- the flag is set where it is matched
 abbrev pub HasFlag : List Row → Text → Bool → Type 0
 HasFlag rows id flag = (one_of id rows ≡ Some (codes "true") → flag ≡ true)
@@ -31,19 +36,20 @@ HasPaths rows paths = HasPath rows (codes "settings") paths.settings.now
     × HasPath rows (codes "faults") paths.faults.now
     × HasPath rows (codes "operator") paths.operator.now
 
--- the flags of a run, and its files
+-- the flags of a run, the file with the durations of its motions, and its files
 abbrev pub IsRun : List Row → Running → Type 0
-IsRun rows r = HasFlag rows (codes "journal") r.journal × HasFlag rows (codes "explain") r.explain × HasPaths rows r.paths
+IsRun rows r = HasFlag rows (codes "journal") r.journal × HasFlag rows (codes "explain") r.explain × HasValue rows (codes "times") r.times × HasPaths rows r.paths
 
 -- the flag for bare machines, and the flags and files of a run
 abbrev pub IsDriven : List Row → Driving → Type 0
 IsDriven rows d = HasFlag rows (codes "raw") d.raw × IsRun rows d.running
 
--- the flags of a picture, the journal's file, and how many entries it takes
+-- the flags of a picture, the files of durations and of the journal, and how many entries it takes
 abbrev pub IsShown : List Row → Showing → Type 0
 IsShown rows s = HasFlag rows (codes "svg") s.svg
     × HasFlag rows (codes "html") s.html
     × HasFlag rows (codes "unicode") s.unicode
+    × HasValue rows (codes "times") s.times
     × HasValue rows (codes "file") s.file
     × HasValue rows (codes "entry") s.entry
 
@@ -54,18 +60,26 @@ IsExplained rows e = HasValue rows (codes "file") e.journal
     × HasValue rows (codes "faults") e.faults
     × HasValue rows (codes "operator") e.operator
 
+-- the file with the durations of motions, the flag of CSV, and the journals
+abbrev pub IsMeasured : List Row → Measuring → Type 0
+IsMeasured rows m = HasValue rows (codes "times") m.times
+    × HasFlag rows (codes "csv") m.csv
+    × HasValues rows (codes "journals") m.journals.items
+
 -- the order of a command's name and what is matched below it
 abbrev pub Fits : Text → List Row → Order → Type 0
 Fits name rows (order.Audit file) = (name ≡ codes "audit") × HasValue rows (codes "file") file
 Fits name rows (order.Migrate file) = (name ≡ codes "migrate") × HasValue rows (codes "file") file
 Fits name rows (order.Show showing) = (name ≡ codes "show") × IsShown rows showing
 Fits name rows (order.Explain explaining) = (name ≡ codes "explain") × IsExplained rows explaining
+Fits name rows (order.Measure measuring) = (name ≡ codes "measure") × IsMeasured rows measuring
 Fits name rows (order.Check path) = (name ≡ codes "check") × HasPath rows (codes "settings") path.now
 Fits name rows (order.Sim running) = (name ≡ codes "sim") × HasValue rows (codes "follow") None × HasFlag rows (codes "measures") false × IsRun rows running
-Fits name rows (order.Measure running) = (name ≡ codes "sim") × HasValue rows (codes "follow") None × HasFlag rows (codes "measures") true × IsRun rows running
+Fits name rows (order.SimMeasured running) = (name ≡ codes "sim") × HasValue rows (codes "follow") None × HasFlag rows (codes "measures") true × IsRun rows running
 Fits name rows (order.Follow path running) = (name ≡ codes "sim") × HasValue rows (codes "follow") (Some path) × IsRun rows running
 Fits name rows (order.Drive driving) = (name ≡ codes "drive") × IsDriven rows driving
-Fits name rows (order.Run running) = (name ≡ codes "run") × IsRun rows running
+Fits name rows (order.Run running) = (name ≡ codes "run") × HasFlag rows (codes "measures") false × IsRun rows running
+Fits name rows (order.RunMeasured running) = (name ≡ codes "run") × HasFlag rows (codes "measures") true × IsRun rows running
 
 -- the words have a command that clap matches in them, and the order is of it
 abbrev pub IsOrdered : List Text → Order → Type 0

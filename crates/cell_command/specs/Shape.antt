@@ -1,7 +1,7 @@
 -- The command line that the program knows
 use Rattle.std.specs.Prelude.{true, Some, codes}
 use Rattle.clap.specs.Words.{App, Rule, Shape, Text, new_app, new_rule, with_rule, with_subcommand}
-use Rattle.clap.specs.declared.builder.ArgAction.TheVariants.{SetTrue}
+use Rattle.clap.specs.declared.builder.ArgAction.TheVariants.{Append, SetTrue}
 
 -- the program's name alone asks for help, and `--version` for the version
 abbrev pub for_people : Shape → Shape
@@ -36,6 +36,10 @@ flag_rule id = record (new_rule id) { long = Some id; action = Some SetTrue }
 abbrev pub file_rule : Text → Rule
 file_rule id = record (new_rule id) { long = Some id; value_names = 1 }
 
+-- the option with the file that has the durations of motions
+abbrev pub times_rule : Rule
+times_rule = file_rule (codes "times")
+
 -- the option with the name of a journal's file, which has a short form, `-f`
 abbrev pub journal_rule : Rule
 journal_rule = record (file_rule (codes "file")) { short = Some 102 }
@@ -44,17 +48,26 @@ journal_rule = record (file_rule (codes "file")) { short = Some 102 }
 unfoldable pub pictured : App
 pictured = with_rule (with_rule (new_app (codes "show")) (flag_rule (codes "svg"))) (flag_rule (codes "html"))
 
--- the same with the flag for other signs, the option for a file, and how many entries are shown, which may be given
+-- the same with the flag for other signs, the options for durations and for a file, and how many entries are shown, which may be
+-- given
 unfoldable pub show : App
-show = with_rule (with_rule (with_rule pictured (flag_rule (codes "unicode"))) journal_rule) (optional_rule (codes "entry"))
+show = with_rule (with_rule (with_rule (with_rule pictured (flag_rule (codes "unicode"))) times_rule) journal_rule) (optional_rule (codes "entry"))
+
+-- words of which one at least has to be given
+abbrev pub several_rule : Text → Rule
+several_rule id = record (new_rule id) { required = true; value_names = 1; action = Some Append }
 
 unfoldable pub explain : App
 explain =
     with_input (with_rule (with_rule (with_rule (new_app (codes "explain")) (file_rule (codes "settings"))) (file_rule (codes "faults"))) (file_rule (codes "operator")))
 
--- a command with the flags of those that run the cell
+-- the command that measures journals: the option with the durations of motions, the flag of CSV, and the journals
+unfoldable pub measure : App
+measure = with_rule (with_rule (with_rule (new_app (codes "measure")) times_rule) (flag_rule (codes "csv"))) (several_rule (codes "journals"))
+
+-- a command with the flags of those that run the cell, and the option for durations
 unfoldable pub flagged : App → App
-flagged a = with_rule (with_rule a (flag_rule (codes "journal"))) (flag_rule (codes "explain"))
+flagged a = with_rule (with_rule (with_rule a (flag_rule (codes "journal"))) (flag_rule (codes "explain"))) times_rule
 
 -- a command with the paths of a run's two scripts
 unfoldable pub scripted : App → App
@@ -73,9 +86,9 @@ sim = filed (with_rule (with_rule (flagged (new_app (codes "sim"))) (file_rule (
 abbrev pub drive : App
 drive = filed (flagged (with_rule (new_app (codes "drive")) (flag_rule (codes "raw"))))
 
--- the command that runs the cell on threads
+-- the command that runs the cell on threads, with the flag for measures
 abbrev pub run : App
-run = filed (flagged (new_app (codes "run")))
+run = filed (with_rule (flagged (new_app (codes "run"))) (flag_rule (codes "measures")))
 
 -- the program with the commands that judge a journal
 unfoldable pub judging : App
@@ -89,9 +102,13 @@ showing = with_subcommand judging show.top
 unfoldable pub reading : App
 reading = with_subcommand showing explain.top
 
+-- the program with the commands that read journals, one or several
+unfoldable pub measuring : App
+measuring = with_subcommand reading measure.top
+
 -- the program with the commands that run nothing
 unfoldable pub checking : App
-checking = with_subcommand reading check.top
+checking = with_subcommand measuring check.top
 
 -- the program with all commands but those by which a method drives the cell and which run it on threads
 unfoldable pub simulating : App

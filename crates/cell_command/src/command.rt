@@ -1,16 +1,17 @@
 //! The command line that the program knows, and its help.
-ghost use Rattle.std.specs.Prelude.{◌≡◌, IfOk, false};
+ghost use Rattle.std.specs.Prelude.{◌≡◌, IfOk, codes, false};
 ghost use Rattle.clap.specs.Words.{app_of, new_app, with_rule, with_subcommand};
 ghost use Rattle.clap.specs.declared.builder.command.Command.TheViews.{out-Command};
-ghost use Rattle.cell_command.specs.Shape.{audit, cellctl, check, checking, drive, driving, explain, file_rule, filed, flag_rule, flagged, journal_rule, judging, migrate, optional_rule, path_rule, pictured, reading, run, scripted, show, showing, sim, simulating, with_input};
+ghost use Rattle.cell_command.specs.Shape.{audit, cellctl, check, checking, drive, driving, explain, file_rule, filed, flag_rule, flagged, journal_rule, judging, measure, measuring, migrate, optional_rule, path_rule, pictured, reading, run, scripted, several_rule, show, showing, sim, simulating, times_rule, with_input};
 
 use crate::help::{
     ABOUT, AFTER, AUDIT_ABOUT, AUDIT_EXAMPLE, AUDIT_HELP, CHECK_ABOUT, CHECK_EXAMPLE, CHECK_HELP,
-    DRIVE_ABOUT, DRIVE_EXAMPLE, DRIVE_HELP, ENTRY_HELP, EXPLAIN_ABOUT, EXPLAIN_EXAMPLE,
+    CSV_HELP, DRIVE_ABOUT, DRIVE_EXAMPLE, DRIVE_HELP, ENTRY_HELP, EXPLAIN_ABOUT, EXPLAIN_EXAMPLE,
     EXPLAIN_HELP, EXPLAIN_USAGE, FAULTS_HELP, FILE_HELP, FOLLOW_HELP, HTML_HELP, JOURNAL_HELP,
-    MEASURES_HELP, MIGRATE_ABOUT, MIGRATE_EXAMPLE, MIGRATE_HELP, OPERATOR_HELP, RAW_HELP,
-    RUN_ABOUT, RUN_EXAMPLE, RUN_HELP, SETTINGS_HELP, SHOW_ABOUT, SHOW_EXAMPLE, SHOW_HELP,
-    SHOW_USAGE, SIM_ABOUT, SIM_EXAMPLE, SIM_HELP, SVG_HELP, UNICODE_HELP, VERSION, WHY_HELP,
+    JOURNALS_HELP, LEAST_HELP, MEASURE_ABOUT, MEASURE_EXAMPLE, MEASURE_HELP, MEASURES_HELP,
+    MIGRATE_ABOUT, MIGRATE_EXAMPLE, MIGRATE_HELP, OPERATOR_HELP, RAW_HELP, RUN_ABOUT, RUN_EXAMPLE,
+    RUN_HELP, SETTINGS_HELP, SHOW_ABOUT, SHOW_EXAMPLE, SHOW_HELP, SHOW_USAGE, SIM_ABOUT,
+    SIM_EXAMPLE, SIM_HELP, SVG_HELP, TIMES_HELP, UNICODE_HELP, VERSION, WHY_HELP,
 };
 use clap::{Arg, ArgAction, Command};
 use std::alloc::{AllocError, Global};
@@ -129,6 +130,15 @@ fn with_journal_option<'a>(alloc: Global, command: Command<'a>) -> Result<Comman
     command.arg(file)
 }
 
+// Adds the option for the file with the durations of motions.
+fn with_times<'a>(alloc: Global, command: Command<'a>) -> Result<Command<'a>, AllocError>
+    requires local { (out-Command command).has_globals ≡ false }
+    ensures app { IfOk result (λ c. app_of c ≡ with_rule (app_of command.entry) times_rule) }
+    ensures local { IfOk result (λ c. (out-Command c).has_globals ≡ false) }
+{
+    with_file(alloc, command, "times", "FILE", TIMES_HELP)
+}
+
 fn audit_command<'a>(alloc: Global) -> Result<Command<'a>, AllocError>
     ensures app { IfOk result (λ c. app_of c ≡ audit) }
     ensures local { IfOk result (λ c. (out-Command c).has_globals ≡ false) }
@@ -179,7 +189,8 @@ fn show_command<'a>(alloc: Global) -> Result<Command<'a>, AllocError>
 {
     let pictured = pictured_command(alloc)?;
     let unicode = with_flag(alloc, pictured, "unicode", UNICODE_HELP)?;
-    let file = with_journal_option(alloc, unicode)?;
+    let timed = with_times(alloc, unicode)?;
+    let file = with_journal_option(alloc, timed)?;
     with_word(alloc, file, "entry", "ENTRY", ENTRY_HELP)
 }
 
@@ -202,7 +213,39 @@ fn explain_command<'a>(alloc: Global) -> Result<Command<'a>, AllocError>
     with_journal(alloc, operator)
 }
 
-// Adds the flags of a command that runs the cell.
+// Adds the names of journals' files, of which one at least has to be given.
+fn with_journals<'a>(alloc: Global, command: Command<'a>) -> Result<Command<'a>, AllocError>
+    requires local { (out-Command command).has_globals ≡ false }
+    ensures app { IfOk result (λ c. app_of c ≡ with_rule (app_of command.entry) (several_rule (codes "journals"))) }
+    ensures local { IfOk result (λ c. (out-Command c).has_globals ≡ false) }
+{
+    let journals = Arg::new(alloc, "journals")
+        .required(true)
+        .value_name("JOURNAL")
+        .action(ArgAction::Append)
+        .help(JOURNALS_HELP);
+    command.arg(journals)
+}
+
+// The command that measures journals.
+#[tactic(auto, unfolding(crate::specs::Shape::measure))]
+fn measure_command<'a>(alloc: Global) -> Result<Command<'a>, AllocError>
+    ensures app { IfOk result (λ c. app_of c ≡ measure) }
+    ensures local { IfOk result (λ c. (out-Command c).has_globals ≡ false) }
+{
+    let command = described(
+        alloc,
+        "measure",
+        MEASURE_ABOUT,
+        MEASURE_HELP,
+        MEASURE_EXAMPLE,
+    );
+    let timed = with_times(alloc, command)?;
+    let csv = with_flag(alloc, timed, "csv", CSV_HELP)?;
+    with_journals(alloc, csv)
+}
+
+// Adds the flags of a command that runs the cell, and the option for durations.
 #[tactic(auto, unfolding(crate::specs::Shape::flagged))]
 fn with_flags<'a>(alloc: Global, command: Command<'a>) -> Result<Command<'a>, AllocError>
     requires local { (out-Command command).has_globals ≡ false }
@@ -210,7 +253,8 @@ fn with_flags<'a>(alloc: Global, command: Command<'a>) -> Result<Command<'a>, Al
     ensures local { IfOk result (λ c. (out-Command c).has_globals ≡ false) }
 {
     let journal = with_flag(alloc, command, "journal", JOURNAL_HELP)?;
-    with_flag(alloc, journal, "explain", WHY_HELP)
+    let explain = with_flag(alloc, journal, "explain", WHY_HELP)?;
+    with_times(alloc, explain)
 }
 
 // Adds the paths of both scripts to a command that runs the cell.
@@ -256,14 +300,15 @@ fn drive_command<'a>(alloc: Global) -> Result<Command<'a>, AllocError>
     with_files(alloc, flagged)
 }
 
-// The command that runs the cell on threads.
+// The command that runs the cell on threads, with the flag for measures.
 fn run_command<'a>(alloc: Global) -> Result<Command<'a>, AllocError>
     ensures app { IfOk result (λ c. app_of c ≡ run) }
     ensures local { IfOk result (λ c. (out-Command c).has_globals ≡ false) }
 {
     let command = described(alloc, "run", RUN_ABOUT, RUN_HELP, RUN_EXAMPLE);
     let flagged = with_flags(alloc, command)?;
-    with_files(alloc, flagged)
+    let measures = with_flag(alloc, flagged, "measures", LEAST_HELP)?;
+    with_files(alloc, measures)
 }
 
 // Adds a command.
@@ -310,15 +355,26 @@ fn reading_commands<'a>(alloc: Global) -> Result<Command<'a>, AllocError>
     add(showing, explain)
 }
 
+// The program with the commands that read journals, one or several.
+#[tactic(auto, unfolding(crate::specs::Shape::measuring))]
+fn measuring_commands<'a>(alloc: Global) -> Result<Command<'a>, AllocError>
+    ensures app { IfOk result (λ c. app_of c ≡ measuring) }
+    ensures local { IfOk result (λ c. (out-Command c).has_globals ≡ false) }
+{
+    let reading = reading_commands(alloc)?;
+    let measure = measure_command(alloc)?;
+    add(reading, measure)
+}
+
 // The program with the commands that run nothing.
 #[tactic(auto, unfolding(crate::specs::Shape::checking))]
 fn checking_commands<'a>(alloc: Global) -> Result<Command<'a>, AllocError>
     ensures app { IfOk result (λ c. app_of c ≡ checking) }
     ensures local { IfOk result (λ c. (out-Command c).has_globals ≡ false) }
 {
-    let reading = reading_commands(alloc)?;
+    let measuring = measuring_commands(alloc)?;
     let check = check_command(alloc)?;
-    add(reading, check)
+    add(measuring, check)
 }
 
 // The program with all commands but those by which a method drives the cell and which run it on threads.

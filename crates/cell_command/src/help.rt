@@ -275,7 +275,8 @@ machine, or the end is turn limit or full, the end and what is counted may
 differ too. The line
   journal disagrees
 says that some worker's list of what it booked isn't what the journal has of
-it.
+it. With --measures the lines that begin with time tell the measures of the
+run's journal, as the command measure does.
 
 Exit status: 0 finished, 1 another end, a text refused or a journal that
 disagrees, 2 wrong arguments, 3 a read or a write failed, 4 out of memory, or
@@ -288,7 +289,7 @@ Example: cellctl run examples/press_fails.toml \\
 pub(crate) const SHOW_ABOUT: &str = "Draw the cell as a journal's first entries left it";
 
 pub(crate) const SHOW_USAGE: &str = "\
-cellctl show [--svg | --html | --unicode] [--file FILE] [ENTRY]";
+cellctl show [--svg [--times FILE] | --html | --unicode] [--file FILE] [ENTRY]";
 
 pub(crate) const SHOW_HELP: &str = "\
 Reads a journal's text from FILE, or on standard input where no file is named,
@@ -302,7 +303,9 @@ by --file alone.
 
 Prints at most 24 lines of 78 characters, plain ASCII or with --unicode also
 other signs; with --svg one picture file; with --html one page for a browser,
-which has the states after all entries, of which it shows at most 20000.
+which has the states after all entries, of which it shows at most 20000. With
+--svg --times FILE the picture has at most 20000 entries on an axis of time,
+where motions take what FILE says (see the command measure).
 
 A journal that is refused or can't be read is shown up to its last good entry,
 and below stands the line of the command audit.
@@ -344,6 +347,8 @@ pub(crate) const FOLLOW_HELP: &str = "Take the run of this journal again";
 
 pub(crate) const MEASURES_HELP: &str = "Tell the measures of a run in rounds";
 
+pub(crate) const LEAST_HELP: &str = "Tell how long the run's events need at least";
+
 pub(crate) const WHY_HELP: &str = "Say on standard error why the run ended so";
 
 pub(crate) const SVG_HELP: &str = "Print one picture file in SVG";
@@ -351,6 +356,40 @@ pub(crate) const SVG_HELP: &str = "Print one picture file in SVG";
 pub(crate) const HTML_HELP: &str = "Print one page in HTML with all states";
 
 pub(crate) const UNICODE_HELP: &str = "Draw with signs beyond ASCII";
+
+pub(crate) const MEASURE_ABOUT: &str = "Tell how long a journal's events need at least";
+
+pub(crate) const MEASURE_HELP: &str = "\
+Tells how long the events of legal journals need at least, and how that time
+goes. An entry begins when all have ended for which it waits: those of its
+machine and of its plate, and those that set a zone free which it wants. A
+motion takes its duration, and all else no time.
+
+Prints the time; the time of delivered plates from laying in to taking out, and
+how many come for each 1,000 units after the first; of each machine how long it
+moved, held a zone, waited for a zone, was failed and was idle; of each zone
+how long each machine held it; and how long it was from a failure to the next
+delivery and to the repair. Up to five journals stand side by side.
+
+The durations are whole numbers from 0 to 1000, by axis or by pose, and 1 where
+none is given:
+  [time]
+  robot_turn = 3
+  press_one.top = 6
+
+A journal that isn't legal is told as audit tells it: alone on standard output,
+and where several are named on standard error, after its name.
+
+Exit status: 0 all legal, 1 a journal or the durations are refused, 2 wrong
+arguments, 3 a read or a write failed, 4 out of memory.";
+
+pub(crate) const MEASURE_EXAMPLE: &str = "Example: cellctl measure examples/whole.journal";
+
+pub(crate) const TIMES_HELP: &str = "A file with the durations of motions";
+
+pub(crate) const CSV_HELP: &str = "Print a line of CSV for each journal";
+
+pub(crate) const JOURNALS_HELP: &str = "The files with the journals";
 
 pub(crate) const FILE_HELP: &str = "The file with the journal; with none it is on standard input";
 

@@ -3,7 +3,7 @@ ghost use Rattle.std.specs.Prelude.{IfOk, IfSome, codes, map};
 ghost use Rattle.clap.specs.Kinds.{FailsBy};
 ghost use Rattle.clap.specs.Words.{fault_of, found_of, rows_of};
 ghost use Rattle.cell_command.specs.Shape.{cellctl};
-ghost use Rattle.cell_command.specs.Orders.{Fits, HasFlag, HasPath, HasPaths, HasValue, IsDriven, IsExplained, IsOrdered, IsRun, IsShown};
+ghost use Rattle.cell_command.specs.Orders.{Fits, HasFlag, HasPath, HasPaths, HasValue, HasValues, IsDriven, IsExplained, IsMeasured, IsOrdered, IsRun, IsShown};
 
 use crate::command::command;
 use clap::{ArgMatches, Error};
@@ -17,12 +17,13 @@ pub struct Paths<'a> {
     pub operator: &'a str,
 }
 
-/// How the simulated cell is to be run: whether its journal is printed alone, whether its end is explained, and where its files
-/// are.
+/// How the simulated cell is to be run: whether its journal is printed alone, whether its end is explained, the file with the
+/// durations of its motions, if there is one, and where its files are.
 #[derive(Clone, Copy, Debug, PartialEq, Eq)]
 pub struct Running<'a> {
     pub journal: bool,
     pub explain: bool,
+    pub times: Option<&'a str>,
     pub paths: Paths<'a>,
 }
 
@@ -34,13 +35,14 @@ pub struct Driving<'a> {
     pub running: Running<'a>,
 }
 
-/// How a journal is to be shown: which flags are given, the file that has it, if it isn't on standard input, and the number of
-/// entries as it is written.
+/// How a journal is to be shown: which flags are given, the file with the durations of motions, if there is one, the file that has
+/// the journal, if it isn't on standard input, and the number of entries as it is written.
 #[derive(Clone, Copy, Debug, PartialEq, Eq)]
 pub struct Showing<'a> {
     pub svg: bool,
     pub html: bool,
     pub unicode: bool,
+    pub times: Option<&'a str>,
     pub file: Option<&'a str>,
     pub entry: Option<&'a str>,
 }
@@ -54,8 +56,16 @@ pub struct Explaining<'a> {
     pub operator: Option<&'a str>,
 }
 
+/// The journals that are to be measured, the file with the durations of motions, and whether the measures are told in CSV.
+#[derive(Debug, Drop, PartialEq, Eq)]
+pub struct Measuring<'a> {
+    pub times: Option<&'a str>,
+    pub csv: bool,
+    pub journals: Vec<&'a str>,
+}
+
 /// What the program is to do.
-#[derive(Clone, Copy, Debug, PartialEq, Eq)]
+#[derive(Debug, Drop, PartialEq, Eq)]
 pub enum Order<'a> {
     /// Audit the journal's text in the file of this path, or with none that on standard input.
     Audit(Option<&'a str>),
@@ -65,18 +75,22 @@ pub enum Order<'a> {
     Show(Showing<'a>),
     /// Say why a text is refused.
     Explain(Explaining<'a>),
+    /// Tell how long the events of journals need at least.
+    Measure(Measuring<'a>),
     /// Check the settings in the file of this path.
     Check(&'a str),
     /// Run the simulated cell on one thread.
     Sim(Running<'a>),
     /// Run the simulated cell on one thread, in rounds, and tell the run's measures.
-    Measure(Running<'a>),
+    SimMeasured(Running<'a>),
     /// Follow the journal in the file of this path on one thread, with the simulated cell.
     Follow(&'a str, Running<'a>),
     /// Let a method drive the simulated cell over the standard streams.
     Drive(Driving<'a>),
     /// Run the simulated cell by workers on threads.
     Run(Running<'a>),
+    /// Run the simulated cell by workers on threads, and tell the run's measures.
+    RunMeasured(Running<'a>),
 }
 
 // The value at an id, if it has one.
@@ -107,6 +121,7 @@ fn run_words<'a>(matches: &ArgMatches<'a>) -> Option<Running<'a>>
     Some(Running {
         journal: flag(matches, "journal"),
         explain: flag(matches, "explain"),
+        times: value(matches, "times"),
         paths: three_paths(matches)?,
     })
 }
@@ -118,8 +133,20 @@ fn sim_words<'a>(matches: &ArgMatches<'a>) -> Option<Order<'a>>
     let running = run_words(matches)?;
     match value(matches, "follow") {
         Some(path) => Some(Order::Follow(path, running)),
-        None if flag(matches, "measures") => Some(Order::Measure(running)),
+        None if flag(matches, "measures") => Some(Order::SimMeasured(running)),
         None => Some(Order::Sim(running)),
+    }
+}
+
+// How the simulated cell is to be run on threads: with measures or without.
+fn threads_words<'a>(matches: &ArgMatches<'a>) -> Option<Order<'a>>
+    ensures { IfSome result (Fits (codes "run") (rows_of (found_of matches.now))) }
+{
+    let running = run_words(matches)?;
+    if flag(matches, "measures") {
+        Some(Order::RunMeasured(running))
+    } else {
+        Some(Order::Run(running))
     }
 }
 
@@ -141,6 +168,7 @@ fn show_words<'a>(matches: &ArgMatches<'a>) -> Showing<'a>
         svg: flag(matches, "svg"),
         html: flag(matches, "html"),
         unicode: flag(matches, "unicode"),
+        times: value(matches, "times"),
         file: value(matches, "file"),
         entry: value(matches, "entry"),
     }
@@ -158,6 +186,28 @@ fn explain_words<'a>(matches: &ArgMatches<'a>) -> Explaining<'a>
     }
 }
 
+// The values at an id; `None` where memory was refused, or it has none.
+fn values<'a>(alloc: Global, matches: &ArgMatches<'a>, id: &str) -> Option<Vec<&'a str>>
+    ensures { IfSome result (λ values. HasValues (rows_of (found_of matches.now)) id.now values.items) }
+{
+    let mut values = Vec::new(alloc);
+    match values.extend_from_slice(matches.get_strs(id)?) {
+        Ok(()) => Some(values),
+        Err(_) => None,
+    }
+}
+
+// What is to be measured; `None` where memory was refused.
+fn measure_words<'a>(alloc: Global, matches: &ArgMatches<'a>) -> Option<Measuring<'a>>
+    ensures { IfSome result (IsMeasured (rows_of (found_of matches.now))) }
+{
+    Some(Measuring {
+        times: value(matches, "times"),
+        csv: flag(matches, "csv"),
+        journals: values(alloc, matches, "journals")?,
+    })
+}
+
 // The paths of a run.
 fn three_paths<'a>(matches: &ArgMatches<'a>) -> Option<Paths<'a>>
     ensures { IfSome result (HasPaths (rows_of (found_of matches.now))) }
@@ -173,7 +223,7 @@ fn three_paths<'a>(matches: &ArgMatches<'a>) -> Option<Paths<'a>>
 }
 
 // The order of a command's name and its matches.
-fn order_of<'a>(name: &str, matches: &ArgMatches<'a>) -> Option<Order<'a>>
+fn order_of<'a>(alloc: Global, name: &str, matches: &ArgMatches<'a>) -> Option<Order<'a>>
     ensures { IfSome result (Fits name.now (rows_of (found_of matches.now))) }
 {
     match name {
@@ -181,10 +231,11 @@ fn order_of<'a>(name: &str, matches: &ArgMatches<'a>) -> Option<Order<'a>>
         "migrate" => Some(Order::Migrate(value(matches, "file"))),
         "show" => Some(Order::Show(show_words(matches))),
         "explain" => Some(Order::Explain(explain_words(matches))),
+        "measure" => Some(Order::Measure(measure_words(alloc, matches)?)),
         "check" => Some(Order::Check(path(matches, "settings")?)),
         "sim" => sim_words(matches),
         "drive" => Some(Order::Drive(drive_words(matches)?)),
-        "run" => Some(Order::Run(run_words(matches)?)),
+        "run" => threads_words(matches),
         _ => None,
     }
 }
@@ -200,7 +251,7 @@ pub fn read_words<'a>(alloc: Global, words: &'a [&'a str]) -> Result<Order<'a>, 
 {
     let matches = command(alloc)?.try_get_matches_from(words)?;
     match matches.subcommand() {
-        Some((name, inner)) => match order_of(name, inner) {
+        Some((name, inner)) => match order_of(alloc, name, inner) {
             Some(order) => Ok(order),
             // clap gives no matches with another command, or without its path.
             None => Err(Error::from(AllocError)),

@@ -1,5 +1,5 @@
 -- What is written for the words of a command line, and the status with which the program ends
-use Rattle.std.specs.Prelude.{◌≡◌, ◌≢◌, ◌⊎◌, ◌<◌, ◌≤◌, ◌++◌, ◌∷◌, [], ℕ, Bool, true, false, List, Option, Some, None, Result, Ok, Err, IfOk, IfSome, MatchOption, MatchResult, codes}
+use Rattle.std.specs.Prelude.{◌≡◌, ◌≢◌, ◌⊎◌, ◌<◌, ◌≤◌, ◌++◌, ◌∷◌, [], ℕ, Bool, true, false, List, Option, Some, None, Result, Ok, Err, IfOk, IfSome, MatchOption, MatchResult, codes, ⊤}
 use Rattle.std.specs.Borrow.{Bor}
 use Rattle.std.specs.Io.KnownBytes.{Appends, Keeps}
 use Rattle.clap.specs.Words.{HasKind, Text as Word, fault_of, kind_of}
@@ -30,8 +30,11 @@ use Rattle.cell_show.specs.declared.error.ShowError.{ShowError}
 use Rattle.cell_show.specs.declared.error.ShowError.TheVariants as error
 use Rattle.cell_show.specs.declared.show.Form.{Form}
 use Rattle.cell_show.specs.declared.show.Form.TheVariants as form
+use Rattle.cellctl.specs.Measured.{MeasuresJournals}
 use Rattle.cellctl.specs.declared.explain.Text.{Text}
 use Rattle.cellctl.specs.declared.explain.Text.TheVariants as explained
+use Rattle.cellctl.specs.declared.show.Timed.{Timed}
+use Rattle.cellctl.specs.declared.show.Timed.TheVariants as timed
 
 -- what holds of the text that is read: that of the file that is named, which may be any, or else that of the input
 abbrev pub OfText : Option (Bor (List ℕ)) → Option (List ℕ) → (Option (List ℕ) → Type 0) → Type 0
@@ -78,16 +81,48 @@ abbrev pub IsNoNumber : Option (Bor (List ℕ)) → Type 0
 IsNoNumber None = ⊥
 IsNoNumber (Some word) = (n : ℕ) → IsNumber word.now n → ⊥
 
--- the flags ask for one form and the words for a number of entries or for all, which are shown; or the words are wrong
+-- a file is named
+abbrev pub IsGiven : Option (Bor (List ℕ)) → Type 0
+IsGiven None = ⊥
+IsGiven (Some path) = ⊤
+
+-- why durations are refused is told in a line
+abbrev pub TellsTimes : Option (List ℕ) → Option (List ℕ) → Result ℕ WriteFault → Type 0
+TellsTimes old new written =
+    (line : List ℕ) × MatchResult written (λ status. Appends old new (line ++ codes "\n") × (status ≡ 1)) (λ _. WritesPart old new (line ++ codes "\n"))
+
+-- as many entries are shown as a word says, or all; or the word is no number
+abbrev pub ShowsEntry : Showing → Option (List ℕ) → Option (List ℕ) → Option (List ℕ) → Option (List ℕ) → Option (List ℕ) → ℕ → Type 0
+ShowsEntry showing input old new old_errors new_errors status =
+    ((entry : Option ℕ) × AsksFor showing.entry entry × OfText showing.file input (λ text. Shows entry text old new old_errors new_errors status))
+    ⊎ (IsWrong old new old_errors new_errors status × IsNoNumber showing.entry)
+
+-- durations are given, and no picture is asked for, or not it alone
+abbrev pub IsLoose : Option (Bor (List ℕ)) → Option Form → Type 0
+IsLoose times asked = IsGiven times × (asked ≢ Some form.Picture)
+
+-- the form that is shown with the durations of a file
+abbrev pub IsTimed : Option (Bor (List ℕ)) → Form → Timed → Type 0
+IsTimed times asked (timed.Form form) = ⊤
+IsTimed times asked (timed.Refused line) = IsGiven times
+IsTimed times asked timed.Loose = IsLoose times (Some asked)
+
+-- the flags ask for one form, in which a journal is shown; or the durations are refused; or the flags are wrong
 abbrev pub ShowsWords : Showing → Option (List ℕ) → Option (List ℕ) → Option (List ℕ) → Option (List ℕ) → Option (List ℕ) → ℕ → Type 0
 ShowsWords showing input old new old_errors new_errors status =
-    ((entry : Option ℕ) × AsksFor showing.entry entry × OfText showing.file input (λ text. Shows entry text old new old_errors new_errors status))
-    ⊎ (IsWrong old new old_errors new_errors status × ((form_of showing.svg showing.html showing.unicode ≡ None) ⊎ IsNoNumber showing.entry))
+    ShowsEntry showing input old new old_errors new_errors status
+    ⊎ ((IsGiven showing.times × TellsTimes old new (Ok status))
+    ⊎ (IsWrong old new old_errors new_errors status × ((form_of showing.svg showing.html showing.unicode ≡ None)
+    ⊎ IsLoose showing.times (form_of showing.svg showing.html showing.unicode))))
 
 -- that settings are longer than they may be is told by name
 abbrev pub TellsTooLong : Option (List ℕ) → Option (List ℕ) → Result ℕ WriteFault → Type 0
 TellsTooLong old new written =
     MatchResult written (λ status. Appends old new (codes "settings TooLong\n") × (status ≡ 1)) (λ _. WritesPart old new (codes "settings TooLong\n"))
+
+-- the settings are longer than they may be, or the durations of the file that is named are refused
+abbrev pub TellsUnfit : Option (Bor (List ℕ)) → Option (List ℕ) → Option (List ℕ) → Result ℕ WriteFault → Type 0
+TellsUnfit times old new written = TellsTooLong old new written ⊎ (IsGiven times × TellsTimes old new written)
 
 -- the text that is to be explained: a journal on the input, or that of the one file that is named for a journal, for settings, for
 -- the script of faults or for the operator's
@@ -122,34 +157,36 @@ abbrev pub ChecksSettings : Option (List ℕ) → Option (List ℕ) → Result �
 ChecksSettings old new written =
     ((settings : List ℕ) × MatchResult written (TellsCheck settings old new) (λ _. PartOfCheck settings old new)) ⊎ TellsTooLong old new written
 
--- what a run by the texts of its files writes, unless the settings are too long
+-- what a run by the texts of its files writes, unless the settings are too long or the durations are refused
 abbrev pub RunsFiles : Bool → Running → Option (List ℕ) → Option (List ℕ) → Result ℕ WriteFault → Type 0
 RunsFiles threads running old new written =
     ((settings : List ℕ) × (faults : List ℕ) × (operator : List ℕ)
     × MatchResult written (TellsRun settings faults operator threads running.journal old new) (λ _. PartOfRun settings faults operator threads running.journal old new))
-    ⊎ TellsTooLong old new written
+    ⊎ TellsUnfit running.times old new written
 
--- what a method that drives the cell by the texts of files has written, unless the settings are too long
+-- what a method that drives the cell by the texts of files has written, unless the settings are too long or the durations are
+-- refused
 abbrev pub DrivesFiles : Driving → Option (List ℕ) → Option (List ℕ) → Option (List ℕ) → Result ℕ WriteFault → Type 0
 DrivesFiles driving input old new written =
     ((settings : List ℕ) × (faults : List ℕ) × (operator : List ℕ) × IfOk written (DrivesTexts settings faults operator driving.raw input old new))
-    ⊎ TellsTooLong old new written
+    ⊎ TellsUnfit driving.running.times old new written
 
--- what is written of a run by the texts of its files and then of its measures, unless the settings are too long: the status is
--- the run's, but where memory was refused for the measures
-abbrev pub MeasuresFiles : Running → Option (List ℕ) → Option (List ℕ) → Result ℕ WriteFault → Type 0
-MeasuresFiles running old new written =
+-- what is written of a run by the texts of its files and then of its measures, unless the settings are too long or the durations
+-- are refused: the status is the run's, but where memory was refused for the measures
+abbrev pub MeasuresFiles : Bool → Running → Option (List ℕ) → Option (List ℕ) → Result ℕ WriteFault → Type 0
+MeasuresFiles threads running old new written =
     ((settings : List ℕ) × (faults : List ℕ) × (operator : List ℕ) × IfOk written (λ status. (run : Option (List ℕ)) × (ran : ℕ)
-    × TellsRun settings faults operator false running.journal old run ran × (measures : List ℕ) × Appends run new measures
+    × TellsRun settings faults operator threads running.journal old run ran × (measures : List ℕ) × Appends run new measures
     × ((status ≡ ran) ⊎ (status ≡ 4))))
-    ⊎ TellsTooLong old new written
+    ⊎ TellsUnfit running.times old new written
 
--- what is written where the journal of a file is followed by the texts of three others, unless the settings are too long
+-- what is written where the journal of a file is followed by the texts of three others, unless the settings are too long or the
+-- durations are refused
 abbrev pub FollowsFiles : Running → Option (List ℕ) → Option (List ℕ) → Result ℕ WriteFault → Type 0
 FollowsFiles running old new written =
     ((journal : List ℕ) × (settings : List ℕ) × (faults : List ℕ) × (operator : List ℕ)
     × MatchResult written (TellsFollowed journal settings faults operator running.journal old new) (λ _. TellsPartFollowed journal settings faults operator running.journal old new))
-    ⊎ TellsTooLong old new written
+    ⊎ TellsUnfit running.times old new written
 
 -- what is written for the audit of a text
 abbrev pub Audits : Option (List ℕ) → Option (List ℕ) → Option (List ℕ) → Result ℕ WriteFault → Type 0
@@ -170,13 +207,15 @@ CarriesOut (order.Show showing) input old new old_errors new_errors written =
     IfOk written (ShowsWords showing input old new old_errors new_errors)
 CarriesOut (order.Explain explaining) input old new old_errors new_errors written =
     IfOk written (Explains explaining input old new old_errors new_errors)
+CarriesOut (order.Measure measuring) input old new old_errors new_errors written = MeasuresJournals measuring written
 CarriesOut (order.Check path) input old new old_errors new_errors written =
     ChecksSettings old new written × (new_errors ≡ old_errors)
 CarriesOut (order.Sim running) input old new old_errors new_errors written = RunsFiles false running old new written × (new_errors ≡ old_errors)
-CarriesOut (order.Measure running) input old new old_errors new_errors written = MeasuresFiles running old new written × (new_errors ≡ old_errors)
+CarriesOut (order.SimMeasured running) input old new old_errors new_errors written = MeasuresFiles false running old new written × (new_errors ≡ old_errors)
 CarriesOut (order.Follow path running) input old new old_errors new_errors written = FollowsFiles running old new written × (new_errors ≡ old_errors)
 CarriesOut (order.Drive driving) input old new old_errors new_errors written = DrivesFiles driving input old new written
 CarriesOut (order.Run running) input old new old_errors new_errors written = RunsFiles true running old new written × (new_errors ≡ old_errors)
+CarriesOut (order.RunMeasured running) input old new old_errors new_errors written = MeasuresFiles true running old new written × (new_errors ≡ old_errors)
 
 -- the status of an order for which this was written
 abbrev pub ended : Result ℕ WriteFault → ℕ

@@ -6,11 +6,13 @@ mod end;
 mod explain;
 mod failure;
 mod fault;
+mod measure;
 mod named;
 mod noted;
 mod orders;
 mod show;
 mod texts;
+mod times;
 mod wrong;
 
 ghost use Rattle.std.specs.Prelude.{◌≡◌, ◌⊎◌, IfOk, map};

@@ -1,14 +1,18 @@
 //! What is done for an order, over any reader and writers.
-ghost use Rattle.std.specs.Prelude.{◌≡◌, ◌⊎◌, IfErr, IfOk};
-ghost use Rattle.cellctl.specs.Carried.{Audits, CarriesOut, ChecksSettings, DrivesFiles, FollowsFiles, MeasuresFiles, MigratesText, OfText, RunsFiles};
+ghost use Rattle.std.specs.Prelude.{◌≡◌, ◌⊎◌, ℕ, List, IfErr, IfOk, OnOk};
+ghost use Rattle.std.specs.Io.KnownBytes.{Appends};
+ghost use Rattle.cellctl.specs.Carried.{Audits, CarriesOut, ChecksSettings, DrivesFiles, FollowsFiles, MeasuresFiles, MigratesText, OfText, RunsFiles, TellsUnfit};
 
 use crate::explain::explain_words;
 use crate::failure::Failure;
+use crate::measure::{measure_words, tell_least};
 use crate::show::show_words;
 use crate::texts::{journal_in, script_in, settings_in, tell_too_long};
-use cell_command::{Driving, Order, Paths, Running};
+use crate::times::{durations_in, tell_times};
+use cell_command::{Driving, Order, Running};
 use cell_drive::{drive_texts, measure_texts};
 use cell_lines::{WriteFault, audit_lines, migrate_lines, status};
+use cell_measures::Durations;
 use cell_runs::{KeptRun, Left, follow_texts_kept, run_texts_kept};
 use cell_settings::check_lines;
 use std::io::{Read, Write};
@@ -37,11 +41,11 @@ pub(crate) struct Ending {
 
 // What a run's files say.
 #[derive(Drop)]
-struct Texts {
-    // None where they are too long.
-    settings: Option<Vec<u8>>,
+struct Sources {
+    settings: Vec<u8>,
     faults: Vec<u8>,
     operator: Vec<u8>,
+    durations: Durations,
 }
 
 // Nothing is to be explained.
@@ -55,16 +59,31 @@ fn without_ending(written: Result<u8, WriteFault>) -> Carried
     }
 }
 
-// Reads the files of a run.
-fn read_files<'a, R: AllocGlobal + Files>(rt: &R, paths: Paths<'a>) -> Result<Texts, Failure<'a>> {
-    let settings = settings_in(rt, paths.settings)?;
-    let faults = script_in(rt, paths.faults)?;
-    let operator = script_in(rt, paths.operator)?;
-    Ok(Texts {
-        settings,
-        faults: faults.bytes,
-        operator: operator.bytes,
-    })
+// Reads the files of a run, all before any is judged; or tells that the settings are too long or the durations are refused.
+fn sources_in<'a, R: AllocGlobal + Files, W: Write>(
+    rt: &R,
+    output: &mut W,
+    running: Running<'a>,
+) -> Result<Result<Sources, Result<u8, WriteFault>>, Failure<'a>>
+    ensures same { IfOk result (λ read. IfOk read (λ _. output.new ≡ output.old)) }
+    ensures unfit { IfOk result (λ read. IfErr read (TellsUnfit running.entry.times (W.contents output.old) (W.contents output.new))) }
+{
+    let settings = settings_in(rt, running.paths.settings)?;
+    let faults = script_in(rt, running.paths.faults)?.bytes;
+    let operator = script_in(rt, running.paths.operator)?.bytes;
+    let durations = durations_in(rt, running.times)?;
+    let Some(settings) = settings else {
+        return Ok(Err(tell_too_long(output)));
+    };
+    match durations {
+        Ok(durations) => Ok(Ok(Sources {
+            settings,
+            faults,
+            operator,
+            durations,
+        })),
+        Err(line) => Ok(Err(tell_times(output, line.as_str()))),
+    }
 }
 
 // What was done where a run was written so. Its end is to be explained, if that is wanted and a run is left.
@@ -97,7 +116,7 @@ fn with_ending(
     }
 }
 
-// Runs the simulated cell by what three files say, on threads or in rounds. The files are all read before any is judged.
+// Runs the simulated cell by what its files say, on threads or in rounds. The files are all read before any is judged.
 fn run_files<'a, R: AllocGlobal + Files + Threads + Wait + Sync, W: Write>(
     rt: &R,
     output: &mut W,
@@ -106,24 +125,21 @@ fn run_files<'a, R: AllocGlobal + Files + Threads + Wait + Sync, W: Write>(
 ) -> Result<Carried, Failure<'a>>
     ensures { IfOk result (λ c. RunsFiles threads running.entry (W.contents output.old) (W.contents output.new) c.written) }
 {
-    let Texts {
-        settings,
-        faults,
-        operator,
-    } = read_files(rt, running.paths)?;
-    let Some(settings) = settings else {
-        return Ok(without_ending(tell_too_long(output)));
+    let sources = match sources_in(rt, output, running)? {
+        Ok(sources) => sources,
+        Err(told) => return Ok(without_ending(told)),
     };
     let ran = run_texts_kept(
         rt,
-        settings.as_slice(),
-        faults.as_slice(),
-        operator.as_slice(),
+        sources.settings.as_slice(),
+        sources.faults.as_slice(),
+        sources.operator.as_slice(),
+        &sources.durations,
         threads,
         running.journal,
         output,
     );
-    Ok(with_ending(ran, running.explain, faults, operator))
+    Ok(with_ending(ran, running.explain, sources.faults, sources.operator))
 }
 
 // The status of a run with its measures: the run's, but where memory was refused for the measures.
@@ -137,38 +153,66 @@ fn status_with(run: u8, measures: u8) -> u8
     }
 }
 
-// Runs the simulated cell in rounds by what three files say, and tells what is measured of it. The files are all read before any is
-// judged.
+// Tells what is measured of a run: of one on threads by the journal that is left of it, of one in rounds by the same run in a
+// cell that is watched.
+fn tell_measures<R: AllocGlobal + Wait, W: Write>(
+    rt: &R,
+    output: &mut W,
+    threads: bool,
+    sources: &Sources,
+    left: &Left,
+) -> Result<u8, WriteFault>
+    ensures told { OnOk result ((told : List ℕ) × Appends (W.contents output.old) (W.contents output.new) told) }
+    ensures status { IfOk result (λ status. (status ≡ 0) ⊎ (status ≡ 4)) }
+{
+    if threads {
+        return tell_least(rt.alloc(), output, left, &sources.durations);
+    }
+    measure_texts(
+        rt,
+        sources.settings.as_slice(),
+        sources.faults.as_slice(),
+        sources.operator.as_slice(),
+        &sources.durations,
+        output,
+    )
+}
+
+// Runs the simulated cell by what its files say, on threads or in rounds, and tells what is measured of it. The files are all
+// read before any is judged.
 fn measure_files<'a, R: AllocGlobal + Files + Threads + Wait + Sync, W: Write>(
     rt: &R,
     output: &mut W,
+    threads: bool,
     running: Running<'a>,
 ) -> Result<Carried, Failure<'a>>
-    ensures { IfOk result (λ c. MeasuresFiles running.entry (W.contents output.old) (W.contents output.new) c.written) }
+    ensures { IfOk result (λ c. MeasuresFiles threads running.entry (W.contents output.old) (W.contents output.new) c.written) }
 {
-    let Texts {
-        settings,
-        faults,
-        operator,
-    } = read_files(rt, running.paths)?;
-    let Some(settings) = settings else {
-        return Ok(without_ending(tell_too_long(output)));
+    let sources = match sources_in(rt, output, running)? {
+        Ok(sources) => sources,
+        Err(told) => return Ok(without_ending(told)),
     };
-    let settings = settings.as_slice();
-    let (scripted, commanded) = (faults.as_slice(), operator.as_slice());
-    let journal = running.journal;
-    let ran = run_texts_kept(rt, settings, scripted, commanded, false, journal, output);
+    let ran = run_texts_kept(
+        rt,
+        sources.settings.as_slice(),
+        sources.faults.as_slice(),
+        sources.operator.as_slice(),
+        &sources.durations,
+        threads,
+        running.journal,
+        output,
+    );
     let Ok((status, left)) = ran else {
         return Ok(without_ending(Err(WriteFault)));
     };
-    let Ok(measured) = measure_texts(rt, settings, scripted, commanded, output) else {
+    let Ok(measured) = tell_measures(rt, output, threads, &sources, &left) else {
         return Ok(without_ending(Err(WriteFault)));
     };
     let told = Ok((status_with(status, measured), left));
-    Ok(with_ending(told, running.explain, faults, operator))
+    Ok(with_ending(told, running.explain, sources.faults, sources.operator))
 }
 
-// Follows the journal in a file by what three files say. All files are read before any is judged.
+// Follows the journal in a file by what the run's files say.
 fn follow_files<'a, R: AllocGlobal + Files + Wait, W: Write>(
     rt: &R,
     output: &mut W,
@@ -177,28 +221,25 @@ fn follow_files<'a, R: AllocGlobal + Files + Wait, W: Write>(
 ) -> Result<Carried, Failure<'a>>
     ensures { IfOk result (λ c. FollowsFiles running.entry (W.contents output.old) (W.contents output.new) c.written) }
 {
-    let Texts {
-        settings,
-        faults,
-        operator,
-    } = read_files(rt, running.paths)?;
-    let followed = journal_in(rt, path)?.bytes;
-    let Some(settings) = settings else {
-        return Ok(without_ending(tell_too_long(output)));
+    let sources = match sources_in(rt, output, running)? {
+        Ok(sources) => sources,
+        Err(told) => return Ok(without_ending(told)),
     };
+    let followed = journal_in(rt, path)?.bytes;
     let told = follow_texts_kept(
         rt,
         followed.as_slice(),
-        settings.as_slice(),
-        faults.as_slice(),
-        operator.as_slice(),
+        sources.settings.as_slice(),
+        sources.faults.as_slice(),
+        sources.operator.as_slice(),
+        &sources.durations,
         running.journal,
         output,
     );
-    Ok(with_ending(told, running.explain, faults, operator))
+    Ok(with_ending(told, running.explain, sources.faults, sources.operator))
 }
 
-// Lets a method on the input drive the simulated cell by what three files say. The files are all read before any is judged.
+// Lets a method on the input drive the simulated cell by what the run's files say. They are all read before any is judged.
 fn drive_files<'a, R: AllocGlobal + Files + Wait, I: Read + Drop, W: Write, E: Write>(
     rt: &R,
     input: I,
@@ -208,24 +249,21 @@ fn drive_files<'a, R: AllocGlobal + Files + Wait, I: Read + Drop, W: Write, E: W
 ) -> Result<Result<u8, WriteFault>, Failure<'a>>
     ensures { IfOk result (λ written. DrivesFiles driving.entry (I.remaining input) (W.contents output.old) (W.contents output.new) written) }
 {
-    let Texts {
-        settings,
-        faults,
-        operator,
-    } = read_files(rt, driving.running.paths)?;
-    let Some(settings) = settings else {
-        return Ok(tell_too_long(output));
+    let sources = match sources_in(rt, output, driving.running)? {
+        Ok(sources) => sources,
+        Err(told) => return Ok(told),
     };
     let told = cell_drive::Driving {
         raw: driving.raw,
         journal: driving.running.journal,
         explain: driving.running.explain,
+        durations: sources.durations,
     };
     Ok(drive_texts(
         rt,
-        settings.as_slice(),
-        faults.as_slice(),
-        operator.as_slice(),
+        sources.settings.as_slice(),
+        sources.faults.as_slice(),
+        sources.operator.as_slice(),
         told,
         input,
         output,
@@ -305,13 +343,17 @@ pub(crate) fn carry_out<
         Order::Explain(explaining) => Ok(without_ending(explain_words(
             rt, input, output, errors, explaining,
         )?)),
+        Order::Measure(measuring) => {
+            Ok(without_ending(measure_words(rt, output, errors, &measuring)?))
+        }
         Order::Check(path) => Ok(without_ending(check(rt, output, path)?)),
         Order::Sim(running) => run_files(rt, output, false, running),
-        Order::Measure(running) => measure_files(rt, output, running),
+        Order::SimMeasured(running) => measure_files(rt, output, false, running),
         Order::Follow(path, running) => follow_files(rt, output, path, running),
         Order::Drive(driving) => Ok(without_ending(drive_files(
             rt, input, output, errors, driving,
         )?)),
         Order::Run(running) => run_files(rt, output, true, running),
+        Order::RunMeasured(running) => measure_files(rt, output, true, running),
     }
 }

@@ -1,9 +1,10 @@
 //! The command that shows the cell.
 ghost use Rattle.std.specs.Prelude.{◌≡◌, ◌≤◌, ◌^◌, ℕ, IfOk, List, Option, Some};
-ghost use Rattle.cellctl.specs.Carried.{IsAsked, OfText, Shows, ShowsWords, form_of};
+ghost use Rattle.cellctl.specs.Carried.{IsAsked, OfText, Shows, ShowsEntry, ShowsWords, IsTimed, form_of};
 
 use crate::failure::Failure;
 use crate::texts::journal_in;
+use crate::times::{durations_in, tell_times};
 use crate::wrong::wrong;
 use cell_command::{Count, Escaped, Showing, read_count};
 use cell_lines::{WriteFault, status};
@@ -109,6 +110,56 @@ fn show_text<'a, R: AllocGlobal + Files, I: Read + Drop, W: Write, E: Write>(
     Ok(show_count(alloc, text.as_slice(), output, errors, form, count)?)
 }
 
+// The form with these durations: they go with a picture alone, which is then a chart.
+enum Timed {
+    Form(Form),
+    // The durations are refused, as this line tells.
+    Refused(String),
+    // There is no picture for them.
+    Loose,
+}
+
+fn timed_form<'a, R: AllocGlobal + Files>(
+    rt: &R,
+    form: Form,
+    times: Option<&'a str>,
+) -> Result<Timed, Failure<'a>>
+    ensures { IfOk result (λ timed. IsTimed times.entry form timed) }
+{
+    if times.is_none() {
+        return Ok(Timed::Form(form));
+    }
+    if form != Form::Picture {
+        return Ok(Timed::Loose);
+    }
+    match durations_in(rt, times)? {
+        Ok(durations) => Ok(Timed::Form(Form::Chart(durations))),
+        Err(line) => Ok(Timed::Refused(line)),
+    }
+}
+
+// Shows as many entries as a word says, or all of them where there is none.
+fn show_entry<'a, R: AllocGlobal + Files, I: Read + Drop, W: Write, E: Write>(
+    rt: &R,
+    input: I,
+    output: &mut W,
+    errors: &mut E,
+    form: Form,
+    showing: Showing<'a>,
+) -> Result<Result<u8, WriteFault>, Failure<'a>>
+    ensures { IfOk result (λ written. IfOk written (ShowsEntry showing.entry (I.remaining input) (W.contents output.old) (W.contents output.new) (E.contents errors.old) (E.contents errors.new))) }
+{
+    let Some(word) = showing.entry else {
+        return show_text(rt, input, output, errors, form, None, showing.file);
+    };
+    let Some(count) = read_count(word) else {
+        let word = Escaped(word);
+        writeln!(errors, "error: ENTRY is a whole number, and not '{word}'")?;
+        return Ok(Ok(status::WRONG_ARGUMENTS));
+    };
+    show_text(rt, input, output, errors, form, Some(count), showing.file)
+}
+
 /// Shows a journal, as the words of the command line ask.
 pub(crate) fn show_words<'a, R: AllocGlobal + Files, I: Read + Drop, W: Write, E: Write>(
     rt: &R,
@@ -125,13 +176,9 @@ pub(crate) fn show_words<'a, R: AllocGlobal + Files, I: Read + Drop, W: Write, E
             "of --svg, --html and --unicode one alone can be given",
         )?);
     };
-    let Some(word) = showing.entry else {
-        return show_text(rt, input, output, errors, form, None, showing.file);
-    };
-    let Some(count) = read_count(word) else {
-        let word = Escaped(word);
-        writeln!(errors, "error: ENTRY is a whole number, and not '{word}'")?;
-        return Ok(Ok(status::WRONG_ARGUMENTS));
-    };
-    show_text(rt, input, output, errors, form, Some(count), showing.file)
+    match timed_form(rt, form, showing.times)? {
+        Timed::Form(form) => show_entry(rt, input, output, errors, form, showing),
+        Timed::Refused(line) => Ok(tell_times(output, line.as_str())),
+        Timed::Loose => Ok(wrong(errors, "--times goes with --svg alone")?),
+    }
 }

@@ -29,6 +29,7 @@ fn read_words(rt: HostRuntime) {
     };
     let words = ["cellctl", "sim", "--journal", "a", "b", "c"];
     let running = Running {
+        times: None,
         journal: true,
         explain: false,
         paths,

@@ -17,7 +17,7 @@ const ORDERS: [&str; 7] = [
     "cellctl check settings.toml|Check(\"settings.toml\")",
 ];
 
-const REFUSED: [&str; 25] = [
+const REFUSED: [&str; 28] = [
     "cellctl brew|InvalidSubcommand",
     "cellctl run|MissingRequiredArgument",
     "cellctl sim|MissingRequiredArgument",
@@ -27,7 +27,7 @@ const REFUSED: [&str; 25] = [
     "cellctl sim a b c --follow|InvalidValue",
     "cellctl run a b c d|UnknownArgument",
     "cellctl run --follow a b c d|UnknownArgument",
-    "cellctl run --measures a b c|UnknownArgument",
+    "cellctl audit --measures a|UnknownArgument",
     "cellctl drive a b|MissingRequiredArgument",
     "cellctl drive --measures a b c|UnknownArgument",
     "cellctl check|MissingRequiredArgument",
@@ -38,6 +38,9 @@ const REFUSED: [&str; 25] = [
     "cellctl show --file|InvalidValue",
     "cellctl show -f a -f b|ArgumentConflict",
     "cellctl explain one.journal two.journal|UnknownArgument",
+    "cellctl measure|MissingRequiredArgument",
+    "cellctl measure a --times|InvalidValue",
+    "cellctl measure --times a --times b c|ArgumentConflict",
     "cellctl --help|DisplayHelp",
     "cellctl audit --help|DisplayHelp",
     "cellctl --version|DisplayVersion",
@@ -45,39 +48,46 @@ const REFUSED: [&str; 25] = [
     "cellctl|DisplayHelpOnMissingArgumentOrSubcommand",
 ];
 
-const RUNS: [&str; 8] = [
-    "cellctl sim cell.toml none.faults none.operator|Sim(Running { journal: false, explain: false, \
+const RUNS: [&str; 10] = [
+    "cellctl sim --times a.toml cell.toml none.faults none.operator|\
+        Sim(Running { journal: false, explain: false, times: Some(\"a.toml\"), \
         paths: Paths { settings: \"cell.toml\", faults: \"none.faults\", operator: \"none.operator\" } })",
-    "cellctl sim cell.toml none.faults none.operator --journal|Sim(Running { journal: true, explain: false, \
+    "cellctl sim cell.toml none.faults none.operator|Sim(Running { journal: false, explain: false, times: None, \
+        paths: Paths { settings: \"cell.toml\", faults: \"none.faults\", operator: \"none.operator\" } })",
+    "cellctl sim cell.toml none.faults none.operator --journal|Sim(Running { journal: true, explain: false, times: None, \
         paths: Paths { settings: \"cell.toml\", faults: \"none.faults\", operator: \"none.operator\" } })",
     "cellctl sim --follow run.journal --journal cell.toml none.faults none.operator|\
-        Follow(\"run.journal\", Running { journal: true, explain: false, \
+        Follow(\"run.journal\", Running { journal: true, explain: false, times: None, \
         paths: Paths { settings: \"cell.toml\", faults: \"none.faults\", operator: \"none.operator\" } })",
-    "cellctl sim --measures cell.toml none.faults none.operator|Measure(Running { journal: false, explain: false, \
+    "cellctl sim --measures cell.toml none.faults none.operator|SimMeasured(Running { journal: false, explain: false, times: None, \
         paths: Paths { settings: \"cell.toml\", faults: \"none.faults\", operator: \"none.operator\" } })",
     "cellctl sim --measures --follow run.journal cell.toml none.faults none.operator|\
-        Follow(\"run.journal\", Running { journal: false, explain: false, \
+        Follow(\"run.journal\", Running { journal: false, explain: false, times: None, \
         paths: Paths { settings: \"cell.toml\", faults: \"none.faults\", operator: \"none.operator\" } })",
     "cellctl drive cell.toml none.faults none.operator|Drive(Driving { raw: false, running: Running { journal: false, \
-        explain: false, paths: Paths { settings: \"cell.toml\", faults: \"none.faults\", operator: \"none.operator\" } } })",
+        explain: false, times: None, paths: Paths { settings: \"cell.toml\", faults: \"none.faults\", operator: \"none.operator\" } } })",
     "cellctl drive --raw --explain cell.toml none.faults none.operator|\
         Drive(Driving { raw: true, running: Running { journal: false, \
-        explain: true, paths: Paths { settings: \"cell.toml\", faults: \"none.faults\", operator: \"none.operator\" } } })",
-    "cellctl run --explain cell.toml none.faults none.operator|Run(Running { journal: false, explain: true, \
+        explain: true, times: None, paths: Paths { settings: \"cell.toml\", faults: \"none.faults\", operator: \"none.operator\" } } })",
+    "cellctl run --explain cell.toml none.faults none.operator|Run(Running { journal: false, explain: true, times: None, \
+        paths: Paths { settings: \"cell.toml\", faults: \"none.faults\", operator: \"none.operator\" } })",
+    "cellctl run --measures cell.toml none.faults none.operator|RunMeasured(Running { journal: false, explain: false, times: None, \
         paths: Paths { settings: \"cell.toml\", faults: \"none.faults\", operator: \"none.operator\" } })",
 ];
 
-const SHOWN: [&str; 7] = [
-    "cellctl show --svg 20|Show(Showing { svg: true, html: false, unicode: false, file: None, entry: Some(\"20\") })",
-    "cellctl show|Show(Showing { svg: false, html: false, unicode: false, file: None, entry: None })",
+const SHOWN: [&str; 8] = [
+    "cellctl show --svg --times a.toml|\
+        Show(Showing { svg: true, html: false, unicode: false, times: Some(\"a.toml\"), file: None, entry: None })",
+    "cellctl show --svg 20|Show(Showing { svg: true, html: false, unicode: false, times: None, file: None, entry: Some(\"20\") })",
+    "cellctl show|Show(Showing { svg: false, html: false, unicode: false, times: None, file: None, entry: None })",
     "cellctl show whole.journal|\
-        Show(Showing { svg: false, html: false, unicode: false, file: None, entry: Some(\"whole.journal\") })",
+        Show(Showing { svg: false, html: false, unicode: false, times: None, file: None, entry: Some(\"whole.journal\") })",
     "cellctl show --file whole.journal|\
-        Show(Showing { svg: false, html: false, unicode: false, file: Some(\"whole.journal\"), entry: None })",
-    "cellctl show --html --file=20|Show(Showing { svg: false, html: true, unicode: false, file: Some(\"20\"), entry: None })",
-    "cellctl show -f 20 30|Show(Showing { svg: false, html: false, unicode: false, file: Some(\"20\"), entry: Some(\"30\") })",
+        Show(Showing { svg: false, html: false, unicode: false, times: None, file: Some(\"whole.journal\"), entry: None })",
+    "cellctl show --html --file=20|Show(Showing { svg: false, html: true, unicode: false, times: None, file: Some(\"20\"), entry: None })",
+    "cellctl show -f 20 30|Show(Showing { svg: false, html: false, unicode: false, times: None, file: Some(\"20\"), entry: Some(\"30\") })",
     "cellctl show --unicode 30 -f20|\
-        Show(Showing { svg: false, html: false, unicode: true, file: Some(\"20\"), entry: Some(\"30\") })",
+        Show(Showing { svg: false, html: false, unicode: true, times: None, file: Some(\"20\"), entry: Some(\"30\") })",
 ];
 
 const EXPLAINED: [&str; 5] = [
@@ -90,6 +100,15 @@ const EXPLAINED: [&str; 5] = [
         Explain(Explaining { journal: None, settings: None, faults: Some(\"press_fails.faults\"), operator: None })",
     "cellctl explain --operator a b|\
         Explain(Explaining { journal: Some(\"b\"), settings: None, faults: None, operator: Some(\"a\") })",
+];
+
+const MEASURED: [&str; 4] = [
+    "cellctl measure a|Measure(Measuring { times: None, csv: false, journals: [\"a\"] })",
+    "cellctl measure --csv a b a|Measure(Measuring { times: None, csv: true, journals: [\"a\", \"b\", \"a\"] })",
+    "cellctl measure a --times c.toml b|\
+        Measure(Measuring { times: Some(\"c.toml\"), csv: false, journals: [\"a\", \"b\"] })",
+    "cellctl measure --times=c.toml -- --csv|\
+        Measure(Measuring { times: Some(\"c.toml\"), csv: false, journals: [\"--csv\"] })",
 ];
 
 // What words are read as.
@@ -115,7 +134,14 @@ fn check<R: AllocGlobal + Abort>(rt: &R, case: &str) -> Result<(), Fail> {
 
 #[test]
 fn reads_the_words_of_the_command_line(rt: HostRuntime) -> Result<(), Fail> {
-    for cases in [ORDERS.as_slice(), &REFUSED, &RUNS, &SHOWN, &EXPLAINED] {
+    for cases in [
+        ORDERS.as_slice(),
+        &REFUSED,
+        &RUNS,
+        &SHOWN,
+        &EXPLAINED,
+        &MEASURED,
+    ] {
         for case in cases {
             check(&rt, case)?;
         }

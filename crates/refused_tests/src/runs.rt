@@ -4,6 +4,7 @@ use cell_audit::{AuditError, audit};
 use cell_endings::write_ending;
 use cell_journal::Journal;
 use cell_lines::WriteFault;
+use cell_measures::Durations;
 use cell_runs::{KeptRun, Left, follow_texts, run_texts_kept};
 use cell_samples::{CLEARED_PRESS, STUCK_PRESS, call_begins, call_ends};
 use cell_types::Totals;
@@ -165,7 +166,16 @@ fn keep<R: AllocGlobal + Abort + Threads + Wait + Sync>(
     if marked {
         call_begins(alloc);
     }
-    let answer = run_texts_kept(rt, settings, faults, operator, false, false, &mut written);
+    let answer = run_texts_kept(
+        rt,
+        settings,
+        faults,
+        operator,
+        &Durations::ONE,
+        false,
+        false,
+        &mut written,
+    );
     if marked {
         call_ends(alloc, matches!(&answer, Ok((4, _))));
     }

@@ -2,6 +2,7 @@
 use crate::same::check_same;
 use crate::texts::{PROFILE_1, QUOTED, clearing};
 use cell_audit::{AuditError, Reading};
+use cell_measures::Durations;
 use cell_samples::{begun, call_begins, call_ends};
 use cell_show::{Form, ShowError, show_journal};
 use plate_book::Book;
@@ -87,4 +88,9 @@ fn show_journal_as_picture(rt: HostRuntime) -> Result<(), Fail> {
 #[test]
 fn show_journal_as_page(rt: HostRuntime) -> Result<(), Fail> {
     check_show(&rt, Form::Page)
+}
+
+#[test]
+fn show_journal_as_chart(rt: HostRuntime) -> Result<(), Fail> {
+    check_show(&rt, Form::Chart(Durations::ONE))
 }

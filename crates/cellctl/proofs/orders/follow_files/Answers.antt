@@ -1,4 +1,4 @@
-use Rattle.std.proofs.Common.{inl}
+use Rattle.std.proofs.Common.{◌≡◌, inl, rules, sym}
 use Rattle.std.proofs.lemmas.Result.{IfOk-weaker}
 use Rattle.cell_runs.specs.Runs.{kept_of}
 use Rattle.cell_runs.specs.Told.{TellsFollowed, TellsPartFollowed}
@@ -11,14 +11,15 @@ returns g c =
     let settings = c.as_slice-2.result.now in
     let faults = c.as_slice-3.result.now in
     let operator = c.as_slice-4.result.now in
-    let old = g.W.Write.contents c.args.output.now in
+    let old = g.W.Write.contents c.sources_in.new.output in
     let new = g.W.Write.contents c.follow_texts_kept-told.new.writer in
     let alone = c.args.running.journal in
-    inl (
+    let same : c.sources_in.new.output ≡ c.args.output.now = search rules in
+    rw (sym same) (inl (
       journal,
       settings,
       faults,
       operator,
       as-answered c.follow_texts_kept-told.result c.with_ending.result.written (TellsFollowed journal settings faults operator alone old new) (TellsPartFollowed journal settings faults operator alone old new) c.with_ending.ensures.ok c.with_ending.ensures.err
           (IfOk-weaker c.follow_texts_kept-told.result _ _ (λ told keeps. (kept_of told.1, keeps)) c.follow_texts_kept-told.ensures.whole) c.follow_texts_kept-told.ensures.part,
-    )
+    ))

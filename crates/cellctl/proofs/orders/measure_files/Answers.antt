@@ -1,20 +1,21 @@
-use Rattle.std.proofs.Common.{inl}
+use Rattle.std.proofs.Common.{◌≡◌, inl, rules, sym}
 use Rattle.cell_runs.specs.Runs.{kept_of}
 use Rattle.cellctl.proofs.orders.measure_files.Goals as goal
 
 pub returns : goal.returns
 returns g c =
-    let measures = c.in-Ok-measure_texts.ensures.told in
-    inl (
-      c.as_slice-settings.result.now,
-      c.as_slice-scripted.result.now,
-      c.as_slice-commanded.result.now,
+    let measures = c.in-Ok-tell_measures.ensures.told in
+    let same : c.sources_in.new.output ≡ c.args.output.now = search rules in
+    rw (sym same) (inl (
+      c.as_slice.result.now,
+      c.as_slice-2.result.now,
+      c.as_slice-3.result.now,
       rw c.with_ending.ensures.ok (
         g.W.Write.contents c.run_texts_kept-ran.new.writer,
-        c.in-Ok.status,
-        (kept_of c.in-Ok.left, c.in-Ok.ensures.whole),
+        c.in-Ok-ran.status,
+        (kept_of c.in-Ok-ran.left, c.in-Ok-ran.ensures.whole),
         measures.0,
         measures.1,
         c.status_with.ensures,
       ),
-    )
+    ))

@@ -1,0 +1,6 @@
+use Rattle.std.proofs.Common.{◌≡◌, false}
+use Rattle.cellctl.specs.Measured.{AreLegal}
+use Rattle.cellctl.proofs.measure.sort.Given as goal
+
+abbrev pub invariant-loop-path : goal.invariant-loop-path
+invariant-loop-path g l = l.sorted.refused ≡ false → AreLegal l.path-index
