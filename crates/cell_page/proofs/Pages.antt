@@ -1,13 +1,14 @@
 -- The rows of a page, one more at a time
-use Rattle.std.proofs.Common.{◌≡◌, ◌+◌, ◌-◌, ◌<◌, ◌≤◌, ◌++◌, ℕ, zero, suc, List, [], ◌∷◌, Option, None, Result, Ok, Err, length, take, refl, sym, ap, ◌∙◌, arith, add-one, subst}
+use Rattle.std.proofs.Common.{◌≡◌, ◌+◌, ◌-◌, ◌<◌, ◌≤◌, ◌++◌, ℕ, zero, suc, List, [], ◌∷◌, Option, None, Some, Result, Ok, Err, length, take, refl, sym, ap, ◌∙◌, arith, add-one, append_assoc, subst}
 use Rattle.std.specs.Prelude.{OnOk, codes, decimal, slice_get}
+use Rattle.std.specs.Borrow.{Bor}
 use Rattle.std.specs.Io.KnownBytes.{Appends}
 use Rattle.std.proofs.KnownBytes.{Appends-trans}
 use Rattle.std.proofs.lemmas.List.{length-take, take_all}
 use Rattle.cell_types.specs.declared.words.Entry.{Entry}
 use Rattle.cell_audit.specs.declared.error.AuditError.{AuditError}
 use Rattle.cell_picture.specs.Told.{last_of}
-use Rattle.cell_page.specs.Page.{AppendsSome, WritesPage, answer_line, last_text, no_scripts_text, row_of, rows_text, rows_upto}
+use Rattle.cell_page.specs.Page.{AppendsSome, ShowsChart, WritesPage, answer_line, chart_section, chart_start, last_text, no_scripts_text, row_of, rows_text, rows_upto}
 
 get-taken : (J : List Entry) (i : ℕ) → slice_get (take (suc i) J) i ≡ slice_get J i
 get-taken [] i = refl
@@ -56,20 +57,45 @@ pub some_on : {X E : Type 0} (r : Result X E) (a b c : Option (List ℕ)) → Ap
 some_on (Ok x) a b c before after = some_after a b c before after
 some_on (Err e) a b c before after = tt
 
+-- a chart's section, piece by piece
+pub chart_written : (chart : Bor (List ℕ)) (c0 c1 c2 c3 : Option (List ℕ)) → Appends c0 c1 chart_start → Appends c1 c2 chart.now → Appends c2 c3 (codes "</div>\n</section>\n")
+    → Appends c0 c3 (chart_section (Some chart))
+chart_written chart c0 c1 c2 c3 h0 h1 h2 = Appends-trans c0 c1 c3 _ _ h0 (Appends-trans c1 c2 c3 _ _ h1 h2)
+
 -- a page, piece by piece
-pub page_whole : (J : List Entry) (answer : Option AuditError) (c0 c1 c2 c3 c4 c5 c6 c7 c8 c9 c10 : Option (List ℕ)) (head drawing lists script more : List ℕ)
+pub page_whole : (J : List Entry) (answer : Option AuditError) (chart : Option (Bor (List ℕ))) (c0 c1 c2 c3 c4 c5 c6 c7 c8 c9 c10 c11 c12 : Option (List ℕ)) (head drawing lists middle script more : List ℕ)
     → Appends c0 c1 head → Appends c1 c2 (no_scripts_text J) → Appends c2 c3 drawing → Appends c3 c4 (answer_line answer) → Appends c4 c5 lists
-    → AppendsSome c5 c6 → Appends c6 c7 (codes "\"rows\":[\n") → Appends c7 c8 (rows_text J) → Appends c8 c9 script → Appends c9 c10 more
-    → WritesPage c0 c10 J answer
-page_whole J answer c0 c1 c2 c3 c4 c5 c6 c7 c8 c9 c10 head drawing lists script more h0 h1 h2 h3 h4 some h6 h7 h8 h9 =
+    → Appends c5 c6 (chart_section chart) → Appends c6 c7 middle
+    → AppendsSome c7 c8 → Appends c8 c9 (codes "\"rows\":[\n") → Appends c9 c10 (rows_text J) → Appends c10 c11 script → Appends c11 c12 more
+    → WritesPage c0 c12 J answer chart
+page_whole J answer chart c0 c1 c2 c3 c4 c5 c6 c7 c8 c9 c10 c11 c12 head drawing lists middle script more h0 h1 h2 h3 h4 h5 h6 some h8 h9 h10 h11 =
     record {
       head = head;
       drawing = drawing;
       lists = lists;
+      middle = middle;
       words = some.text;
       scripts = script ++ more;
       whole =
-          Appends-trans c0 c1 c10 _ _ h0 (Appends-trans c1 c2 c10 _ _ h1 (Appends-trans c2 c3 c10 _ _ h2 (Appends-trans c3 c4 c10 _ _ h3
-          (Appends-trans c4 c5 c10 _ _ h4 (Appends-trans c5 c6 c10 _ _ some.whole (Appends-trans c6 c7 c10 _ _ h6 (Appends-trans c7 c8 c10 _ _ h7
-          (Appends-trans c8 c9 c10 _ _ h8 h9))))))));
+          Appends-trans c0 c1 c12 _ _ h0 (Appends-trans c1 c2 c12 _ _ h1 (Appends-trans c2 c3 c12 _ _ h2 (Appends-trans c3 c4 c12 _ _ h3
+          (Appends-trans c4 c5 c12 _ _ h4 (Appends-trans c5 c6 c12 _ _ h5 (Appends-trans c6 c7 c12 _ _ h6 (Appends-trans c7 c8 c12 _ _ some.whole
+          (Appends-trans c8 c9 c12 _ _ h8 (Appends-trans c9 c10 c12 _ _ h9 (Appends-trans c10 c11 c12 _ _ h10 h11))))))))));
     }
+
+-- a text that stands in the middle of others
+in_the_middle : (a b c d e s text t u : List ℕ) → a ++ (b ++ (c ++ (d ++ (e ++ ((s ++ (text ++ t)) ++ u))))) ≡ (a ++ (b ++ (c ++ (d ++ (e ++ s))))) ++ (text ++ (t ++ u))
+in_the_middle a b c d e s text t u = simp append_assoc
+
+-- a page's chart stands in it
+shows_chart : (J : List Entry) (answer : Option AuditError) (chart : Option (Bor (List ℕ))) (old new : Option (List ℕ)) → WritesPage old new J answer chart → ShowsChart old new chart
+shows_chart J answer None old new page = tt
+shows_chart J answer (Some chart) old new page =
+    let end = codes "</div>\n</section>\n" in
+    let rest = page.middle ++ (page.words ++ (codes "\"rows\":[\n" ++ (rows_text J ++ page.scripts))) in
+    let moved = in_the_middle page.head (no_scripts_text J) page.drawing (answer_line answer) page.lists chart_start chart.now end rest in
+    record { before = _; after = _; whole = subst (Appends old new) moved page.whole }
+
+pub chart_on : {X E : Type 0} (r : Result X E) (J : List Entry) (answer : Option AuditError) (chart : Option (Bor (List ℕ))) (old new : Option (List ℕ))
+    → OnOk r (WritesPage old new J answer chart) → OnOk r (ShowsChart old new chart)
+chart_on (Ok x) J answer chart old new page = shows_chart J answer chart old new page
+chart_on (Err e) J answer chart old new page = tt

@@ -1,5 +1,6 @@
 -- What a page says of a journal
-use Rattle.std.specs.Prelude.{ℕ, zero, suc, Option, Some, None, List, [], ◌++◌, codes, decimal, length, take}
+use Rattle.std.specs.Prelude.{ℕ, zero, suc, Option, Some, None, List, [], ◌++◌, codes, decimal, length, take, ⊤}
+use Rattle.std.specs.Borrow.{Bor}
 use Rattle.std.specs.Io.KnownBytes.{Appends}
 use Rattle.cell_types.specs.declared.words.Entry.{Entry}
 use Rattle.cell_sentences.specs.Sentences.{entry_sentence}
@@ -44,10 +45,22 @@ abbrev pub answer_line : Option AuditError → List ℕ
 answer_line None = []
 answer_line (Some why) = codes "<p class=\"answer\">" ++ (answer_text why ++ codes "</p>\n")
 
--- the text of a page, whose other parts are its head, its drawing, its lists, its words and its scripts
-abbrev pub page_text : List ℕ → List ℕ → List ℕ → List ℕ → List ℕ → List Entry → Option AuditError → List ℕ
-page_text head drawing lists words scripts J answer =
-    head ++ (no_scripts_text J ++ (drawing ++ (answer_line answer ++ (lists ++ (words ++ (codes "\"rows\":[\n" ++ (rows_text J ++ scripts)))))))
+-- the beginning of a chart's section
+abbrev pub chart_start : List ℕ
+chart_start =
+    codes "<section class=\"chart\">\n<h2>The entries on an axis of time</h2>\n"
+    ++ codes "<div tabindex=\"0\" style=\"overflow-x: auto\" onkeydown=\"event.stopPropagation()\">\n"
+
+-- the section of a chart, where there is one
+abbrev pub chart_section : Option (Bor (List ℕ)) → List ℕ
+chart_section None = []
+chart_section (Some chart) = chart_start ++ (chart.now ++ codes "</div>\n</section>\n")
+
+-- the text of a page, whose other parts are its head, its drawing, its lists, its middle, its words and its scripts
+abbrev pub page_text : List ℕ → List ℕ → List ℕ → List ℕ → List ℕ → List ℕ → List Entry → Option AuditError → Option (Bor (List ℕ)) → List ℕ
+page_text head drawing lists middle words scripts J answer chart =
+    head ++ (no_scripts_text J ++ (drawing ++ (answer_line answer ++ (lists ++ (chart_section chart
+    ++ (middle ++ (words ++ (codes "\"rows\":[\n" ++ (rows_text J ++ scripts)))))))))
 
 -- some text was written
 pub record AppendsSome (old new : Option (List ℕ)) : Type 0 where
@@ -55,10 +68,22 @@ pub record AppendsSome (old new : Option (List ℕ)) : Type 0 where
   pub whole : Appends old new text
 
 -- a page was written: the text of one with this journal's rows
-pub record WritesPage (old new : Option (List ℕ)) (J : List Entry) (answer : Option AuditError) : Type 0 where
+pub record WritesPage (old new : Option (List ℕ)) (J : List Entry) (answer : Option AuditError) (chart : Option (Bor (List ℕ))) : Type 0 where
   pub head : List ℕ
   pub drawing : List ℕ
   pub lists : List ℕ
+  pub middle : List ℕ
   pub words : List ℕ
   pub scripts : List ℕ
-  pub whole : Appends old new (page_text head drawing lists words scripts J answer)
+  pub whole : Appends old new (page_text head drawing lists middle words scripts J answer chart)
+
+-- in what was written a text stands as it is
+pub record HasText (old new : Option (List ℕ)) (text : List ℕ) : Type 0 where
+  pub before : List ℕ
+  pub after : List ℕ
+  pub whole : Appends old new (before ++ (text ++ after))
+
+-- a chart's text stands in what was written, where there is a chart
+abbrev pub ShowsChart : Option (List ℕ) → Option (List ℕ) → Option (Bor (List ℕ)) → Type 0
+ShowsChart old new None = ⊤
+ShowsChart old new (Some chart) = HasText old new chart.now

@@ -2,10 +2,10 @@
 ghost use Rattle.std.specs.Prelude.{◌≡◌, ◌<◌, ◌≤◌, ◌↔◌, Err, OnOk, length, take};
 ghost use Rattle.std.specs.Io.KnownBytes.{Appends};
 ghost use Rattle.cell_picture.specs.Told.{facts_told, last_of};
-ghost use Rattle.cell_page.specs.Page.{WritesPage, answer_line, no_scripts_text, rows_text};
+ghost use Rattle.cell_page.specs.Page.{ShowsChart, WritesPage, answer_line, chart_section, no_scripts_text, rows_text};
 
 use crate::PageError;
-use crate::parts::{CONTROL_SCRIPT, DRAWING, DRAWING_SCRIPT, HEAD, LISTS};
+use crate::parts::{CONTROL_SCRIPT, DRAWING, DRAWING_SCRIPT, HEAD, LISTS, MIDDLE};
 use crate::rows::Row;
 use crate::words::write_words;
 use cell_audit::AuditError;
@@ -85,20 +85,39 @@ fn write_answer<W: Write>(writer: &mut W, answer: Option<AuditError>) -> Result<
     Ok(())
 }
 
+// Writes the section of a chart. A chart that is wider than the page is moved within it, by keys too.
+fn write_chart<W: Write>(writer: &mut W, chart: Option<&[u8]>) -> Result<(), PageError>
+    ensures fault { result ≡ Err PageError.TooManyEntries → ⊥ }
+    ensures text { OnOk result (Appends (W.contents writer.old) (W.contents writer.new) (chart_section chart.entry)) }
+{
+    if let Some(text) = chart {
+        writer.write_all(
+            b"<section class=\"chart\">\n<h2>The entries on an axis of time</h2>\n\
+            <div tabindex=\"0\" style=\"overflow-x: auto\" onkeydown=\"event.stopPropagation()\">\n",
+        )?;
+        writer.write_all(text)?;
+        writer.write_all(b"</div>\n</section>\n")?;
+    }
+    Ok(())
+}
+
 // Writes the page of a journal that isn't too long.
 fn write_parts<W: Write>(
     writer: &mut W,
     book: &Book,
     answer: Option<AuditError>,
+    chart: Option<&[u8]>,
 ) -> Result<(), PageError>
     ensures fault { result ≡ Err PageError.TooManyEntries → ⊥ }
-    ensures page { OnOk result (WritesPage (W.contents writer.old) (W.contents writer.new) book.now.entries answer) }
+    ensures page { OnOk result (WritesPage (W.contents writer.old) (W.contents writer.new) book.now.entries answer chart.entry) }
 {
     writer.write_all(HEAD.as_bytes())?;
     write_for_no_scripts(writer, book)?;
     writer.write_all(DRAWING.as_bytes())?;
     write_answer(writer, answer)?;
     writer.write_all(LISTS.as_bytes())?;
+    write_chart(writer, chart)?;
+    writer.write_all(MIDDLE.as_bytes())?;
     write_words(writer)?;
     writer.write_all(b"\"rows\":[\n")?;
     write_rows(writer, book)?;
@@ -107,7 +126,8 @@ fn write_parts<W: Write>(
     Ok(())
 }
 
-/// Writes one page with all states of a book's journal, and with the line of an answer where its text isn't legal.
+/// Writes one page with all states of a book's journal, with the line of an answer where its text isn't legal, and below the
+/// states with a chart, an SVG text, where one is given.
 ///
 /// `TooManyEntries` comes where the journal has more than 20,000 entries, and then nothing was written; `WriteFault` comes
 /// only where the writer failed. It takes no memory.
@@ -115,14 +135,17 @@ pub fn write_page<W: Write>(
     writer: &mut W,
     book: &Book,
     answer: Option<AuditError>,
+    chart: Option<&[u8]>,
 ) -> Result<(), PageError>
     ensures refused { (result ≡ Err PageError.TooManyEntries) ↔ (20000 < length book.now.entries) }
     // Its rows are those of the states after each number of the journal's entries, in order.
-    ensures page { OnOk result (WritesPage (W.contents writer.old) (W.contents writer.new) book.now.entries answer) }
+    ensures page { OnOk result (WritesPage (W.contents writer.old) (W.contents writer.new) book.now.entries answer chart.entry) }
+    // The chart's text stands in the page as it was given.
+    ensures chart { OnOk result (ShowsChart (W.contents writer.old) (W.contents writer.new) chart.entry) }
     ensures nothing { result ≡ Err PageError.TooManyEntries → writer.new ≡ writer.old }
 {
     if book.journal().len() > MAX_PAGE_ENTRIES {
         return Err(PageError::TooManyEntries);
     }
-    write_parts(writer, book, answer)
+    write_parts(writer, book, answer, chart)
 }

@@ -4,9 +4,11 @@ mod drawing;
 mod drawing_script;
 mod head;
 mod lists;
+mod middle;
 
 pub(crate) use control_script::CONTROL_SCRIPT;
 pub(crate) use drawing::DRAWING;
 pub(crate) use drawing_script::DRAWING_SCRIPT;
 pub(crate) use head::HEAD;
 pub(crate) use lists::LISTS;
+pub(crate) use middle::MIDDLE;

@@ -1,6 +1,7 @@
 -- An answer on memory, and the good entries of a text.
 use Rattle.std.proofs.Common.{◌≡◌, ◌≤◌, ℕ, List, length, Option, Some, None, Result, Err, inl, inr, refl, ap, arith, ◌⊎◌}
 use Rattle.std.specs.Prelude.{IfSome, unwrap_or}
+use Rattle.std.specs.Result.{result_err}
 use Rattle.cell_rows.specs.Rows.{Row}
 use Rattle.cell_types.specs.declared.words.Entry.{Entry}
 use Rattle.cell_types.specs.declared.words.Totals.{Totals}
@@ -9,7 +10,8 @@ use Rattle.cell_audit.specs.Reading.{IsBefore, SpellsFirst}
 use Rattle.cell_audit.specs.declared.error.AuditError.{AuditError}
 use Rattle.cell_audit.specs.declared.error.AuditError.TheVariants as error
 use Rattle.cell_lines.specs.Lines.{status_of}
-use Rattle.cell_show.specs.Shown.{AreGood, HasEntry}
+use Rattle.cell_show.specs.Shown.{AreGood, HasEntry, IsPage, ShowsPage}
+use Rattle.cell_show.specs.declared.show.Form.{Form}
 
 pub wants-memory : (rows : Option (List Row)) → IfSome rows (λ known. IsFault (Err error.OutOfMemory) ⊎ Due known (Err error.OutOfMemory))
 wants-memory None = tt
@@ -24,6 +26,17 @@ good (Some known) answer J (inr due) before first low = (answer, due, before, fi
 good (Some known) answer J (inl (inl is)) before first low =
     let fault : status_of answer ≡ 3 = ap status_of is in absurd (omega (arith, fault, low))
 good (Some known) answer J (inl (inr is)) before first low =
+    let fault : status_of answer ≡ 4 = ap status_of is in absurd (omega (arith, fault, low))
+
+-- a page of the entries that are read is that of the good ones
+pub paged : (rows : Option (List Row)) (form : Form) (answer : Result (ℕ × Totals) AuditError) (J : List Entry) (old new : Option (List ℕ))
+    → IfSome rows (λ known. IsFault answer ⊎ Due known answer) → IsBefore answer J → IfSome rows (SpellsFirst J)
+    → status_of answer ≤ 1 → IsPage form J (result_err answer) old new → IfSome rows (ShowsPage form old new)
+paged None form answer J old new due before first low page = tt
+paged (Some known) form answer J old new (inr due) before first low page = (J, answer, due, before, first, page)
+paged (Some known) form answer J old new (inl (inl is)) before first low page =
+    let fault : status_of answer ≡ 3 = ap status_of is in absurd (omega (arith, fault, low))
+paged (Some known) form answer J old new (inl (inr is)) before first low page =
     let fault : status_of answer ≡ 4 = ap status_of is in absurd (omega (arith, fault, low))
 
 -- what is shown where no entry is asked for is all of them

@@ -1,5 +1,7 @@
 -- What is told of a journal's text beside the picture
-use Rattle.std.specs.Prelude.{◌≡◌, ◌==◌, ◌⊎◌, ◌<◌, ◌≤◌, ℕ, List, ◌++◌, length, Option, Some, Result, IfSome, ⊤, codes, decimal, if◌then◌else◌}
+use Rattle.std.specs.Prelude.{◌≡◌, ◌==◌, ◌⊎◌, ◌<◌, ◌≤◌, ℕ, List, ◌++◌, length, Option, None, Some, Result, IfSome, ⊤, codes, decimal, if◌then◌else◌}
+use Rattle.std.specs.Borrow.{Bor}
+use Rattle.std.specs.Result.{result_err}
 use Rattle.cell_rows.specs.Rows.{Row}
 use Rattle.cell_types.specs.declared.words.Entry.{Entry}
 use Rattle.cell_types.specs.declared.words.Totals.{Totals}
@@ -7,6 +9,7 @@ use Rattle.cell_audit.specs.Meaning.{Due, IsFault}
 use Rattle.cell_audit.specs.Reading.{IsBefore, SpellsFirst}
 use Rattle.cell_audit.specs.declared.error.AuditError.{AuditError}
 use Rattle.cell_lines.specs.Lines.{status_of}
+use Rattle.cell_page.specs.Page.{WritesPage}
 use Rattle.cell_page.specs.declared.error.PageError.{PageError}
 use Rattle.cell_page.specs.declared.error.PageError.TheVariants as page
 use Rattle.cell_show.specs.declared.error.ShowError.{ShowError}
@@ -45,10 +48,23 @@ TellsEntries error.WriteFault rows = ⊤
 abbrev pub HasEntry : Option ℕ → List Row → Type 0
 HasEntry entry rows = (J : List Entry) × AreGood J rows × IfSome entry (λ k. k ≤ length J)
 
+-- a page of some entries is written, with some chart where the form has one; of another form nothing is said
+abbrev pub IsPage : Form → List Entry → Option AuditError → Option (List ℕ) → Option (List ℕ) → Type 0
+IsPage form.Page J answer old new = WritesPage old new J answer None
+IsPage (form.TimedPage durations) J answer old new = (chart : Bor (List ℕ)) × WritesPage old new J answer (Some chart)
+IsPage _ J answer old new = ⊤
+
+-- a page is that of a text's good entries, with the answer's line where the text isn't legal
+abbrev pub ShowsPage : Form → Option (List ℕ) → Option (List ℕ) → List Row → Type 0
+ShowsPage form old new rows =
+    (J : List Entry) × (answer : Result (ℕ × Totals) AuditError) × Due rows answer × IsBefore answer J × SpellsFirst J rows
+    × IsPage form J (result_err answer) old new
+
 -- a form that shows only so many entries
 abbrev pub HasBound : Form → Type 0
 HasBound form.Page = ⊤
 HasBound (form.Chart durations) = ⊤
+HasBound (form.TimedPage durations) = ⊤
 HasBound _ = ⊥
 
 -- the word for so many entries

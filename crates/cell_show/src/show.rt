@@ -3,7 +3,7 @@ ghost use Rattle.std.specs.Prelude.{◌≡◌, ◌≢◌, ◌≤◌, ◌<◌, �
 ghost use Rattle.cell_rows.specs.Rows.{IsOpen, device_failed, rows_left};
 ghost use Rattle.cell_audit.specs.Migrated.{rows_in};
 ghost use Rattle.cell_lines.specs.Lines.{status_of};
-ghost use Rattle.cell_show.specs.Shown.{TellsStatus, AsksPast, TellsEntries, HasBound, HasEntry};
+ghost use Rattle.cell_show.specs.Shown.{TellsStatus, AsksPast, TellsEntries, HasBound, HasEntry, IsPage, ShowsPage};
 
 use crate::ShowError;
 use cell_audit::{AuditError, read_rows};
@@ -31,6 +31,8 @@ pub enum Form {
     Page,
     /// As one picture file with an axis of time, in SVG, in which motions take so long.
     Chart(Durations),
+    /// As one page with all states, in HTML, and in it all entries on an axis of time, in which motions take so long.
+    TimedPage(Durations),
 }
 
 // The status of an audit's answer.
@@ -67,6 +69,64 @@ fn draw_times<W: Write>(
     }
 }
 
+// The chart of all entries of a book, if there was memory for it.
+fn chart_of(
+    alloc: Global,
+    durations: &Durations,
+    book: &Book,
+    answer: Option<AuditError>,
+) -> Result<Option<Vec<u8>>, ShowError>
+    ensures entry { (n : ℕ) → result ≢ Err (ShowError.NoSuchEntry n) }
+    ensures long { result ≡ Err ShowError.TooManyEntries → 20000 < length book.now.entries }
+    ensures fault { result ≢ Err ShowError.WriteFault }
+{
+    let mut chart = Vec::new(alloc);
+    let journal = book.journal();
+    match draw_chart(alloc, &mut chart, journal, journal.len(), durations, answer) {
+        Ok(()) => Ok(Some(chart)),
+        // A chart that is written to memory fails only where that is wanting.
+        Err(ChartError::OutOfMemory) | Err(ChartError::WriteFault) => Ok(None),
+        Err(ChartError::TooManyEntries) => Err(ShowError::TooManyEntries),
+    }
+}
+
+// Writes the page of a book.
+fn draw_page<W: Write>(
+    writer: &mut W,
+    book: &Book,
+    answer: Option<AuditError>,
+) -> Result<bool, ShowError>
+    ensures entry { (n : ℕ) → result ≢ Err (ShowError.NoSuchEntry n) }
+    ensures long { result ≡ Err ShowError.TooManyEntries → 20000 < length book.now.entries }
+    ensures page { result ≡ Ok true → IsPage Form.Page book.now.entries answer (W.contents writer.old) (W.contents writer.new) }
+    ensures nothing { IfErr result (λ e. e ≢ ShowError.WriteFault → writer.new ≡ writer.old) }
+    ensures memory { result ≢ Ok false }
+{
+    write_page(writer, book, answer, None)?;
+    Ok(true)
+}
+
+// Writes the page of a book with the chart of its entries, and says whether there was memory for it.
+fn draw_timed_page<W: Write>(
+    alloc: Global,
+    writer: &mut W,
+    durations: Durations,
+    book: &Book,
+    answer: Option<AuditError>,
+) -> Result<bool, ShowError>
+    ensures entry { (n : ℕ) → result ≢ Err (ShowError.NoSuchEntry n) }
+    ensures long { result ≡ Err ShowError.TooManyEntries → 20000 < length book.now.entries }
+    ensures page { result ≡ Ok true → IsPage (Form.TimedPage durations) book.now.entries answer (W.contents writer.old) (W.contents writer.new) }
+    ensures nothing { IfErr result (λ e. e ≢ ShowError.WriteFault → writer.new ≡ writer.old) }
+    ensures memory { result ≡ Ok false → writer.new ≡ writer.old }
+{
+    let Some(chart) = chart_of(alloc, &durations, book, answer)? else {
+        return Ok(false);
+    };
+    write_page(writer, book, answer, Some(chart.as_slice()))?;
+    Ok(true)
+}
+
 // Writes what the first entries of a book left, and says whether there was memory for it.
 fn draw<W: Write>(
     alloc: Global,
@@ -80,6 +140,7 @@ fn draw<W: Write>(
     ensures entry { (n : ℕ) → result ≢ Err (ShowError.NoSuchEntry n) }
     ensures bound { result ≡ Err ShowError.TooManyEntries → HasBound form }
     ensures long { result ≡ Err ShowError.TooManyEntries → 20000 < length book.now.entries }
+    ensures page { result ≡ Ok true → IsPage form book.now.entries answer (W.contents writer.old) (W.contents writer.new) }
     ensures nothing { IfErr result (λ e. e ≢ ShowError.WriteFault → writer.new ≡ writer.old) }
     ensures memory { result ≡ Ok false → writer.new ≡ writer.old }
 {
@@ -94,9 +155,12 @@ fn draw<W: Write>(
         Form::Text => draw_text(writer, &scene, false)?,
         Form::Unicode => draw_text(writer, &scene, true)?,
         Form::Picture => draw_picture(writer, &scene)?,
-        Form::Page => write_page(writer, book, answer)?,
+        Form::Page => return draw_page(writer, book, answer),
         Form::Chart(durations) => {
             return draw_times(alloc, writer, &durations, book, entries, answer);
+        }
+        Form::TimedPage(durations) => {
+            return draw_timed_page(alloc, writer, durations, book, answer);
         }
     }
     Ok(true)
@@ -114,6 +178,7 @@ pub fn show_rows<R: TellsFault, W: Write>(
     ensures status { IfOk result (TellsStatus (rows_left R.remaining rows.old)) }
     ensures unread { IfOk result (λ status. 1 < status → writer.new ≡ writer.old) }
     ensures there { IfOk result (λ status. status ≤ 1 → IfSome (rows_left R.remaining rows.old) (HasEntry entry)) }
+    ensures page { IfOk result (λ status. status ≤ 1 → IfSome (rows_left R.remaining rows.old) (ShowsPage form (W.contents writer.old) (W.contents writer.new))) }
     ensures past { IfErr result (AsksPast entry) }
     ensures entries { IfErr result (λ why. IfSome (rows_left R.remaining rows.old) (TellsEntries why)) }
     ensures bound { result ≡ Err ShowError.TooManyEntries → HasBound form }
@@ -160,6 +225,8 @@ pub fn show_journal<R: Read + Drop, W: Write>(
     ensures unread { IfOk result (λ status. 1 < status → writer.new ≡ writer.old) }
     // Where the cell is shown, the text has at least as many good entries as were asked for.
     ensures there { IfOk result (λ status. status ≤ 1 → IfSome (rows_in (R.remaining reader)) (HasEntry entry)) }
+    // A page is that of the text's good entries, and has a chart where it was asked for.
+    ensures page { IfOk result (λ status. status ≤ 1 → IfSome (rows_in (R.remaining reader)) (ShowsPage form (W.contents writer.old) (W.contents writer.new))) }
     // Where there is no such entry, more were asked for than are told.
     ensures past { IfErr result (AsksPast entry) }
     // There are as many good entries as are told, or too many for a page.

@@ -22,19 +22,33 @@ fn write_first<W: Write>(
     alloc: Global,
     writer: &mut W,
     answer: Option<AuditError>,
+    chart: Option<&[u8]>,
 ) -> Result<(), PageError> {
     let book = begun(alloc, 100, 10, 4).expect(rt, "a book");
-    write_page(writer, &book, answer)
+    write_page(writer, &book, answer, chart)
+}
+
+// That page.
+fn first_page(
+    rt: &impl Abort,
+    alloc: Global,
+    answer: Option<AuditError>,
+    chart: Option<&[u8]>,
+) -> String {
+    let mut page = Vec::new(alloc);
+    assert!(rt; write_first(rt, alloc, &mut page, answer, chart) == Ok(()));
+    String::from_utf8(page).ok().expect(rt, "the page is UTF-8")
 }
 
 // That page has the rows between their beginning and their end, and these words of the answer.
-fn is_page(rt: &impl Abort, alloc: Global, answer: Option<AuditError>, words: &str) {
-    let mut page = Vec::new(alloc);
-    assert!(rt;
-        write_first(rt, alloc, &mut page, answer) == Ok(()),
-        "{words}"
-    );
-    let page = String::from_utf8(page).ok().expect(rt, "the page is UTF-8");
+fn is_page(
+    rt: &impl Abort,
+    alloc: Global,
+    answer: Option<AuditError>,
+    chart: Option<&[u8]>,
+    words: &str,
+) {
+    let page = first_page(rt, alloc, answer, chart);
     let text = page.as_str();
     assert!(rt;
         text.starts_with("<!DOCTYPE html>\n<html lang=\"en\">\n"),
@@ -49,9 +63,33 @@ fn is_page(rt: &impl Abort, alloc: Global, answer: Option<AuditError>, words: &s
 
 #[test]
 fn writes_a_row_for_each_state_and_the_answer(rt: HostRuntime) {
-    is_page(&rt, rt.alloc(), None, "");
+    is_page(&rt, rt.alloc(), None, None, "");
     let answer = AuditError::Refused(5, Refusal::LampRed(Belt::Feed));
-    is_page(&rt, rt.alloc(), Some(answer), "refused 5 LampRed feed");
+    is_page(
+        &rt,
+        rt.alloc(),
+        Some(answer),
+        None,
+        "refused 5 LampRed feed",
+    );
+}
+
+// The section of a chart.
+const SECTION: &str = "<section class=\"chart\">\n<h2>The entries on an axis of time</h2>\n\
+    <div tabindex=\"0\" style=\"overflow-x: auto\" onkeydown=\"event.stopPropagation()\">\n\
+    <svg>a chart</svg>\n</div>\n</section>\n";
+
+// The page with a chart is that without it, and the chart's section.
+#[test]
+fn writes_a_chart(rt: HostRuntime) {
+    let chart = Some(b"<svg>a chart</svg>\n".as_slice());
+    is_page(&rt, rt.alloc(), None, chart, "");
+    let with = first_page(&rt, rt.alloc(), None, chart);
+    let without = first_page(&rt, rt.alloc(), None, None);
+    assert!(rt; !without.as_str().contains("section"));
+    let (before, after) = with.as_str().split_once(SECTION).unwrap_or(("", ""));
+    assert!(rt; without.as_str().strip_prefix(before) == Some(after));
+    assert!(rt; before.ends_with("</details>\n") && after.starts_with("</main>\n"));
 }
 
 // Writes the page of a book of so many entries, of which each switches the feed light.
@@ -70,7 +108,7 @@ fn write_switching(
         };
         assert!(rt; book_all(&mut book, &[record]).is_ok());
     }
-    write_page(page, &book, None)
+    write_page(page, &book, None, None)
 }
 
 #[test]
@@ -90,7 +128,7 @@ fn tells_that_the_writer_failed(rt: HostRuntime) {
     for room in [0, 1000, 30_000] {
         let mut bytes = vec![in rt.alloc(); 0u8; room].expect(&rt, "memory");
         let mut rest = bytes.as_mut_slice();
-        let answer = write_first(&rt, rt.alloc(), &mut rest, None);
+        let answer = write_first(&rt, rt.alloc(), &mut rest, None, None);
         assert!(rt; answer == Err(PageError::WriteFault), "in {room} bytes");
     }
 }

@@ -3,10 +3,16 @@ use crate::texts::OPENING;
 use cell_measures::Durations;
 use cell_samples::{FailingReader, FailingWriter};
 use cell_show::{Form, ShowError, show_journal};
+use cell_types::{Axis, Pose};
 use std::alloc::Global;
 use std::process::Abort;
 
 const LEGAL: &str = "profile,1,,\nlamp,feed,green,\nadmitted,1,,\n";
+
+// The feed belt carries a plate to the table.
+const CARRIED: &str =
+    "profile,1,,\nlamp,feed,green,\nadmitted,1,,\nstarted,feed_belt,to_end,\nconveyed,feed_belt,1,feed_end\n\
+    claimed,feed,z1,\nstarted,feed_belt,to_table,\nconveyed,feed_belt,1,table\n";
 
 const REFUSED: &str = "profile,1,,\nlamp,feed,green,\nlamp,feed,green,\n";
 
@@ -78,7 +84,7 @@ type Case = (
 );
 
 // A legal journal is shown after each entry, and in each form.
-const LEGAL_CASES: [Case; 9] = [
+const LEGAL_CASES: [Case; 10] = [
     (LEGAL, Form::Text, None, Ok(0), ADMITTED, ""),
     (LEGAL, Form::Text, Some(2), Ok(0), ADMITTED, ""),
     (LEGAL, Form::Text, Some(1), Ok(0), LIT, ""),
@@ -100,6 +106,14 @@ const LEGAL_CASES: [Case; 9] = [
         Ok(0),
         "<svg xmlns=",
         "</svg>\n",
+    ),
+    (
+        LEGAL,
+        Form::TimedPage(Durations::ONE),
+        None,
+        Ok(0),
+        "<!DOCTYPE html>\n",
+        "</html>\n",
     ),
     (
         LEGAL,
@@ -168,6 +182,37 @@ fn shows_journals_in_each_form(rt: HostRuntime) {
     }
 }
 
+// What is written where that journal is shown, after an entry or after all.
+fn shown_as(rt: &impl Abort, alloc: Global, form: Form, entry: Option<u32>) -> String {
+    let mut written = Vec::new(alloc);
+    let answered = show_journal(alloc, CARRIED.as_bytes(), form, entry, &mut written);
+    assert!(rt; answered == Ok(0), "{form:?}");
+    String::from_utf8(written).ok().expect(rt, "text")
+}
+
+// A page with durations is the page without, and in it the chart of all entries with these, whatever entry is asked for.
+#[test]
+fn a_page_has_a_chart_of_all_entries(rt: HostRuntime) {
+    let mut durations = Durations::ONE;
+    durations.set(Axis::FeedBelt, Pose::ToTable, 4);
+    let page = shown_as(&rt, rt.alloc(), Form::Page, None);
+    let chart = shown_as(&rt, rt.alloc(), Form::Chart(durations), None);
+    for entry in [None, Some(1)] {
+        let timed = shown_as(&rt, rt.alloc(), Form::TimedPage(durations), entry);
+        let (before, rest) = timed
+            .as_str()
+            .split_once(chart.as_str())
+            .unwrap_or(("", ""));
+        assert!(rt; page.as_str().len() < timed.as_str().len());
+        assert!(rt; !page.as_str().contains(chart.as_str()));
+        let (before, _) = before.split_once("<section").unwrap_or(("", ""));
+        let (_, after) = rest.split_once("</section>\n").unwrap_or(("", ""));
+        assert!(rt; page.as_str().starts_with(before) && !before.is_empty());
+        assert!(rt; page.as_str().ends_with(after) && !after.is_empty());
+        assert!(rt; page.as_str().len() == before.len().saturating_add(after.len()));
+    }
+}
+
 #[test]
 fn shows_nothing_where_the_reader_fails(rt: HostRuntime) {
     for left in [0, 1, 20, LEGAL.len()] {
@@ -188,6 +233,7 @@ fn tells_that_the_writer_failed(rt: HostRuntime) {
         Form::Picture,
         Form::Page,
         Form::Chart(Durations::ONE),
+        Form::TimedPage(Durations::ONE),
     ] {
         for left in [0, 1, 500] {
             let mut writer = FailingWriter::new(Vec::new(rt.alloc()), left);

@@ -87,7 +87,9 @@ fn draws<W: Write>(writer: &mut W, scene: &Scene, form: Form) -> bool {
     match form {
         Form::Text => draw_text(writer, scene, false).is_ok(),
         Form::Unicode => draw_text(writer, scene, true).is_ok(),
-        Form::Picture | Form::Page | Form::Chart(_) => draw_picture(writer, scene).is_ok(),
+        Form::Picture | Form::Page | Form::Chart(_) | Form::TimedPage(_) => {
+            draw_picture(writer, scene).is_ok()
+        }
     }
 }
 

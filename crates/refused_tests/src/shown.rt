@@ -94,3 +94,8 @@ fn show_journal_as_page(rt: HostRuntime) -> Result<(), Fail> {
 fn show_journal_as_chart(rt: HostRuntime) -> Result<(), Fail> {
     check_show(&rt, Form::Chart(Durations::ONE))
 }
+
+#[test]
+fn show_journal_as_page_with_chart(rt: HostRuntime) -> Result<(), Fail> {
+    check_show(&rt, Form::TimedPage(Durations::ONE))
+}

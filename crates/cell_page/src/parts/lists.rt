@@ -36,6 +36,4 @@ pub(crate) const LISTS: &str = r##"<div id="controls" role="group" aria-label="G
 <details><summary>Keys</summary>
 <p class="soft"><kbd>&larr;</kbd> and <kbd>&rarr;</kbd> step back and forward, <kbd>Home</kbd> and <kbd>End</kbd> go to the start and the end, <kbd>Space</kbd> plays and pauses. A click on a mark or on the rows above it goes to that entry. The page's address keeps the entry.</p>
 </details>
-</main>
-<script type="application/json" id="journal">
-{"##;
+"##;

@@ -1,9 +1,9 @@
-use Rattle.std.proofs.Common.{◌≡◌, ◌≤◌, length, Err, refl, rules, arith}
+use Rattle.std.proofs.Common.{◌≡◌, ◌≤◌, length, Ok, Err, refl, subst, rules, arith, true}
 use Rattle.std.specs.Prelude.{IfSome, unwrap_or}
 use Rattle.cell_audit.specs.declared.error.AuditError.TheVariants as error
 use Rattle.cell_rows.specs.Rows.{rows_left}
-use Rattle.cell_show.specs.Shown.{AreGood}
-use Rattle.cell_show.proofs.Facts.{wants-memory, good, has}
+use Rattle.cell_show.specs.Shown.{AreGood, IsPage}
+use Rattle.cell_show.proofs.Facts.{wants-memory, good, has, paged}
 use Rattle.cell_show.proofs.show.show_rows.Goals as goal
 
 pub returns-in_default-clause-status : goal.returns-in_default-clause-status
@@ -29,3 +29,13 @@ returns-then-branch-clause-there g c = λ low.
     let shown : c.unwrap_or-shown.result ≡ unwrap_or c.args.entry n = c.unwrap_or-shown.ensures in
     let most : unwrap_or c.args.entry n ≤ n = omega (arith, shown, c.if-shown-entries.false) in
     has (rows_left g.R.Read.remaining c.args.rows.now) c.args.entry n book are size most
+
+pub returns-then-branch-clause-page : goal.returns-then-branch-clause-page
+returns-then-branch-clause-page g c = λ low.
+    let book = c.in-Ok.reading.book.entries in
+    let old = g.W.Write.contents c.args.writer.now in
+    let new = g.W.Write.contents c.draw.new.writer in
+    let drawn : c.draw.result ≡ Ok true = search rules in
+    let page = subst (λ why. IsPage c.args.form book why old new) c.err-answer.ensures.value (c.draw.ensures.page drawn) in
+    paged (rows_left g.R.Read.remaining c.args.rows.now) c.args.form c.in-Ok.reading.answer book old new c.in-Ok.ensures.due c.in-Ok.ensures.before
+    c.in-Ok.ensures.first (omega (arith, c.status_of-status.ensures, low)) page
