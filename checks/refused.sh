@@ -239,6 +239,9 @@ refuse_shown() {
     refuse_words answer_is_right "explain --operator" explain --operator "$examples/press_fails.operator"
     refuse_words answer_is_right "measure" measure --times "$examples/measures/times.toml" "$examples/whole.journal" \
         "$examples/refused.journal"
+    refuse_words answer_is_right "sweep" sweep --kinds no_motion --motions 1 "$folder/short.toml" "$folder/short.operator"
+    refuse_words answer_is_right "sweep --csv --service" sweep --csv --service --kinds lose_plate --motions 1 "$folder/short.toml" \
+        "$folder/short.operator"
     refuse_words answer_is_right "measure --csv" measure --csv "$examples/whole.journal"
 }
 

@@ -4,10 +4,10 @@ _cellctl() {
     local word=${COMP_WORDS[COMP_CWORD]} before=${COMP_WORDS[COMP_CWORD - 1]} words=
     COMPREPLY=()
     if [ "$COMP_CWORD" = 1 ]; then
-        words='audit migrate show explain measure check sim drive run help --help --version'
+        words='audit migrate show explain measure check sim sweep drive run help --help --version'
     else
         case "${COMP_WORDS[1]} $before" in
-            'explain --settings' | 'explain --faults' | 'explain --operator' | 'show --file' | 'show -f' | 'sim --follow' | *' --times') return ;;
+            'explain --settings' | 'explain --faults' | 'explain --operator' | 'show --file' | 'show -f' | 'sim --follow' | *' --times' | 'sweep --kinds' | 'sweep --motions') return ;;
         esac
         case ${COMP_WORDS[1]} in
             show) words='--svg --html --unicode --times --file --help' ;;
@@ -16,8 +16,9 @@ _cellctl() {
             sim) words='--journal --explain --times --follow --measures --help' ;;
             drive) words='--raw --journal --explain --times --help' ;;
             run) words='--journal --explain --times --measures --help' ;;
+            sweep) words='--kinds --motions --service --csv --help' ;;
             audit | migrate | check) words='--help' ;;
-            help) words='audit migrate show explain measure check sim drive run' ;;
+            help) words='audit migrate show explain measure check sim sweep drive run' ;;
         esac
         # Elsewhere a file may stand, which bash completes itself.
         [[ ${COMP_WORDS[1]} = help || $word = -* ]] || return

@@ -4,7 +4,7 @@ use Rattle.std.specs.Prelude.{IfSome, true}
 use Rattle.clap.specs.Words.{all_of, is_simple, is_simple_and_free, matched_of, raw_values, rows_of}
 use Rattle.clap.specs.declared.parser.matches.Found.{Found}
 use Rattle.clap.proofs.WalkLemmas.{raw_values-rows}
-use Rattle.cell_command.specs.Shape.{cellctl, checking, driving, explain, flagged, judging, measure, measuring, pictured, reading, scripted, show, showing, simulating}
+use Rattle.cell_command.specs.Shape.{cellctl, checking, driving, explain, flagged, judging, measure, measuring, pictured, reading, scripted, show, showing, simulating, sweep, sweeping}
 
 abbrev pub both : {X A B : Type 0} → (X → A) → (X → B) → X → A × B
 both f g x = (f x, g x)
@@ -28,9 +28,9 @@ same-values found id texts values h same =
 
 -- the program's command line is one of which clap's definitions tell the matches and the faults
 pub cellctl-simple : is_simple cellctl ≡ true
-unfolding checking driving explain flagged judging measure measuring pictured reading scripted show showing simulating
+unfolding checking driving explain flagged judging measure measuring pictured reading scripted show showing simulating sweep sweeping
 cellctl-simple = refl
 
 pub cellctl-free : is_simple_and_free cellctl ≡ true
-unfolding checking driving explain flagged judging measure measuring pictured reading scripted show showing simulating
+unfolding checking driving explain flagged judging measure measuring pictured reading scripted show showing simulating sweep sweeping
 cellctl-free = refl

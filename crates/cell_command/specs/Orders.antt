@@ -9,6 +9,7 @@ use Rattle.cell_command.specs.declared.order.Measuring.{Measuring}
 use Rattle.cell_command.specs.declared.order.Paths.{Paths}
 use Rattle.cell_command.specs.declared.order.Running.{Running}
 use Rattle.cell_command.specs.declared.order.Showing.{Showing}
+use Rattle.cell_command.specs.declared.order.Sweeping.{Sweeping}
 use Rattle.cell_command.specs.declared.order.Order.{Order}
 use Rattle.cell_command.specs.declared.order.Order.TheVariants as order
 
@@ -66,6 +67,15 @@ IsMeasured rows m = HasValue rows (codes "times") m.times
     × HasFlag rows (codes "csv") m.csv
     × HasValues rows (codes "journals") m.journals.items
 
+-- the kinds, the number of motions, the flags and the two files of a sweep
+abbrev pub IsSwept : List Row → Sweeping → Type 0
+IsSwept rows s = HasValue rows (codes "kinds") s.kinds
+    × HasValue rows (codes "motions") s.motions
+    × HasFlag rows (codes "service") s.service
+    × HasFlag rows (codes "csv") s.csv
+    × HasPath rows (codes "settings") s.settings.now
+    × HasPath rows (codes "operator") s.operator.now
+
 -- the order of a command's name and what is matched below it
 abbrev pub Fits : Text → List Row → Order → Type 0
 Fits name rows (order.Audit file) = (name ≡ codes "audit") × HasValue rows (codes "file") file
@@ -77,6 +87,7 @@ Fits name rows (order.Check path) = (name ≡ codes "check") × HasPath rows (co
 Fits name rows (order.Sim running) = (name ≡ codes "sim") × HasValue rows (codes "follow") None × HasFlag rows (codes "measures") false × IsRun rows running
 Fits name rows (order.SimMeasured running) = (name ≡ codes "sim") × HasValue rows (codes "follow") None × HasFlag rows (codes "measures") true × IsRun rows running
 Fits name rows (order.Follow path running) = (name ≡ codes "sim") × HasValue rows (codes "follow") (Some path) × IsRun rows running
+Fits name rows (order.Sweep sweeping) = (name ≡ codes "sweep") × IsSwept rows sweeping
 Fits name rows (order.Drive driving) = (name ≡ codes "drive") × IsDriven rows driving
 Fits name rows (order.Run running) = (name ≡ codes "run") × HasFlag rows (codes "measures") false × IsRun rows running
 Fits name rows (order.RunMeasured running) = (name ≡ codes "run") × HasFlag rows (codes "measures") true × IsRun rows running

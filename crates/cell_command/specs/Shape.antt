@@ -82,6 +82,14 @@ filed a = scripted (with_rule a (path_rule (codes "settings")))
 abbrev pub sim : App
 sim = filed (with_rule (with_rule (flagged (new_app (codes "sim"))) (file_rule (codes "follow"))) (flag_rule (codes "measures")))
 
+-- the command that runs the cell once for each fault: the options with the kinds and with how many motions, the flags of the
+-- service and of CSV, and the paths of the settings and of the operator's script
+unfoldable pub sweep : App
+sweep =
+    let optioned = with_rule (with_rule (new_app (codes "sweep")) (file_rule (codes "kinds"))) (file_rule (codes "motions")) in
+    let chosen = with_rule (with_rule optioned (flag_rule (codes "service"))) (flag_rule (codes "csv")) in
+    with_rule (with_rule chosen (path_rule (codes "settings"))) (path_rule (codes "operator"))
+
 -- the command by which a method drives the cell, with the flag for commands to the bare machines
 abbrev pub drive : App
 drive = filed (flagged (with_rule (new_app (codes "drive")) (flag_rule (codes "raw"))))
@@ -110,13 +118,17 @@ measuring = with_subcommand reading measure.top
 unfoldable pub checking : App
 checking = with_subcommand measuring check.top
 
--- the program with all commands but those by which a method drives the cell and which run it on threads
+-- the program with all commands but those by which a method drives the cell and which sweep it or run it on threads
 unfoldable pub simulating : App
 simulating = with_subcommand checking sim.top
 
+-- the program with all commands but those by which a method drives the cell and which run it on threads
+unfoldable pub sweeping : App
+sweeping = with_subcommand simulating sweep.top
+
 -- the program with all commands but that which runs the cell on threads
 unfoldable pub driving : App
-driving = with_subcommand simulating drive.top
+driving = with_subcommand sweeping drive.top
 
 abbrev pub cellctl : App
 cellctl =

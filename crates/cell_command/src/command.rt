@@ -2,16 +2,17 @@
 ghost use Rattle.std.specs.Prelude.{◌≡◌, IfOk, codes, false};
 ghost use Rattle.clap.specs.Words.{app_of, new_app, with_rule, with_subcommand};
 ghost use Rattle.clap.specs.declared.builder.command.Command.TheViews.{out-Command};
-ghost use Rattle.cell_command.specs.Shape.{audit, cellctl, check, checking, drive, driving, explain, file_rule, filed, flag_rule, flagged, journal_rule, judging, measure, measuring, migrate, optional_rule, path_rule, pictured, reading, run, scripted, several_rule, show, showing, sim, simulating, times_rule, with_input};
+ghost use Rattle.cell_command.specs.Shape.{audit, cellctl, check, checking, drive, driving, explain, file_rule, filed, flag_rule, flagged, journal_rule, judging, measure, measuring, migrate, optional_rule, path_rule, pictured, reading, run, scripted, several_rule, show, showing, sim, simulating, sweep, sweeping, times_rule, with_input};
 
 use crate::help::{
     ABOUT, AFTER, AUDIT_ABOUT, AUDIT_EXAMPLE, AUDIT_HELP, CHECK_ABOUT, CHECK_EXAMPLE, CHECK_HELP,
     CSV_HELP, DRIVE_ABOUT, DRIVE_EXAMPLE, DRIVE_HELP, ENTRY_HELP, EXPLAIN_ABOUT, EXPLAIN_EXAMPLE,
     EXPLAIN_HELP, EXPLAIN_USAGE, FAULTS_HELP, FILE_HELP, FOLLOW_HELP, HTML_HELP, JOURNAL_HELP,
-    JOURNALS_HELP, LEAST_HELP, MEASURE_ABOUT, MEASURE_EXAMPLE, MEASURE_HELP, MEASURES_HELP,
-    MIGRATE_ABOUT, MIGRATE_EXAMPLE, MIGRATE_HELP, OPERATOR_HELP, RAW_HELP, RUN_ABOUT, RUN_EXAMPLE,
-    RUN_HELP, SETTINGS_HELP, SHOW_ABOUT, SHOW_EXAMPLE, SHOW_HELP, SHOW_USAGE, SIM_ABOUT,
-    SIM_EXAMPLE, SIM_HELP, SVG_HELP, TIMES_HELP, UNICODE_HELP, VERSION, WHY_HELP,
+    JOURNALS_HELP, KINDS_HELP, LEAST_HELP, MEASURE_ABOUT, MEASURE_EXAMPLE, MEASURE_HELP,
+    MEASURES_HELP, MIGRATE_ABOUT, MIGRATE_EXAMPLE, MIGRATE_HELP, MOTIONS_HELP, OPERATOR_HELP,
+    RAW_HELP, RUN_ABOUT, RUN_EXAMPLE, RUN_HELP, RUNS_HELP, SERVICE_HELP, SETTINGS_HELP, SHOW_ABOUT,
+    SHOW_EXAMPLE, SHOW_HELP, SHOW_USAGE, SIM_ABOUT, SIM_EXAMPLE, SIM_HELP, SVG_HELP, SWEEP_ABOUT,
+    SWEEP_EXAMPLE, SWEEP_HELP, TIMES_HELP, UNICODE_HELP, VERSION, WHY_HELP,
 };
 use clap::{Arg, ArgAction, Command};
 use std::alloc::{AllocError, Global};
@@ -289,6 +290,30 @@ fn sim_command<'a>(alloc: Global) -> Result<Command<'a>, AllocError>
     with_files(alloc, measures)
 }
 
+// Adds the options and flags of a sweep.
+fn with_choices<'a>(alloc: Global, command: Command<'a>) -> Result<Command<'a>, AllocError>
+    requires local { (out-Command command).has_globals ≡ false }
+    ensures app { IfOk result (λ c. app_of c ≡ with_rule (with_rule (with_rule (with_rule (app_of command.entry) (file_rule (codes "kinds"))) (file_rule (codes "motions"))) (flag_rule (codes "service"))) (flag_rule (codes "csv"))) }
+    ensures local { IfOk result (λ c. (out-Command c).has_globals ≡ false) }
+{
+    let kinds = with_file(alloc, command, "kinds", "LIST", KINDS_HELP)?;
+    let motions = with_file(alloc, kinds, "motions", "N", MOTIONS_HELP)?;
+    let service = with_flag(alloc, motions, "service", SERVICE_HELP)?;
+    with_flag(alloc, service, "csv", RUNS_HELP)
+}
+
+// The command that runs the cell once for each fault.
+#[tactic(auto, unfolding(crate::specs::Shape::sweep))]
+fn sweep_command<'a>(alloc: Global) -> Result<Command<'a>, AllocError>
+    ensures app { IfOk result (λ c. app_of c ≡ sweep) }
+    ensures local { IfOk result (λ c. (out-Command c).has_globals ≡ false) }
+{
+    let command = described(alloc, "sweep", SWEEP_ABOUT, SWEEP_HELP, SWEEP_EXAMPLE);
+    let chosen = with_choices(alloc, command)?;
+    let settings = with_path(alloc, chosen, "settings", "SETTINGS", SETTINGS_HELP)?;
+    with_path(alloc, settings, "operator", "OPERATOR", OPERATOR_HELP)
+}
+
 // The command by which a method drives the cell, with the flag for commands to the bare machines.
 fn drive_command<'a>(alloc: Global) -> Result<Command<'a>, AllocError>
     ensures app { IfOk result (λ c. app_of c ≡ drive) }
@@ -377,7 +402,7 @@ fn checking_commands<'a>(alloc: Global) -> Result<Command<'a>, AllocError>
     add(measuring, check)
 }
 
-// The program with all commands but those by which a method drives the cell and which run it on threads.
+// The program with all commands but those by which a method drives the cell and which sweep it or run it on threads.
 #[tactic(auto, unfolding(crate::specs::Shape::simulating))]
 fn simulating_commands<'a>(alloc: Global) -> Result<Command<'a>, AllocError>
     ensures app { IfOk result (λ c. app_of c ≡ simulating) }
@@ -388,15 +413,26 @@ fn simulating_commands<'a>(alloc: Global) -> Result<Command<'a>, AllocError>
     add(checking, sim)
 }
 
+// The program with all commands but those by which a method drives the cell and which run it on threads.
+#[tactic(auto, unfolding(crate::specs::Shape::sweeping))]
+fn sweeping_commands<'a>(alloc: Global) -> Result<Command<'a>, AllocError>
+    ensures app { IfOk result (λ c. app_of c ≡ sweeping) }
+    ensures local { IfOk result (λ c. (out-Command c).has_globals ≡ false) }
+{
+    let simulating = simulating_commands(alloc)?;
+    let sweep = sweep_command(alloc)?;
+    add(simulating, sweep)
+}
+
 // The program with all commands but that which runs the cell on threads.
 #[tactic(auto, unfolding(crate::specs::Shape::driving))]
 fn driving_commands<'a>(alloc: Global) -> Result<Command<'a>, AllocError>
     ensures app { IfOk result (λ c. app_of c ≡ driving) }
     ensures local { IfOk result (λ c. (out-Command c).has_globals ≡ false) }
 {
-    let simulating = simulating_commands(alloc)?;
+    let sweeping = sweeping_commands(alloc)?;
     let drive = drive_command(alloc)?;
-    add(simulating, drive)
+    add(sweeping, drive)
 }
 
 // The program with all commands.

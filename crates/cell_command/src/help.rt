@@ -289,7 +289,8 @@ Example: cellctl run examples/press_fails.toml \\
 pub(crate) const SHOW_ABOUT: &str = "Draw the cell as a journal's first entries left it";
 
 pub(crate) const SHOW_USAGE: &str = "\
-cellctl show [--svg [--times FILE] | --html | --unicode] [--file FILE] [ENTRY]";
+cellctl show [--svg | --html | --unicode] [--file FILE] [ENTRY]
+       cellctl show (--svg | --html) --times FILE [--file FILE] [ENTRY]";
 
 pub(crate) const SHOW_HELP: &str = "\
 Reads a journal's text from FILE, or on standard input where no file is named,
@@ -305,7 +306,8 @@ Prints at most 24 lines of 78 characters, plain ASCII or with --unicode also
 other signs; with --svg one picture file; with --html one page for a browser,
 which has the states after all entries, of which it shows at most 20000. With
 --svg --times FILE the picture has at most 20000 entries on an axis of time,
-where motions take what FILE says (see the command measure).
+where motions take what FILE says (see the command measure), and with --html
+--times FILE the page has such a picture of all entries below the states.
 
 A journal that is refused or can't be read is shown up to its last good entry,
 and below stands the line of the command audit.
@@ -384,6 +386,38 @@ Exit status: 0 all legal, 1 a journal or the durations are refused, 2 wrong
 arguments, 3 a read or a write failed, 4 out of memory.";
 
 pub(crate) const MEASURE_EXAMPLE: &str = "Example: cellctl measure examples/whole.journal";
+
+pub(crate) const SWEEP_ABOUT: &str = "Run the simulated cell once for each single fault";
+
+pub(crate) const SWEEP_HELP: &str = "\
+Runs the simulated cell on one thread once for each fault: each kind, in each
+motion of each axis, alone. Prints a line for each run: the axis, the motion,
+the kind, the run's end as sim tells it, how many plates were admitted, forged,
+quarantined and delivered, how long its events need at least, and the first line
+of what sim --explain says of its end; and then how many runs had each end.
+
+LIST has kinds of faults with commas between them; slow and silent may have a
+colon and a number of readings, and have 30 else. All kinds are taken where none
+is given, and as many motions of each axis as it has without faults.
+
+With --service the operator does what OPERATOR says, and besides clears what is
+in a failed machine, repairs it and lays back each plate that can come back.
+
+On a terminal standard error tells how many runs are done.
+
+Exit status: 0 all runs are told, however they ended, 1 a text is refused,
+2 wrong arguments, 3 a read or a write failed, 4 out of memory.";
+
+pub(crate) const SWEEP_EXAMPLE: &str =
+    "Example: cellctl sweep --kinds lose_plate,slow:50 examples/press_fails.toml /dev/null";
+
+pub(crate) const KINDS_HELP: &str = "The kinds of faults, with commas between them";
+
+pub(crate) const MOTIONS_HELP: &str = "How many motions of each axis to go through";
+
+pub(crate) const SERVICE_HELP: &str = "Let the operator serve failed machines besides";
+
+pub(crate) const RUNS_HELP: &str = "Print a line of CSV for each run";
 
 pub(crate) const TIMES_HELP: &str = "A file with the durations of motions";
 

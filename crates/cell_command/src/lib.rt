@@ -12,4 +12,6 @@ mod order;
 pub use count::{Count, read_count};
 pub use escaped::Escaped;
 pub use failure::{Place, tell_failure};
-pub use order::{Driving, Explaining, Measuring, Order, Paths, Running, Showing, read_words};
+pub use order::{
+    Driving, Explaining, Measuring, Order, Paths, Running, Showing, Sweeping, read_words,
+};

@@ -3,7 +3,7 @@ ghost use Rattle.std.specs.Prelude.{IfOk, IfSome, codes, map};
 ghost use Rattle.clap.specs.Kinds.{FailsBy};
 ghost use Rattle.clap.specs.Words.{fault_of, found_of, rows_of};
 ghost use Rattle.cell_command.specs.Shape.{cellctl};
-ghost use Rattle.cell_command.specs.Orders.{Fits, HasFlag, HasPath, HasPaths, HasValue, HasValues, IsDriven, IsExplained, IsMeasured, IsOrdered, IsRun, IsShown};
+ghost use Rattle.cell_command.specs.Orders.{Fits, HasFlag, HasPath, HasPaths, HasValue, HasValues, IsDriven, IsExplained, IsMeasured, IsOrdered, IsRun, IsShown, IsSwept};
 
 use crate::command::command;
 use clap::{ArgMatches, Error};
@@ -64,6 +64,18 @@ pub struct Measuring<'a> {
     pub journals: Vec<&'a str>,
 }
 
+/// What a sweep goes through: the kinds of faults and how many motions, as they are written, whether the operator serves failed
+/// machines, whether its runs are told in CSV, and where its files are.
+#[derive(Clone, Copy, Debug, PartialEq, Eq)]
+pub struct Sweeping<'a> {
+    pub kinds: Option<&'a str>,
+    pub motions: Option<&'a str>,
+    pub service: bool,
+    pub csv: bool,
+    pub settings: &'a str,
+    pub operator: &'a str,
+}
+
 /// What the program is to do.
 #[derive(Debug, Drop, PartialEq, Eq)]
 pub enum Order<'a> {
@@ -85,6 +97,8 @@ pub enum Order<'a> {
     SimMeasured(Running<'a>),
     /// Follow the journal in the file of this path on one thread, with the simulated cell.
     Follow(&'a str, Running<'a>),
+    /// Run the simulated cell on one thread once for each fault.
+    Sweep(Sweeping<'a>),
     /// Let a method drive the simulated cell over the standard streams.
     Drive(Driving<'a>),
     /// Run the simulated cell by workers on threads.
@@ -222,6 +236,22 @@ fn three_paths<'a>(matches: &ArgMatches<'a>) -> Option<Paths<'a>>
     })
 }
 
+// What a sweep goes through.
+fn sweep_words<'a>(matches: &ArgMatches<'a>) -> Option<Sweeping<'a>>
+    ensures { IfSome result (IsSwept (rows_of (found_of matches.now))) }
+{
+    let settings = path(matches, "settings")?;
+    let operator = path(matches, "operator")?;
+    Some(Sweeping {
+        kinds: value(matches, "kinds"),
+        motions: value(matches, "motions"),
+        service: flag(matches, "service"),
+        csv: flag(matches, "csv"),
+        settings,
+        operator,
+    })
+}
+
 // The order of a command's name and its matches.
 fn order_of<'a>(alloc: Global, name: &str, matches: &ArgMatches<'a>) -> Option<Order<'a>>
     ensures { IfSome result (Fits name.now (rows_of (found_of matches.now))) }
@@ -234,6 +264,7 @@ fn order_of<'a>(alloc: Global, name: &str, matches: &ArgMatches<'a>) -> Option<O
         "measure" => Some(Order::Measure(measure_words(alloc, matches)?)),
         "check" => Some(Order::Check(path(matches, "settings")?)),
         "sim" => sim_words(matches),
+        "sweep" => Some(Order::Sweep(sweep_words(matches)?)),
         "drive" => Some(Order::Drive(drive_words(matches)?)),
         "run" => threads_words(matches),
         _ => None,

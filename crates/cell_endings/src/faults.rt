@@ -17,8 +17,8 @@ use plate_book::Book;
 use std::alloc::{AllocError, Global};
 use std::io::{Error, Result, Write};
 
-// How often each axis set out.
-fn motions(journal: &Journal) -> [u32; 9]
+/// How often each axis set out in a journal, by the axes' numbers.
+pub fn motions(journal: &Journal) -> [u32; 9]
     ensures { (a : Axis) → slice_index result (axis_number a) ≡ motions_of journal.now.entries a }
 {
     let mut counts = [0u32; 9];

@@ -12,3 +12,5 @@ mod plates;
 mod words;
 
 pub use ending::write_ending;
+pub use faults::motions;
+pub use operator::lines_done;

@@ -22,8 +22,8 @@ fn is_operator(actor: Actor) -> bool
     matches!(actor, Actor::Operator)
 }
 
-// How many lines are done: as many as there are entries of the operator's.
-fn lines_done(journal: &Journal) -> u32
+/// How many lines of the operator's script are done in a journal: as many as there are entries of his.
+pub fn lines_done(journal: &Journal) -> u32
     ensures value { result ≡ lines_done journal.now.entries }
     ensures few { result ≤ length journal.now.entries }
 {

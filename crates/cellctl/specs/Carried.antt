@@ -16,10 +16,13 @@ use Rattle.cell_command.specs.declared.count.Count.{Count}
 use Rattle.cell_command.specs.declared.order.Explaining.{Explaining}
 use Rattle.cell_command.specs.declared.order.Running.{Running}
 use Rattle.cell_command.specs.declared.order.Showing.{Showing}
+use Rattle.cell_command.specs.declared.order.Sweeping.{Sweeping}
 use Rattle.cell_command.specs.declared.order.Order.{Order}
 use Rattle.cell_command.specs.declared.order.Order.TheVariants as order
 use Rattle.cell_command.specs.declared.order.Driving.{Driving}
 use Rattle.cell_drive.specs.Drives.{DrivesTexts}
+use Rattle.cell_sim.specs.declared.fault.Fault.{Fault}
+use Rattle.cell_sweep.specs.Sweeps.{SweepsTexts, Wanted, wanted}
 use Rattle.cell_explain.specs.Explained.{EndsAsAudit, EndsAsCheck, EndsAsFaults, EndsAsScript}
 use Rattle.cell_lines.specs.Lines.{TellsAudit, TellsMigration, StopsMigration, TellsPart as PartOfAudit}
 use Rattle.cell_runs.specs.Runs.{TellsRun, TellsPart as PartOfRun}
@@ -31,6 +34,7 @@ use Rattle.cell_show.specs.declared.error.ShowError.TheVariants as error
 use Rattle.cell_show.specs.declared.show.Form.{Form}
 use Rattle.cell_show.specs.declared.show.Form.TheVariants as form
 use Rattle.cellctl.specs.Measured.{MeasuresJournals}
+use Rattle.cellctl.specs.Swept.{AreKinds, AreMotions}
 use Rattle.cellctl.specs.declared.explain.Text.{Text}
 use Rattle.cellctl.specs.declared.explain.Text.TheVariants as explained
 use Rattle.cellctl.specs.declared.show.Timed.{Timed}
@@ -97,13 +101,20 @@ ShowsEntry showing input old new old_errors new_errors status =
     ((entry : Option ℕ) × AsksFor showing.entry entry × OfText showing.file input (λ text. Shows entry text old new old_errors new_errors status))
     ⊎ (IsWrong old new old_errors new_errors status × IsNoNumber showing.entry)
 
--- durations are given, and no picture is asked for, or not it alone
+-- durations are given, and neither a picture nor a page is asked for, or not it alone
 abbrev pub IsLoose : Option (Bor (List ℕ)) → Option Form → Type 0
-IsLoose times asked = IsGiven times × (asked ≢ Some form.Picture)
+IsLoose times asked = IsGiven times × (asked ≢ Some form.Picture) × (asked ≢ Some form.Page)
 
--- the form that is shown with the durations of a file
+-- the form with some durations: a chart for a picture, and for a page one with a chart
+abbrev pub HasTimes : Form → Form → Type 0
+HasTimes form.Picture (form.Chart durations) = ⊤
+HasTimes form.Page (form.TimedPage durations) = ⊤
+HasTimes _ _ = ⊥
+
+-- the form that is shown, which is the one that is asked for unless durations are given, and whether they go with it
 abbrev pub IsTimed : Option (Bor (List ℕ)) → Form → Timed → Type 0
-IsTimed times asked (timed.Form form) = ⊤
+IsTimed None asked (timed.Form shown) = shown ≡ asked
+IsTimed (Some path) asked (timed.Form shown) = HasTimes asked shown
 IsTimed times asked (timed.Refused line) = IsGiven times
 IsTimed times asked timed.Loose = IsLoose times (Some asked)
 
@@ -188,6 +199,23 @@ FollowsFiles running old new written =
     × MatchResult written (TellsFollowed journal settings faults operator running.journal old new) (λ _. TellsPartFollowed journal settings faults operator running.journal old new))
     ⊎ TellsUnfit running.times old new written
 
+-- what is written of a sweep by the texts of some files, unless the settings are too long
+abbrev pub SweepsSome : Wanted → Option (List ℕ) → Option (List ℕ) → Result ℕ WriteFault → Type 0
+SweepsSome w old new written =
+    ((settings : List ℕ) × (operator : List ℕ) × IfOk written (SweepsTexts settings operator w old new)) ⊎ TellsTooLong old new written
+
+-- the list or the number is wrong: a line among the errors says so, and nothing is printed
+abbrev pub IsMistaken : Sweeping → Option (List ℕ) → Option (List ℕ) → Option (List ℕ) → Option (List ℕ) → Result ℕ WriteFault → Type 0
+IsMistaken sweeping old new old_errors new_errors written =
+    (IsGiven sweeping.kinds ⊎ IsGiven sweeping.motions) × ((status : ℕ) × (written ≡ Ok status) × IsWrong old new old_errors new_errors status)
+
+-- what is written of a sweep for the words of its command
+abbrev pub SweepsFiles : Sweeping → Option (List ℕ) → Option (List ℕ) → Option (List ℕ) → Option (List ℕ) → Result ℕ WriteFault → Type 0
+SweepsFiles sweeping old new old_errors new_errors written =
+    ((kinds : List Fault) × (motions : Option ℕ) × AreKinds sweeping.kinds kinds × AreMotions sweeping.motions motions
+    × SweepsSome (wanted kinds motions sweeping.service sweeping.csv) old new written)
+    ⊎ IsMistaken sweeping old new old_errors new_errors written
+
 -- what is written for the audit of a text
 abbrev pub Audits : Option (List ℕ) → Option (List ℕ) → Option (List ℕ) → Result ℕ WriteFault → Type 0
 Audits text old new written = MatchResult written (TellsAudit text old new) (λ _. PartOfAudit text old new)
@@ -213,6 +241,7 @@ CarriesOut (order.Check path) input old new old_errors new_errors written =
 CarriesOut (order.Sim running) input old new old_errors new_errors written = RunsFiles false running old new written × (new_errors ≡ old_errors)
 CarriesOut (order.SimMeasured running) input old new old_errors new_errors written = MeasuresFiles false running old new written × (new_errors ≡ old_errors)
 CarriesOut (order.Follow path running) input old new old_errors new_errors written = FollowsFiles running old new written × (new_errors ≡ old_errors)
+CarriesOut (order.Sweep sweeping) input old new old_errors new_errors written = SweepsFiles sweeping old new old_errors new_errors written
 CarriesOut (order.Drive driving) input old new old_errors new_errors written = DrivesFiles driving input old new written
 CarriesOut (order.Run running) input old new old_errors new_errors written = RunsFiles true running old new written × (new_errors ≡ old_errors)
 CarriesOut (order.RunMeasured running) input old new old_errors new_errors written = MeasuresFiles true running old new written × (new_errors ≡ old_errors)

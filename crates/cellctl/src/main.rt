@@ -11,6 +11,7 @@ mod named;
 mod noted;
 mod orders;
 mod show;
+mod sweep;
 mod texts;
 mod times;
 mod wrong;
@@ -33,7 +34,7 @@ use noted::Noted;
 use orders::{Carried, carry_out};
 use std::alloc::{AllocError, Global};
 use std::env::Env;
-use std::io::{Read, Write};
+use std::io::{IsTerminal, Read, Write};
 use std::process::ExitCode;
 use std::rt::Files;
 use std::sync::Wait;
@@ -114,7 +115,7 @@ fn finish<W: Write, E: Write>(
     Ok(status)
 }
 
-// Reads words, and does what they say over any reader and writers.
+// Reads words, and does what they say over any reader and writers. With `progress` the errors tell how far what takes long is.
 fn main_over<
     'a,
     R: AllocGlobal + Files + Threads + Wait + Sync,
@@ -126,6 +127,7 @@ fn main_over<
     input: I,
     output: &mut W,
     errors: &mut E,
+    progress: bool,
     words: &'a [&'a str],
 ) -> Result<Obeyed, Failure<'a>>
     ensures { IfOk result (λ obeyed. Obeys (map (λ w. w.now) words.now) (I.remaining input) (W.contents output.old) (W.contents output.new) (E.contents errors.old) obeyed.status
@@ -133,7 +135,7 @@ fn main_over<
 {
     match read_words(rt.alloc(), words) {
         Ok(order) => {
-            let carried = carry_out(rt, input, output, errors, order)?;
+            let carried = carry_out(rt, input, output, errors, progress, order)?;
             let lacks_thread = carried.lacks_thread;
             let status = finish(rt.alloc(), output, errors, carried)?;
             Ok(Obeyed {
@@ -168,6 +170,7 @@ fn texts_of(alloc: Global, words: &[String]) -> Result<Vec<&str>, AllocError> {
 fn over_streams<'a, R: AllocGlobal + Files + Input + Print + Threads + Wait + Sync, E: Print>(
     rt: &R,
     errors: &E,
+    progress: bool,
     words: &'a [&'a str],
     faults: &mut Faults,
 ) -> Result<Obeyed, Failure<'a>> {
@@ -175,17 +178,18 @@ fn over_streams<'a, R: AllocGlobal + Files + Input + Print + Threads + Wait + Sy
     let buffer = io::BufWriter::new(rt.alloc(), io::writer(rt))?;
     let mut output = Noted::new(buffer, &mut faults.output);
     let mut errors = Noted::new(io::writer(errors), &mut faults.errors);
-    main_over(rt, input, &mut output, &mut errors, words)
+    main_over(rt, input, &mut output, &mut errors, progress, words)
 }
 
 // Reads words, does what they say, tells where it failed, and gives the status.
 fn obey<R: AllocGlobal + Files + Input + Print + Threads + Wait + Sync, E: Print>(
     rt: &R,
     errors: &E,
+    progress: bool,
     words: &[&str],
 ) -> u8 {
     let mut faults = Faults::NONE;
-    match over_streams(rt, errors, words, &mut faults) {
+    match over_streams(rt, errors, progress, words, &mut faults) {
         Ok(
             Obeyed {
                 status,
@@ -227,6 +231,7 @@ fn refuse_bytes<E: Write>(errors: &mut E) -> u8 {
 fn run<R: AllocGlobal + Env + Files + Input + Print + Threads + Wait + Sync, E: Print>(
     rt: &R,
     errors: &E,
+    progress: bool,
 ) -> u8 {
     let words = match words_of(rt) {
         Ok(words) => words,
@@ -236,11 +241,13 @@ fn run<R: AllocGlobal + Env + Files + Input + Print + Threads + Wait + Sync, E: 
         Err(e) => return told(errors, status_of(&e), None),
     };
     match texts_of(rt.alloc(), words.as_slice()) {
-        Ok(texts) => obey(rt, errors, texts.as_slice()),
+        Ok(texts) => obey(rt, errors, progress, texts.as_slice()),
         Err(_) => told(errors, status::OUT_OF_MEMORY, None),
     }
 }
 
 fn main(rt: HostRuntime) -> ExitCode {
-    ExitCode::from(run(&rt, &rt.stderr()))
+    let errors = rt.stderr();
+    let progress = errors.is_terminal();
+    ExitCode::from(run(&rt, &errors, progress))
 }

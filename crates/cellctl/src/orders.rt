@@ -7,6 +7,7 @@ use crate::explain::explain_words;
 use crate::failure::Failure;
 use crate::measure::{measure_words, tell_least};
 use crate::show::show_words;
+use crate::sweep::sweep_words;
 use crate::texts::{journal_in, script_in, settings_in, tell_too_long};
 use crate::times::{durations_in, tell_times};
 use cell_command::{Driving, Order, Running};
@@ -332,6 +333,7 @@ pub(crate) fn carry_out<
     input: I,
     output: &mut W,
     errors: &mut E,
+    progress: bool,
     order: Order<'a>,
 ) -> Result<Carried, Failure<'a>>
     ensures { IfOk result (λ c. CarriesOut order.entry (I.remaining input) (W.contents output.old) (W.contents output.new) (E.contents errors.old) (E.contents errors.new) c.written) }
@@ -350,6 +352,9 @@ pub(crate) fn carry_out<
         Order::Sim(running) => run_files(rt, output, false, running),
         Order::SimMeasured(running) => measure_files(rt, output, false, running),
         Order::Follow(path, running) => follow_files(rt, output, path, running),
+        Order::Sweep(sweeping) => {
+            Ok(without_ending(sweep_words(rt, output, errors, sweeping, progress)?))
+        }
         Order::Drive(driving) => Ok(without_ending(drive_files(
             rt, input, output, errors, driving,
         )?)),

@@ -110,15 +110,17 @@ fn show_text<'a, R: AllocGlobal + Files, I: Read + Drop, W: Write, E: Write>(
     Ok(show_count(alloc, text.as_slice(), output, errors, form, count)?)
 }
 
-// The form with these durations: they go with a picture alone, which is then a chart.
+// The form that is shown, and whether durations go with it.
 enum Timed {
     Form(Form),
     // The durations are refused, as this line tells.
     Refused(String),
-    // There is no picture for them.
+    // There is neither a picture nor a page for them.
     Loose,
 }
 
+// The form with the durations of a file, where one is named: a picture is then a chart, and a page has one. They go with no
+// other form.
 fn timed_form<'a, R: AllocGlobal + Files>(
     rt: &R,
     form: Form,
@@ -129,10 +131,13 @@ fn timed_form<'a, R: AllocGlobal + Files>(
     if times.is_none() {
         return Ok(Timed::Form(form));
     }
-    if form != Form::Picture {
-        return Ok(Timed::Loose);
-    }
+    let is_page = match form {
+        Form::Picture => false,
+        Form::Page => true,
+        _ => return Ok(Timed::Loose),
+    };
     match durations_in(rt, times)? {
+        Ok(durations) if is_page => Ok(Timed::Form(Form::TimedPage(durations))),
         Ok(durations) => Ok(Timed::Form(Form::Chart(durations))),
         Err(line) => Ok(Timed::Refused(line)),
     }
@@ -179,6 +184,6 @@ pub(crate) fn show_words<'a, R: AllocGlobal + Files, I: Read + Drop, W: Write, E
     match timed_form(rt, form, showing.times)? {
         Timed::Form(form) => show_entry(rt, input, output, errors, form, showing),
         Timed::Refused(line) => Ok(tell_times(output, line.as_str())),
-        Timed::Loose => Ok(wrong(errors, "--times goes with --svg alone")?),
+        Timed::Loose => Ok(wrong(errors, "--times goes with --svg or --html")?),
     }
 }

@@ -11,4 +11,4 @@ returns-in_default g c =
 pub returns-in_ok-wrong-in-Loose : goal.returns-in_ok-wrong-in-Loose
 returns-in_ok-wrong-in-Loose g c =
     wrong-told c.in_ok-wrong-in-Loose.field-0 _ c.in_ok-wrong-in-Loose.ensures.status
-    (inr (inr ((refl, refl, codes "--times goes with --svg alone", c.in_ok-wrong-in-Loose.ensures.line), inr (search rules))))
+    (inr (inr ((refl, refl, codes "--times goes with --svg or --html", c.in_ok-wrong-in-Loose.ensures.line), inr (search rules))))

@@ -1,0 +1,162 @@
+-- Steps of the loops of a sweep
+use Rattle.std.proofs.Common.{◌≡◌, ◌≢◌, inl, inr, ℕ, suc, ◌+◌, ◌<◌, ◌≤◌, Bool, true, false, List, [], ◌∷◌, ◌++◌, Option, Some, None, Result, Ok, Err, IfErr, IfOk, OnOk, map, length, get_or, take, refl, sym, ap, subst, ◌∙◌, append_assoc, append-nil, add-one}
+use Rattle.std.specs.Io.KnownBytes.{Appends}
+use Rattle.std.specs.List.{flat_map}
+use Rattle.std.specs.Result.{IsErrAnd}
+use Rattle.std.proofs.KnownBytes.{Appends-nil, Appends-trans}
+use Rattle.std.proofs.lemmas.List.{flat_map_more, map-append, take_all, take_more}
+use Rattle.std.proofs.lemmas.List.Elements.{All-append, All-cons, All-nil}
+use Rattle.cell_sim.specs.declared.fault.Fault.{Fault}
+use Rattle.cell_sim.specs.declared.fault.PlannedFault.{PlannedFault}
+use Rattle.cell_audit.specs.declared.watched.WriteFault.{WriteFault}
+use Rattle.cell_runs.specs.Inputs.{AreInputs}
+use Rattle.cell_runs.specs.declared.inputs.Inputs.{Inputs}
+use Rattle.cell_runs.specs.declared.inputs.InputError.{InputError}
+use Rattle.cell_types.specs.declared.words.Axis.{Axis}
+use Rattle.cell_types.specs.declared.words.Entry.{Entry}
+use Rattle.cell_endings.specs.Missed.{motions_of}
+use Rattle.cell_turns.specs.declared.plan.Plan.{Plan}
+use Rattle.cell_workers.specs.declared.ends.End.{End}
+use Rattle.cell_sweep.specs.declared.sweep.Stop.{Stop}
+use Rattle.cell_sweep.specs.declared.sweep.Stop.TheVariants as stop
+use Rattle.cell_sweep.specs.Cases.{cases_of, in_motions, planned, script_of}
+use Rattle.cell_sweep.specs.Rows.{Grows, GrowsBy, IsScript, IsToldOf, RunsTo, TellsRun, TellsServed, Told, csv_head, csv_line}
+use Rattle.cell_sweep.specs.Sweeps.{AreCounts, EndsSo, IsCutShort, Sweeps, SweepsTexts, TellsCase, TellsCases, Wanted}
+
+-- the faults of one more motion come after those so far
+pub motions-more : (kinds : List Fault) (a : Axis) (n : ℕ) (old mid new : List PlannedFault)
+    → mid ≡ old ++ in_motions kinds a n → new ≡ mid ++ map (planned a (n + 1)) kinds → new ≡ old ++ in_motions kinds a (n + 1)
+motions-more kinds a n old mid new so_far next =
+    let next_suc = rw add-one at next in
+    rw add-one (next_suc ∙ ap (λ ys. ys ++ map (planned a (suc n)) kinds) so_far ∙ append_assoc old (in_motions kinds a n) (map (planned a (suc n)) kinds))
+
+-- what a function gives of one more element comes after what it gives of those so far
+pub flat-more : {X Y : Type 0} (f : X → List Y) (mid new : List Y) (xs : List X) (i : ℕ) (d : X) → i < length xs
+    → mid ≡ flat_map f (take i xs) → new ≡ mid ++ f (get_or xs i d) → new ≡ flat_map f (take (i + 1) xs)
+flat-more f mid new xs i d inside so_far next =
+    next ∙ ap (λ ys. ys ++ f (get_or xs i d)) so_far ∙ flat_map_more f [] (take i xs) (get_or xs i d) ∙ ap (flat_map f) (sym (take_more xs i d inside))
+
+-- what is told of one more element comes after a first element and what is told of those so far
+pub told-behind : {X : Type 0} (f : X → List ℕ) (b : ℕ) (old mid new : Option (List ℕ)) (xs : List X) (i : ℕ) (d : X) → i < length xs
+    → Appends old mid (b ∷ flat_map f (take i xs)) → Appends mid new (f (get_or xs i d)) → Appends old new (b ∷ flat_map f (take (i + 1) xs))
+told-behind f b old mid new xs i d inside so_far next =
+    subst (Appends old new) (ap (λ ys. b ∷ ys) (flat_map_more f [] (take i xs) (get_or xs i d) ∙ ap (flat_map f) (sym (take_more xs i d inside)))) (Appends-trans old mid new _ _ so_far next)
+
+-- a text that is known grows by it
+pub grows : {A B : Type 0} (r : Result A B) (old new : Option (List ℕ)) (text : List ℕ) → OnOk r (Appends old new text) → OnOk r (Grows old new)
+grows (Ok x) old new text h = (text, h)
+grows (Err e) old new text h = tt
+
+-- it grew by a text that was written
+pub grew : (old new : Option (List ℕ)) (text : List ℕ) → Appends old new text → Grows old new
+grew old new text h = (text, h)
+
+-- one growth and another one
+pub grows-twice : (old mid new : Option (List ℕ)) → Grows old mid → Grows mid new → Grows old new
+grows-twice old mid new (text, h) (more, i) = (text ++ more, Appends-trans old mid new text more h i)
+
+-- after one growth comes another, where that was written
+pub grows-then : {A B : Type 0} (r : Result A B) (old mid new : Option (List ℕ)) → Grows old mid → OnOk r (Grows mid new) → OnOk r (Grows old new)
+grows-then (Ok x) old mid new (text, h) (more, i) = (text ++ more, Appends-trans old mid new text more h i)
+grows-then (Err e) old mid new g h = tt
+
+-- a text that is known, whatever the form
+pub grows-by : {A B : Type 0} (r : Result A B) (old new : Option (List ℕ)) (csv : Bool) (text : List ℕ) → OnOk r (Appends old new text) → OnOk r (GrowsBy old new csv text)
+grows-by (Ok x) old new csv text h = (text, h, λ is_csv. refl)
+grows-by (Err e) old new csv text h = tt
+
+-- a text of which nothing is said, where it isn't CSV
+pub grows-else : {A B : Type 0} (r : Result A B) (old new : Option (List ℕ)) (csv : Bool) (line : List ℕ) → csv ≡ false → OnOk r (Grows old new) → OnOk r (GrowsBy old new csv line)
+grows-else (Ok x) old new csv line other (text, h) = (text, h, λ is_csv. cc (other, is_csv))
+grows-else (Err e) old new csv line other h = tt
+
+-- one growth after another
+pub by-then : (old mid new : Option (List ℕ)) (csv : Bool) (line more : List ℕ) → GrowsBy old mid csv line → GrowsBy mid new csv more → GrowsBy old new csv (line ++ more)
+by-then old mid new csv line more (text, h, same) (next, i, alike) =
+    (text ++ next, Appends-trans old mid new text next h i, λ is_csv. ap (λ ys. ys ++ next) (same is_csv) ∙ ap (λ ys. line ++ ys) (alike is_csv))
+
+-- what breaks off after a growth
+pub cut-after : (old mid new : Option (List ℕ)) (why : Stop) → Grows old mid → IsCutShort mid new why → IsCutShort old new why
+cut-after old mid new (stop.NoRun e) (text, h) (more, i) = (text ++ more, Appends-trans old mid new text more h i)
+cut-after old mid new stop.WriteFault g h = tt
+
+-- no case is told yet
+pub no-cases : (settings operator : List ℕ) (w : Wanted) (old : Option (List ℕ)) → TellsCases settings operator w [] old old
+no-cases settings operator w old = ([], refl, All-nil (TellsServed settings operator w.service), ([], Appends-nil old, λ is_csv. refl))
+
+-- one more case is told
+pub case-more : (settings operator : List ℕ) (w : Wanted) (cases : List PlannedFault) (i : ℕ) (d : PlannedFault) (old mid new : Option (List ℕ)) → i < length cases
+    → TellsCases settings operator w (take i cases) old mid → TellsCase settings operator w (get_or cases i d) mid new
+    → TellsCases settings operator w (take (i + 1) cases) old new
+case-more settings operator w cases i d old mid new inside (runs, same, told, grown) (t, is_planned, tells, line) = (
+  runs ++ t ∷ [],
+  map-append (λ (s : Told). s.planned) runs (t ∷ []) ∙ ap (λ fs. fs ++ t.planned ∷ []) same ∙ ap (λ (f : PlannedFault). take i cases ++ f ∷ []) is_planned ∙ sym (take_more cases i d inside),
+  All-append (TellsServed settings operator w.service) runs (t ∷ []) told (All-cons (TellsServed settings operator w.service) t [] tells (All-nil (TellsServed settings operator w.service))),
+  subst (GrowsBy old new w.csv) (flat_map_more csv_line [] runs t) (by-then old mid new w.csv (flat_map csv_line runs) (csv_line t) grown line),
+)
+
+-- what was written of the cases so far is whole lines
+pub cases-grow : (settings operator : List ℕ) (w : Wanted) (cases : List PlannedFault) (old mid : Option (List ℕ)) → TellsCases settings operator w cases old mid → Grows old mid
+cases-grow settings operator w cases old mid (runs, same, told, (text, h, line)) = (text, h)
+
+-- a run by the script of a fault is one of which a row with this fault tells
+pub told-of : (settings script faults : List ℕ) (f : PlannedFault) (t : Told) (plan : Plan) (J : List Entry) (e : End) → t.planned ≡ f → faults ≡ script_of f
+    → RunsTo settings faults script plan J e → IsToldOf t script plan J e → TellsRun settings script t
+told-of settings script faults f t plan J e same is_script runs told =
+    (plan, J, e, subst (λ fs. RunsTo settings fs script plan J e) (is_script ∙ ap script_of (sym same)) runs, told)
+
+-- the line above all, the lines of the cases, and what stands below them
+pub swept : (settings operator : List ℕ) (w : Wanted) (counts : Axis → ℕ) (cases : List PlannedFault) (p q r s : Option (List ℕ))
+    → AreCounts settings operator w.service w.motions counts → cases ≡ cases_of counts w.kinds
+    → GrowsBy p q w.csv csv_head → TellsCases settings operator w cases q r → GrowsBy r s w.csv [] → Sweeps settings operator w p s
+swept settings operator w counts cases p q r s counted same head (runs, in_order, told, rows) below =
+    record {
+      counts = counts;
+      counted = counted;
+      runs = runs;
+      cases = in_order ∙ same;
+      told = told;
+      written = subst (GrowsBy p s w.csv) (append-nil (csv_head ++ flat_map csv_line runs)) (by-then p r s w.csv _ [] (by-then p q r w.csv csv_head (flat_map csv_line runs) head rows) below);
+    }
+
+-- where no text is refused, the sweep is whole, or it broke off and its status says so
+pub sweeps-or-breaks : (swept : Result Unit Stop) (ended : Result ℕ WriteFault) (settings operator : List ℕ) (w : Wanted) (old new : Option (List ℕ)) (inputs : Result Inputs InputError)
+    → AreInputs settings [] operator inputs → ((e : InputError) → inputs ≢ Err e) → OnOk swept (Sweeps settings operator w old new) → IfErr swept (IsCutShort old new)
+    → IfOk ended (EndsSo swept) → IfOk ended (λ status. SweepsTexts settings operator w old new status)
+sweeps-or-breaks swept (Err fault) settings operator w old new inputs are good told cut ends = tt
+sweeps-or-breaks swept (Ok status) settings operator w old new (Err e) are good told cut ends = absurd (good e refl)
+sweeps-or-breaks (Ok done) (Ok status) settings operator w old new (Ok inputs) are good told cut ends = (Ok inputs, are, inl (ends, told))
+sweeps-or-breaks (Err (stop.NoRun why)) (Ok status) settings operator w old new (Ok inputs) are good told cut ends = (Ok inputs, are, inr (ends, cut))
+sweeps-or-breaks (Err stop.WriteFault) (Ok status) settings operator w old new (Ok inputs) are good told cut ends = absurd ends
+
+-- a step that stops a sweep
+pub cut-at : {A : Type 0} (r : Result A Stop) (why : Stop) (old new : Option (List ℕ)) → IsErrAnd r (λ s. s ≡ why) → IsCutShort old new why → IfErr r (IsCutShort old new)
+cut-at (Ok x) why old new is cut = absurd is
+cut-at (Err s) why old new is cut = subst (λ (z : Stop). IsCutShort old new z) (sym is) cut
+
+-- what is known of a writer grew by some text
+pub by-grows : (old new : Option (List ℕ)) (csv : Bool) (line : List ℕ) → GrowsBy old new csv line → Grows old new
+by-grows old new csv line (text, h, same) = (text, h)
+
+-- all cases are told
+pub all-cases : (settings operator : List ℕ) (w : Wanted) (cases : List PlannedFault) (i : ℕ) (old new : Option (List ℕ)) → length cases ≤ i
+    → TellsCases settings operator w (take i cases) old new → TellsCases settings operator w cases old new
+all-cases settings operator w cases i old new past told = subst (λ (fs : List PlannedFault). TellsCases settings operator w fs old new) (take_all i cases past) told
+
+-- a run by the script of a fault and by a script that serves, or the operator's, is one of which a row with this fault tells
+pub served-of : (settings operator one other script faults : List ℕ) (service : Bool) (f : PlannedFault) (t : Told) (plan : Plan) (J : List Entry) (e : End)
+    → one ≡ script → other ≡ script → IsScript service operator script → t.planned ≡ f → faults ≡ script_of f
+    → RunsTo settings faults one plan J e → (faults ≡ script_of f → IsToldOf t other plan J e) → TellsServed settings operator service t
+served-of settings operator one other script faults service f t plan J e first second is same is_script runs told = (
+  script,
+  is,
+  told-of settings script faults f t plan J e same is_script (subst (λ (s : List ℕ). RunsTo settings faults s plan J e) first runs)
+      (subst (λ (s : List ℕ). IsToldOf t s plan J e) second (told is_script)),
+)
+
+-- where no number is given the motions are counted in the run without faults
+pub counted-by-run : (settings operator script : List ℕ) (service : Bool) (motions : Option ℕ) (counts : Axis → ℕ) (plan : Plan) (J : List Entry) (e : End)
+    → ((n : ℕ) → motions ≢ Some n) → IsScript service operator script → RunsTo settings [] script plan J e → ((a : Axis) → counts a ≡ motions_of J a)
+    → AreCounts settings operator service motions counts
+counted-by-run settings operator script service (Some n) counts plan J e none is runs counted = absurd (none n refl)
+counted-by-run settings operator script service None counts plan J e none is runs counted = (script, plan, J, e, is, runs, counted)

@@ -1,0 +1,116 @@
+-- What is told of each run of a sweep
+use Rattle.std.specs.Prelude.{◌≡◌, ◌==◌, ℕ, Bool, true, false, List, [], ◌∷◌, ◌++◌, Option, Some, None, Result, Ok, Err, codes, decimal, if◌then◌else◌, replicate, ⊤}
+use Rattle.std.specs.List.{flat_map}
+use Rattle.std.specs.Io.KnownBytes.{Appends}
+use Rattle.cell_types.specs.declared.words.Entry.{Entry}
+use Rattle.cell_types.specs.declared.words.Totals.{Totals}
+use Rattle.cell_types.specs.Texts.{axis_word}
+use Rattle.cell_views.specs.Views.{count_of}
+use Rattle.cell_turns.specs.declared.plan.Plan.{Plan}
+use Rattle.cell_sim.specs.declared.fault.Fault.{Fault}
+use Rattle.cell_sim.specs.declared.fault.PlannedFault.{PlannedFault}
+use Rattle.cell_workers.specs.declared.ends.End.{End}
+use Rattle.cell_runs.specs.Inputs.{AreInputs}
+use Rattle.cell_runs.specs.Rounds.{IsRun}
+use Rattle.cell_runs.specs.Runs.{limits_of, word_of as end_word}
+use Rattle.cell_runs.specs.declared.inputs.Inputs.{Inputs}
+use Rattle.cell_runs.specs.declared.inputs.InputError.{InputError}
+use Rattle.cell_endings.specs.Endings.{ending_of}
+use Rattle.cell_measures.specs.Sums.{last_of}
+use Rattle.cell_measures.specs.Times.{times}
+use Rattle.cell_measures.specs.declared.durations.Durations.{Durations}
+use Rattle.cell_sweep.specs.declared.runs.NoRun.{NoRun}
+use Rattle.cell_sweep.specs.declared.runs.NoRun.TheVariants as none
+use Rattle.cell_sweep.specs.Cases.{readings_of, script_of, word_of}
+
+-- what is told of the run with one fault
+pub record Told : Type 0 where
+  pub planned : PlannedFault
+  pub end : End
+  pub totals : Totals
+  pub time : ℕ
+  pub waits : List ℕ
+
+-- a run by these three texts, none of which is refused, leads by this plan to this journal and this end
+abbrev pub RunsTo : List ℕ → List ℕ → List ℕ → Plan → List Entry → End → Type 0
+RunsTo settings faults operator plan J e =
+    (inputs : Inputs) × AreInputs settings faults operator (Ok inputs) × (inputs.plan ≡ plan) × IsRun (limits_of plan) plan inputs.script J e
+
+-- why there is no run by these three texts; want of memory says nothing
+abbrev pub RefusesRun : List ℕ → List ℕ → List ℕ → NoRun → Type 0
+RefusesRun settings faults operator (none.Refused e) = AreInputs settings faults operator (Err e)
+RefusesRun settings faults operator none.OutOfMemory = ⊤
+
+-- the first line of a text, without its end
+abbrev pub first_line : List ℕ → List ℕ
+first_line [] = []
+first_line (b ∷ bs) = if b == 10 then [] else b ∷ first_line bs
+
+-- each motion takes one unit of time
+abbrev pub ones : Durations
+ones = record { rows = replicate 9 (replicate 18 1) }
+
+-- what is told of a run: its end, its totals, when its last entry ends, and the first line of why it ended so
+pub record IsToldOf (t : Told) (operator : List ℕ) (plan : Plan) (J : List Entry) (e : End) : Type 0 where
+  pub ended : t.end ≡ e
+  pub counted : t.totals ≡ count_of J
+  pub time : t.time ≡ last_of (times ones J)
+  pub waits : t.waits ≡ first_line (ending_of J e plan (script_of t.planned) operator)
+
+-- what is told is of a run with the one fault, by this script of the operator
+abbrev pub TellsRun : List ℕ → List ℕ → Told → Type 0
+TellsRun settings operator t =
+    (plan : Plan) × (J : List Entry) × (e : End) × RunsTo settings (script_of t.planned) operator plan J e × IsToldOf t operator plan J e
+
+-- without a service the script of the operator stays as it is
+abbrev pub IsScript : Bool → List ℕ → List ℕ → Type 0
+IsScript service operator script = service ≡ false → script ≡ operator
+
+-- what is told is of a run with the one fault, by the operator's script or by one that serves
+abbrev pub TellsServed : List ℕ → List ℕ → Bool → Told → Type 0
+TellsServed settings operator service t = (script : List ℕ) × IsScript service operator script × TellsRun settings script t
+
+-- a kind with its number of readings, as a list of kinds has it
+abbrev pub kind_with : List ℕ → Option ℕ → List ℕ
+kind_with word None = word
+kind_with word (Some n) = word ++ (58 ∷ decimal n)
+
+abbrev pub kind_text : Fault → List ℕ
+kind_text kind = kind_with (word_of kind) (readings_of kind)
+
+-- a byte in quotes: a quote is doubled
+abbrev pub quoted_byte : ℕ → List ℕ
+quoted_byte b = if b == 34 then 34 ∷ 34 ∷ [] else b ∷ []
+
+-- a text in quotes
+abbrev pub quoted : List ℕ → List ℕ
+quoted text = 34 ∷ (flat_map quoted_byte text ++ 34 ∷ [])
+
+-- a text in quotes, where there is one
+abbrev pub quoted_if_any : List ℕ → List ℕ
+quoted_if_any [] = []
+quoted_if_any (b ∷ bs) = quoted (b ∷ bs)
+
+-- fields with a comma behind each
+abbrev pub with_commas : List (List ℕ) → List ℕ
+with_commas [] = []
+with_commas (field ∷ fields) = field ++ 44 ∷ with_commas fields
+
+-- the line of CSV of a run
+abbrev pub csv_line : Told → List ℕ
+csv_line t =
+    with_commas (axis_word t.planned.axis ∷ decimal t.planned.motion ∷ kind_text t.planned.fault ∷ end_word t.end
+    ∷ decimal t.totals.admitted ∷ decimal t.totals.forged ∷ decimal t.totals.quarantined ∷ decimal t.totals.delivered ∷ decimal t.time ∷ [])
+    ++ (quoted_if_any t.waits ++ 10 ∷ [])
+
+-- what is known of a writer grows by some text
+abbrev pub Grows : Option (List ℕ) → Option (List ℕ) → Type 0
+Grows old new = (text : List ℕ) × Appends old new text
+
+-- the same, and where it is CSV by this text
+abbrev pub GrowsBy : Option (List ℕ) → Option (List ℕ) → Bool → List ℕ → Type 0
+GrowsBy old new csv line = (text : List ℕ) × Appends old new text × (csv ≡ true → text ≡ line)
+
+-- the line of CSV above all runs
+abbrev pub csv_head : List ℕ
+csv_head = codes "axis,motion,kind,end,admitted,forged,quarantined,delivered,time,waits_for\n"

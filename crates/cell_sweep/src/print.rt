@@ -1,0 +1,191 @@
+//! How a sweep is printed.
+ghost use Rattle.std.specs.Prelude.{◌≡◌, [], IfOk, OnOk, string_bytes};
+ghost use Rattle.std.specs.Io.KnownBytes.{Appends};
+ghost use Rattle.cell_runs.specs.Runs.{word_of as end_word};
+ghost use Rattle.cell_sweep.specs.Rows.{Grows, GrowsBy, csv_head, csv_line, kind_text, quoted, quoted_byte, quoted_if_any};
+
+use crate::kinds::{readings_of, word_of};
+use crate::row::Row;
+use cell_sim::Fault;
+use cell_types::texts::axis_word;
+use cell_workers::End;
+use std::alloc::{AllocError, Global};
+use std::io::{Result, Write};
+
+/// The line above the rows of CSV.
+const CSV_HEAD: &str =
+    "axis,motion,kind,end,admitted,forged,quarantined,delivered,time,waits_for\n";
+
+/// The line above the rows of a table.
+const TABLE_HEAD: &str = "axis          motion  kind            end         \
+admitted  forged  quarantined  delivered      time  waits for\n";
+
+/// The word of an end.
+pub(crate) fn word_of_end(end: End) -> &'static str
+    ensures { result.now ≡ end_word end }
+{
+    match end {
+        End::Finished => "finished",
+        End::Stalled => "stalled",
+        End::TurnLimit => "turn limit",
+        End::Memory => "memory",
+        End::Full => "full",
+    }
+}
+
+/// A kind as a list of kinds has it.
+pub(crate) fn kind_text(alloc: Global, kind: Fault) -> std::result::Result<String, AllocError>
+    ensures { IfOk result (λ text. string_bytes text ≡ kind_text kind) }
+{
+    let word = word_of(kind);
+    match readings_of(kind) {
+        Some(readings) => format!(in alloc; "{word}:{readings}"),
+        None => String::from_str(alloc, word),
+    }
+}
+
+// Writes a byte of a text in quotes: a quote is doubled.
+fn write_byte<W: Write>(writer: &mut W, byte: u8) -> Result<()>
+    ensures { OnOk result (Appends (W.contents writer.old) (W.contents writer.new) (quoted_byte byte)) }
+{
+    if byte == b'"' {
+        writer.write_all(b"\"\"")
+    } else {
+        writer.write_all(&[byte])
+    }
+}
+
+// Writes a text in quotes.
+fn write_quoted<W: Write>(writer: &mut W, text: &[u8]) -> Result<()>
+    ensures { OnOk result (Appends (W.contents writer.old) (W.contents writer.new) (quoted text.now)) }
+{
+    writer.write_all(b"\"")?;
+    for byte in text {
+        write_byte(writer, *byte)?;
+    }
+    writer.write_all(b"\"")
+}
+
+// Writes a text in quotes, where there is one.
+fn write_if_any<W: Write>(writer: &mut W, text: &[u8]) -> Result<()>
+    ensures { OnOk result (Appends (W.contents writer.old) (W.contents writer.new) (quoted_if_any text.now)) }
+{
+    if text.is_empty() {
+        Ok(())
+    } else {
+        write_quoted(writer, text)
+    }
+}
+
+// Writes a row of CSV.
+fn write_csv<W: Write>(writer: &mut W, kind: &str, row: &Row) -> Result<()>
+    ensures { kind.now ≡ kind_text row.now.planned.fault → OnOk result (Appends (W.contents writer.old) (W.contents writer.new) (csv_line row.now)) }
+{
+    write!(
+        writer,
+        "{},{},{},{},{},{},{},{},{},",
+        axis_word(row.planned.axis),
+        row.planned.motion,
+        kind,
+        word_of_end(row.end),
+        row.totals.admitted,
+        row.totals.forged,
+        row.totals.quarantined,
+        row.totals.delivered,
+        row.time,
+    )?;
+    write_if_any(writer, row.waits.as_slice())?;
+    writer.write_all(b"\n")
+}
+
+// Writes what a run waits for behind the other columns, where there is anything.
+fn write_waits<W: Write>(writer: &mut W, waits: &[u8]) -> Result<()>
+    ensures { OnOk result (Grows (W.contents writer.old) (W.contents writer.new)) }
+{
+    if waits.is_empty() {
+        return writer.write_all(b"\n");
+    }
+    writer.write_all(b"  ")?;
+    writer.write_all(waits)?;
+    writer.write_all(b"\n")
+}
+
+// Writes a row of a table.
+fn write_table<W: Write>(writer: &mut W, kind: &str, row: &Row) -> Result<()>
+    ensures { OnOk result (Grows (W.contents writer.old) (W.contents writer.new)) }
+{
+    let totals = row.totals;
+    write!(
+        writer,
+        "{:<12}  {:>6}  {:<14}  {:<10}  {:>8}  {:>6}  {:>11}  {:>9}  {:>8}",
+        axis_word(row.planned.axis),
+        row.planned.motion,
+        kind,
+        word_of_end(row.end),
+        totals.admitted,
+        totals.forged,
+        totals.quarantined,
+        totals.delivered,
+        row.time,
+    )?;
+    write_waits(writer, row.waits.as_slice())
+}
+
+/// Writes the line above the rows.
+pub(crate) fn write_head<W: Write>(writer: &mut W, csv: bool) -> Result<()>
+    ensures { OnOk result (GrowsBy (W.contents writer.old) (W.contents writer.new) csv csv_head) }
+{
+    if csv {
+        writer.write_all(CSV_HEAD.as_bytes())
+    } else {
+        writer.write_all(TABLE_HEAD.as_bytes())
+    }
+}
+
+/// Writes a row, whose kind has this text.
+pub(crate) fn write_row<W: Write>(writer: &mut W, csv: bool, kind: &str, row: &Row) -> Result<()>
+    ensures { kind.now ≡ kind_text row.now.planned.fault → OnOk result (GrowsBy (W.contents writer.old) (W.contents writer.new) csv (csv_line row.now)) }
+{
+    if csv {
+        write_csv(writer, kind, row)
+    } else {
+        write_table(writer, kind, row)
+    }
+}
+
+// How many of some ends are this one.
+fn count_of(ends: &[End], wanted: End) -> usize {
+    ends.iter().filter(|end| **end == wanted).count()
+}
+
+// Writes how many of some ends are this one.
+fn write_count<W: Write>(writer: &mut W, ends: &[End], end: End) -> Result<()>
+    ensures { OnOk result (Grows (W.contents writer.old) (W.contents writer.new)) }
+{
+    let count = count_of(ends, end);
+    let end = word_of_end(end);
+    writeln!(writer, "{end} {count}")
+}
+
+// Writes how many runs there were, and how many had each end.
+fn write_all_counts<W: Write>(writer: &mut W, ends: &[End]) -> Result<()>
+    ensures { OnOk result (Grows (W.contents writer.old) (W.contents writer.new)) }
+{
+    let runs = ends.len();
+    write!(writer, "\nruns {runs}\n")?;
+    write_count(writer, ends, End::Finished)?;
+    write_count(writer, ends, End::Stalled)?;
+    write_count(writer, ends, End::TurnLimit)?;
+    write_count(writer, ends, End::Full)
+}
+
+/// Writes how many runs there were, and how many had each end. With CSV nothing is written.
+pub(crate) fn write_counts<W: Write>(writer: &mut W, csv: bool, ends: &[End]) -> Result<()>
+    ensures { OnOk result (GrowsBy (W.contents writer.old) (W.contents writer.new) csv []) }
+{
+    if csv {
+        Ok(())
+    } else {
+        write_all_counts(writer, ends)
+    }
+}

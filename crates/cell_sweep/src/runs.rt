@@ -1,0 +1,67 @@
+//! One run of a sweep.
+ghost use Rattle.std.specs.Prelude.{IfErr, IfOk};
+ghost use Rattle.cell_sweep.specs.Rows.{RefusesRun, RunsTo};
+
+use cell_runs::{InputError, Inputs, Outcome, read_inputs, simulate};
+use cell_sim::{SimOperator, World};
+use cell_turns::Plan;
+use std::alloc::AllocError;
+use std::sync::{Mutex, Wait};
+
+/// Why there is no run.
+#[derive(Debug, Drop)]
+pub(crate) enum NoRun {
+    /// A text is refused.
+    Refused(InputError),
+    /// Memory was refused.
+    OutOfMemory,
+}
+
+impl From<AllocError> for NoRun {
+    fn from(_error: AllocError) -> NoRun {
+        NoRun::OutOfMemory
+    }
+}
+
+/// A run: what it was to do, and what it left.
+#[derive(Drop)]
+pub(crate) struct Ran {
+    pub(crate) plan: Plan,
+    pub(crate) outcome: Outcome,
+    /// How many plates can still be laid in, those included that can be laid back.
+    pub(crate) left: u32,
+}
+
+/// Runs the simulated cell by its texts over a new world.
+pub(crate) fn run_texts<R: AllocGlobal + Wait>(
+    rt: &R,
+    settings: &[u8],
+    faults: &[u8],
+    operator: &[u8],
+) -> Result<Ran, NoRun>
+    ensures ran { IfOk result (λ ran. RunsTo settings.now faults.now operator.now ran.plan ran.outcome.book.entries ran.outcome.end) }
+    ensures refused { IfErr result (RefusesRun settings.now faults.now operator.now) }
+{
+    let Inputs {
+        plan,
+        faults,
+        script,
+        durations,
+    } = match read_inputs(rt.alloc(), settings, faults, operator) {
+        Ok(inputs) => inputs,
+        Err(error) => return Err(NoRun::Refused(error)),
+    };
+    let world = Mutex::new(World::new(plan.plates).with_durations(durations));
+    let mut hands = SimOperator::new(rt, &world);
+    match simulate(rt, &plan, &faults, script, &world, &mut hands) {
+        Ok(outcome) => {
+            let left = world.lock(rt).left();
+            Ok(Ran {
+                plan,
+                outcome,
+                left,
+            })
+        }
+        Err(AllocError) => Err(NoRun::OutOfMemory),
+    }
+}

@@ -1,0 +1,254 @@
+//! A sweep by its texts.
+ghost use Rattle.std.specs.Prelude.{◌≡◌, ℕ, IfErr, IfOk, OnOk, slice_index};
+ghost use Rattle.cell_types.specs.Same.{axis_number};
+ghost use Rattle.cell_sweep.specs.Cases.{cases_of};
+ghost use Rattle.cell_types.specs.declared.words.Axis.{Axis as AxisValue};
+ghost use Rattle.cell_sweep.specs.Rows.{IsScript, TellsServed};
+ghost use Rattle.cell_sweep.specs.Sweeps.{AreCounts, EndsSo, IsCutShort, Sweeps, SweepsTexts, TellsCase, TellsCases, wanted};
+
+use crate::cases::{cases_of, script_of};
+use crate::print::{kind_text, write_counts, write_head, write_row};
+use crate::row::{Row, row_of};
+use crate::runs::{NoRun, run_texts};
+use crate::service::serve;
+use cell_audit::{WatchedWriter, WriteFault};
+use cell_endings::motions;
+use cell_lines::status;
+use cell_runs::{read_inputs, refuse_input};
+use cell_sim::{Fault, PlannedFault};
+use cell_workers::End;
+use std::alloc::AllocError;
+use std::io;
+use std::io::Write;
+use std::sync::Wait;
+
+/// What a sweep goes through, and how it is told.
+#[derive(Clone, Copy, Debug)]
+pub struct Sweep<'a> {
+    /// The kinds of faults, in their order.
+    pub kinds: &'a [Fault],
+    /// How many motions of each axis; where none is given, as many as each has in the run without faults.
+    pub motions: Option<u32>,
+    /// Whether the operator serves the machines besides doing what his script says.
+    pub service: bool,
+    /// Whether the rows are written as CSV.
+    pub csv: bool,
+    /// Whether it is told to the errors how far the sweep is.
+    pub progress: bool,
+}
+
+// Why a sweep breaks off.
+#[derive(Debug, Drop)]
+enum Stop {
+    // A text is refused, or memory was.
+    NoRun(NoRun),
+    // The writer failed.
+    WriteFault,
+}
+
+impl From<io::Error> for Stop {
+    ghost use Rattle.std.specs.Prelude.{◌≡◌};
+    ghost use Rattle.cell_sweep.specs.declared.sweep.Stop.TheVariants as stop;
+
+    ghost from_gives = { λ error given. given ≡ stop.WriteFault };
+
+    fn from(_error: io::Error) -> Stop {
+        Stop::WriteFault
+    }
+}
+
+impl From<NoRun> for Stop {
+    ghost use Rattle.std.specs.Prelude.{◌≡◌};
+    ghost use Rattle.cell_sweep.specs.declared.sweep.Stop.TheVariants as stop;
+
+    ghost from_gives = { λ error given. given ≡ stop.NoRun error };
+
+    fn from(error: NoRun) -> Stop {
+        Stop::NoRun(error)
+    }
+}
+
+impl From<AllocError> for Stop {
+    ghost use Rattle.std.specs.Prelude.{◌≡◌};
+    ghost use Rattle.cell_sweep.specs.declared.runs.NoRun.TheVariants as none;
+    ghost use Rattle.cell_sweep.specs.declared.sweep.Stop.TheVariants as stop;
+
+    ghost from_gives = { λ error given. given ≡ stop.NoRun none.OutOfMemory };
+
+    fn from(_error: AllocError) -> Stop {
+        Stop::NoRun(NoRun::OutOfMemory)
+    }
+}
+
+// The texts of a sweep, and what it goes through.
+#[derive(Clone, Copy)]
+struct Task<'a> {
+    settings: &'a [u8],
+    operator: &'a [u8],
+    sweep: Sweep<'a>,
+}
+
+// The operator's script by which a run with this script of faults goes.
+fn script_for<R: AllocGlobal + Wait>(
+    rt: &R,
+    task: &Task<'_>,
+    faults: &[u8],
+) -> Result<Vec<u8>, NoRun>
+    ensures { IfOk result (λ script. IsScript task.now.sweep.service task.now.operator.now script.items) }
+{
+    if task.sweep.service {
+        serve(rt, task.settings, faults, task.operator)
+    } else {
+        Ok(Vec::from_slice(rt.alloc(), task.operator)?)
+    }
+}
+
+// What is told of the run with one fault.
+fn run_case<R: AllocGlobal + Wait>(
+    rt: &R,
+    task: &Task<'_>,
+    planned: PlannedFault,
+) -> Result<Row, NoRun>
+    ensures planned { IfOk result (λ row. row.planned ≡ planned) }
+    ensures told { IfOk result (λ row. TellsServed task.now.settings.now task.now.operator.now task.now.sweep.service row) }
+{
+    let faults = script_of(rt.alloc(), planned)?;
+    let faults = faults.as_str().as_bytes();
+    let operator = script_for(rt, task, faults)?;
+    let ran = run_texts(rt, task.settings, faults, operator.as_slice())?;
+    if matches!(ran.outcome.end, End::Memory) {
+        return Err(NoRun::OutOfMemory);
+    }
+    let row = row_of(rt.alloc(), planned, &ran, faults, operator.as_slice())?;
+    Ok(row)
+}
+
+// How many motions of each axis the sweep goes through.
+fn counts_of<R: AllocGlobal + Wait>(rt: &R, task: &Task<'_>) -> Result<[u32; 9], NoRun>
+    ensures { IfOk result (λ counts. AreCounts task.now.settings.now task.now.operator.now task.now.sweep.service task.now.sweep.motions (λ a. slice_index counts (axis_number a))) }
+{
+    if let Some(count) = task.sweep.motions {
+        return Ok([count; 9]);
+    }
+    let operator = script_for(rt, task, b"")?;
+    let ran = run_texts(rt, task.settings, b"", operator.as_slice())?;
+    Ok(motions(ran.outcome.book.journal()))
+}
+
+// The faults of a sweep.
+fn begin<R: AllocGlobal + Wait>(rt: &R, task: &Task<'_>) -> Result<Vec<PlannedFault>, NoRun>
+    ensures { IfOk result (λ cases. (counts : AxisValue → ℕ) × AreCounts task.now.settings.now task.now.operator.now task.now.sweep.service task.now.sweep.motions counts × (cases.items ≡ cases_of counts task.now.sweep.kinds.now)) }
+{
+    let counts = counts_of(rt, task)?;
+    let cases = cases_of(rt.alloc(), &counts, task.sweep.kinds)?;
+    Ok(cases)
+}
+
+// Tells how many runs are done. The line is written over by what follows; whether it could be written says nothing.
+fn tell_progress<E: Write>(errors: &mut E, done: usize, all: usize) {
+    let _ = write!(errors, "{done} of {all} runs\r");
+    let _ = errors.flush();
+}
+
+// Writes what is told of the run with one fault, and gives its end.
+fn write_case<R: AllocGlobal + Wait, W: Write>(
+    rt: &R,
+    task: &Task<'_>,
+    planned: PlannedFault,
+    output: &mut W,
+) -> Result<End, Stop>
+    ensures told { OnOk result (TellsCase task.now.settings.now task.now.operator.now (wanted task.now.sweep.kinds.now task.now.sweep.motions task.now.sweep.service task.now.sweep.csv) planned (W.contents output.old) (W.contents output.new)) }
+    ensures cut { IfErr result (IsCutShort (W.contents output.old) (W.contents output.new)) }
+{
+    let row = run_case(rt, task, planned)?;
+    let kind = kind_text(rt.alloc(), planned.fault)?;
+    write_row(output, task.sweep.csv, kind.as_str(), &row)?;
+    Ok(row.end)
+}
+
+// Runs each case, and writes what is told of it. It gives the ends.
+fn write_rows<R: AllocGlobal + Wait, W: Write, E: Write>(
+    rt: &R,
+    task: &Task<'_>,
+    cases: &[PlannedFault],
+    output: &mut W,
+    errors: &mut E,
+) -> Result<Vec<End>, Stop>
+    ensures told { OnOk result (TellsCases task.now.settings.now task.now.operator.now (wanted task.now.sweep.kinds.now task.now.sweep.motions task.now.sweep.service task.now.sweep.csv) cases.now (W.contents output.old) (W.contents output.new)) }
+    ensures cut { IfErr result (IsCutShort (W.contents output.old) (W.contents output.new)) }
+{
+    let mut ends = Vec::new(rt.alloc());
+    for planned in cases {
+        let end = write_case(rt, task, *planned, output)?;
+        push_end(&mut ends, end)?;
+        if task.sweep.progress {
+            tell_progress(errors, ends.len(), cases.len());
+        }
+    }
+    Ok(ends)
+}
+
+// Adds an end.
+fn push_end(ends: &mut Vec<End>, end: End) -> Result<(), AllocError> {
+    ends.push(end)?;
+    Ok(())
+}
+
+// Writes what is told of a sweep.
+fn write_sweep<R: AllocGlobal + Wait, W: Write, E: Write>(
+    rt: &R,
+    task: &Task<'_>,
+    output: &mut W,
+    errors: &mut E,
+) -> Result<(), Stop>
+    ensures told { OnOk result (Sweeps task.now.settings.now task.now.operator.now (wanted task.now.sweep.kinds.now task.now.sweep.motions task.now.sweep.service task.now.sweep.csv) (W.contents output.old) (W.contents output.new)) }
+    ensures cut { IfErr result (IsCutShort (W.contents output.old) (W.contents output.new)) }
+{
+    let cases = begin(rt, task)?;
+    write_head(output, task.sweep.csv)?;
+    let ends = write_rows(rt, task, cases.as_slice(), output, errors)?;
+    write_counts(output, task.sweep.csv, ends.as_slice())?;
+    Ok(())
+}
+
+// The status of a sweep, unless the writer failed. Where there is no run memory was refused, since all texts were read
+// before.
+fn ended(swept: Result<(), Stop>) -> Result<u8, WriteFault>
+    ensures { IfOk result (EndsSo swept) }
+{
+    match swept {
+        Ok(()) => Ok(status::SUCCESS),
+        Err(Stop::NoRun(_)) => Ok(status::OUT_OF_MEMORY),
+        Err(Stop::WriteFault) => Err(WriteFault),
+    }
+}
+
+/// Runs the simulated cell in rounds once for each fault of a sweep, alone, and writes a row of each run, and then, unless
+/// it is CSV, how many runs had each end; gives the exit status.
+///
+/// The faults are those of each kind in each motion of each axis. The settings or the operator's script, where one is
+/// refused, are told as by `run_texts`, and nothing runs. Else the status is 0, however the runs end, or 4 where memory
+/// was refused, with the rows of the runs before.
+pub fn sweep_texts<R: AllocGlobal + Wait, W: Write, E: Write>(
+    rt: &R,
+    settings: &[u8],
+    operator: &[u8],
+    sweep: Sweep<'_>,
+    output: &mut W,
+    errors: &mut E,
+) -> Result<u8, WriteFault>
+    // What is written is of the first text that is refused, or of one run for each fault; or the status says that the
+    // sweep broke off.
+    ensures { IfOk result (SweepsTexts settings.now operator.now (wanted sweep.entry.kinds.now sweep.entry.motions sweep.entry.service sweep.entry.csv) (W.contents output.old) (W.contents output.new)) }
+{
+    if let Err(error) = read_inputs(rt.alloc(), settings, b"", operator) {
+        return refuse_input(&mut WatchedWriter::new(output), error);
+    }
+    let task = Task {
+        settings,
+        operator,
+        sweep,
+    };
+    let swept = write_sweep(rt, &task, output, errors);
+    ended(swept)
+}
