@@ -1,44 +1,71 @@
 #!/bin/sh
-# Times the audit of a long legal journal against reading the same bytes alone. Where valgrind is there, it also counts
-# the instructions that an entry takes, which don't depend on what else the machine does, and whose they are.
+# Times the audit of a long legal journal against reading the same bytes alone, and, where rustc is there, against an audit
+# in plain Rust, audit_peer.rs. Where valgrind is there, it also counts the instructions that an entry takes, which don't
+# depend on what else the machine does, and whose they are.
 # Usage: bench/run.sh [PLATES]     13,000 plates by default, which are 987,986 entries (22 MB)
+# CELLCTL=PROGRAM in the environment names another program than the one that was built.
 set -eu
 here=$(cd "$(dirname "$0")" && pwd)
 cellctl=${CELLCTL:-$here/../crates/cellctl/out/cellctl}
 plates=${1:-13000}
-journal=$(mktemp)
-trap 'rm -f "$journal"' EXIT
+work=$(mktemp -d)
+trap 'rm -rf "$work"' EXIT
+journal=$work/journal
 awk -v plates="$plates" -f "$here/journal.awk" > "$journal"
 entries=$(($(wc -l < "$journal") - 1))
 bytes=$(wc -c < "$journal")
 echo "$entries entries, $bytes bytes"
+peer=
+if command -v rustc > /dev/null && rustc --edition 2021 -C opt-level=3 -o "$work/audit_peer" "$here/audit_peer.rs"; then
+    peer=$work/audit_peer
+fi
 
-# The least of seven times, in nanoseconds.
-least() {
-    best=
-    for _ in 1 2 3 4 5 6 7; do
-        start=$(date +%s%N)
-        "$@" < "$journal" > /dev/null
-        took=$(($(date +%s%N) - start))
-        if [ -z "$best" ] || [ "$took" -lt "$best" ]; then best=$took; fi
-    done
-    echo "$best"
+# Runs a program once, and keeps the least of its times, in nanoseconds, in the variable that is named first.
+run_once() {
+    name=$1
+    shift
+    start=$(date +%s%N)
+    "$@" < "$journal" > /dev/null
+    took=$(($(date +%s%N) - start))
+    eval "least=\${$name:-$took}"
+    if [ "$took" -lt "$least" ]; then least=$took; fi
+    eval "$name=$least"
 }
 
-read_time=$(least cat)
-audit_time=$(least "$cellctl" audit)
+# Counts the instructions of a program, and tells how many each of its functions takes.
+count_instructions() {
+    valgrind --tool=callgrind --callgrind-out-file="$work/counts" "$@" < "$journal" > /dev/null 2>&1
+    callgrind_annotate "$work/counts"
+}
+
+read_time=
+audit_time=
+peer_time=
+for _ in 1 2 3 4 5 6 7 8 9; do
+    run_once read_time cat
+    run_once audit_time "$cellctl" audit
+    if [ -n "$peer" ]; then run_once peer_time "$peer"; fi
+done
 echo "reading the bytes alone: $((read_time / 1000)) microseconds"
 echo "cellctl audit: $((audit_time / 1000)) microseconds, $((entries * 1000000000 / audit_time)) entries a second"
-"$cellctl" audit < "$journal"
+"$cellctl" audit < "$journal" | tee "$work/told"
+if [ -n "$peer" ]; then
+    echo "plain Rust: $((peer_time / 1000)) microseconds"
+    awk -v audit="$audit_time" -v peer="$peer_time" 'BEGIN { printf "cellctl audit takes %.2f times its time\n", audit / peer }'
+    "$peer" < "$journal" | cmp -s - "$work/told" || { echo "plain Rust prints something else"; exit 1; }
+else
+    echo "plain Rust: not timed, since there is no rustc that builds it"
+fi
 if [ -x /usr/bin/time ]; then
     /usr/bin/time -f 'peak memory: %M kB' "$cellctl" audit < "$journal" > /dev/null
 fi
 if command -v valgrind > /dev/null && command -v callgrind_annotate > /dev/null; then
-    counts=$(mktemp)
-    trap 'rm -f "$journal" "$counts"' EXIT
-    valgrind --tool=callgrind --callgrind-out-file="$counts" "$cellctl" audit < "$journal" > /dev/null 2>&1
-    callgrind_annotate "$counts" | awk -v entries="$entries" '
+    count_instructions "$cellctl" audit | awk -v entries="$entries" '
         /%\)/ { count = $1; gsub(",", "", count); count = int(count / entries) }
         /PROGRAM TOTALS/ { print "instructions an entry: " count; next }
         /%\)/ && count >= 5 { sub(/^.*%\) *[^ :]*:/, ""); sub(/::<.*/, ""); sub(/ \[.*/, ""); print "  " count " in " $0 }'
+    if [ -n "$peer" ]; then
+        count_instructions "$peer" | awk -v entries="$entries" '
+            /PROGRAM TOTALS/ { gsub(",", "", $1); print "instructions an entry of plain Rust: " int($1 / entries) }'
+    fi
 fi
