@@ -1,13 +1,13 @@
 -- Steps of the loops of a sweep
-use Rattle.std.proofs.Common.{◌≡◌, ◌≢◌, inl, inr, ℕ, suc, ◌+◌, ◌<◌, ◌≤◌, Bool, true, false, List, [], ◌∷◌, ◌++◌, Option, Some, None, Result, Ok, Err, IfErr, IfOk, OnOk, map, length, get_or, take, refl, sym, ap, subst, ◌∙◌, append_assoc, append-nil, add-one}
+use Rattle.std.proofs.Common.{◌≡◌, ◌≢◌, inl, inr, ℕ, suc, ◌+◌, ◌<◌, ◌≤◌, Bool, true, false, List, [], ◌∷◌, ◌++◌, Option, Some, None, Result, Ok, Err, IfOk, IsErr, OnOk, map, length, get_or, take, refl, sym, ap, subst, ◌∙◌, append_assoc, append-nil, add-one}
 use Rattle.std.specs.Io.KnownBytes.{Appends}
 use Rattle.std.specs.List.{flat_map}
-use Rattle.std.specs.Result.{IsErrAnd}
 use Rattle.std.proofs.KnownBytes.{Appends-nil, Appends-trans}
 use Rattle.std.proofs.lemmas.List.{flat_map_more, map-append, take_all, take_more}
 use Rattle.std.proofs.lemmas.List.Elements.{All-append, All-cons, All-nil}
 use Rattle.cell_sim.specs.declared.fault.Fault.{Fault}
 use Rattle.cell_sim.specs.declared.fault.PlannedFault.{PlannedFault}
+use Rattle.cell_audit.specs.Watched.{WritesPart}
 use Rattle.cell_audit.specs.declared.watched.WriteFault.{WriteFault}
 use Rattle.cell_runs.specs.Inputs.{AreInputs}
 use Rattle.cell_runs.specs.declared.inputs.Inputs.{Inputs}
@@ -21,7 +21,7 @@ use Rattle.cell_sweep.specs.declared.sweep.Stop.{Stop}
 use Rattle.cell_sweep.specs.declared.sweep.Stop.TheVariants as stop
 use Rattle.cell_sweep.specs.Cases.{cases_of, in_motions, planned, script_of}
 use Rattle.cell_sweep.specs.Rows.{Grows, GrowsBy, IsScript, IsToldOf, RunsTo, TellsRun, TellsServed, Told, csv_head, csv_line}
-use Rattle.cell_sweep.specs.Sweeps.{AreCounts, EndsSo, IsCutShort, Sweeps, SweepsTexts, TellsCase, TellsCases, Wanted}
+use Rattle.cell_sweep.specs.Sweeps.{AreCounts, EndsSo, Sweeps, SweepsTexts, TellsCase, TellsCases, Wanted}
 
 -- the faults of one more motion come after those so far
 pub motions-more : (kinds : List Fault) (a : Axis) (n : ℕ) (old mid new : List PlannedFault)
@@ -42,11 +42,6 @@ pub told-behind : {X : Type 0} (f : X → List ℕ) (b : ℕ) (old mid new : Opt
 told-behind f b old mid new xs i d inside so_far next =
     subst (Appends old new) (ap (λ ys. b ∷ ys) (flat_map_more f [] (take i xs) (get_or xs i d) ∙ ap (flat_map f) (sym (take_more xs i d inside)))) (Appends-trans old mid new _ _ so_far next)
 
--- a text that is known grows by it
-pub grows : {A B : Type 0} (r : Result A B) (old new : Option (List ℕ)) (text : List ℕ) → OnOk r (Appends old new text) → OnOk r (Grows old new)
-grows (Ok x) old new text h = (text, h)
-grows (Err e) old new text h = tt
-
 -- it grew by a text that was written
 pub grew : (old new : Option (List ℕ)) (text : List ℕ) → Appends old new text → Grows old new
 grew old new text h = (text, h)
@@ -55,30 +50,10 @@ grew old new text h = (text, h)
 pub grows-twice : (old mid new : Option (List ℕ)) → Grows old mid → Grows mid new → Grows old new
 grows-twice old mid new (text, h) (more, i) = (text ++ more, Appends-trans old mid new text more h i)
 
--- after one growth comes another, where that was written
-pub grows-then : {A B : Type 0} (r : Result A B) (old mid new : Option (List ℕ)) → Grows old mid → OnOk r (Grows mid new) → OnOk r (Grows old new)
-grows-then (Ok x) old mid new (text, h) (more, i) = (text ++ more, Appends-trans old mid new text more h i)
-grows-then (Err e) old mid new g h = tt
-
--- a text that is known, whatever the form
-pub grows-by : {A B : Type 0} (r : Result A B) (old new : Option (List ℕ)) (csv : Bool) (text : List ℕ) → OnOk r (Appends old new text) → OnOk r (GrowsBy old new csv text)
-grows-by (Ok x) old new csv text h = (text, h, λ is_csv. refl)
-grows-by (Err e) old new csv text h = tt
-
--- a text of which nothing is said, where it isn't CSV
-pub grows-else : {A B : Type 0} (r : Result A B) (old new : Option (List ℕ)) (csv : Bool) (line : List ℕ) → csv ≡ false → OnOk r (Grows old new) → OnOk r (GrowsBy old new csv line)
-grows-else (Ok x) old new csv line other (text, h) = (text, h, λ is_csv. cc (other, is_csv))
-grows-else (Err e) old new csv line other h = tt
-
 -- one growth after another
 pub by-then : (old mid new : Option (List ℕ)) (csv : Bool) (line more : List ℕ) → GrowsBy old mid csv line → GrowsBy mid new csv more → GrowsBy old new csv (line ++ more)
 by-then old mid new csv line more (text, h, same) (next, i, alike) =
     (text ++ next, Appends-trans old mid new text next h i, λ is_csv. ap (λ ys. ys ++ next) (same is_csv) ∙ ap (λ ys. line ++ ys) (alike is_csv))
-
--- what breaks off after a growth
-pub cut-after : (old mid new : Option (List ℕ)) (why : Stop) → Grows old mid → IsCutShort mid new why → IsCutShort old new why
-cut-after old mid new (stop.NoRun e) (text, h) (more, i) = (text ++ more, Appends-trans old mid new text more h i)
-cut-after old mid new stop.WriteFault g h = tt
 
 -- no case is told yet
 pub no-cases : (settings operator : List ℕ) (w : Wanted) (old : Option (List ℕ)) → TellsCases settings operator w [] old old
@@ -119,20 +94,19 @@ swept settings operator w counts cases p q r s counted same head (runs, in_order
       written = subst (GrowsBy p s w.csv) (append-nil (csv_head ++ flat_map csv_line runs)) (by-then p r s w.csv _ [] (by-then p q r w.csv csv_head (flat_map csv_line runs) head rows) below);
     }
 
+-- it grew by the part of a text that was written
+pub grew-part : (old new : Option (List ℕ)) (text : List ℕ) → WritesPart old new text → Grows old new
+grew-part old new text (n, inside, h) = (take n text, h)
+
 -- where no text is refused, the sweep is whole, or it broke off and its status says so
 pub sweeps-or-breaks : (swept : Result Unit Stop) (ended : Result ℕ WriteFault) (settings operator : List ℕ) (w : Wanted) (old new : Option (List ℕ)) (inputs : Result Inputs InputError)
-    → AreInputs settings [] operator inputs → ((e : InputError) → inputs ≢ Err e) → OnOk swept (Sweeps settings operator w old new) → IfErr swept (IsCutShort old new)
+    → AreInputs settings [] operator inputs → ((e : InputError) → inputs ≢ Err e) → OnOk swept (Sweeps settings operator w old new) → (IsErr swept → Grows old new)
     → IfOk ended (EndsSo swept) → IfOk ended (λ status. SweepsTexts settings operator w old new status)
-sweeps-or-breaks swept (Err fault) settings operator w old new inputs are good told cut ends = tt
-sweeps-or-breaks swept (Ok status) settings operator w old new (Err e) are good told cut ends = absurd (good e refl)
-sweeps-or-breaks (Ok done) (Ok status) settings operator w old new (Ok inputs) are good told cut ends = (Ok inputs, are, inl (ends, told))
-sweeps-or-breaks (Err (stop.NoRun why)) (Ok status) settings operator w old new (Ok inputs) are good told cut ends = (Ok inputs, are, inr (ends, cut))
-sweeps-or-breaks (Err stop.WriteFault) (Ok status) settings operator w old new (Ok inputs) are good told cut ends = absurd ends
-
--- a step that stops a sweep
-pub cut-at : {A : Type 0} (r : Result A Stop) (why : Stop) (old new : Option (List ℕ)) → IsErrAnd r (λ s. s ≡ why) → IsCutShort old new why → IfErr r (IsCutShort old new)
-cut-at (Ok x) why old new is cut = absurd is
-cut-at (Err s) why old new is cut = subst (λ (z : Stop). IsCutShort old new z) (sym is) cut
+sweeps-or-breaks swept (Err fault) settings operator w old new inputs are good told part ends = tt
+sweeps-or-breaks swept (Ok status) settings operator w old new (Err e) are good told part ends = absurd (good e refl)
+sweeps-or-breaks (Ok done) (Ok status) settings operator w old new (Ok inputs) are good told part ends = (Ok inputs, are, inl (ends, told))
+sweeps-or-breaks (Err (stop.NoRun why)) (Ok status) settings operator w old new (Ok inputs) are good told part ends = (Ok inputs, are, inr (ends, part refl))
+sweeps-or-breaks (Err stop.WriteFault) (Ok status) settings operator w old new (Ok inputs) are good told part ends = absurd ends
 
 -- what is known of a writer grew by some text
 pub by-grows : (old new : Option (List ℕ)) (csv : Bool) (line : List ℕ) → GrowsBy old new csv line → Grows old new

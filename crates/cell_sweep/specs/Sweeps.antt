@@ -1,5 +1,5 @@
 -- What is written of a sweep
-use Rattle.std.specs.Prelude.{◌≡◌, ◌⊎◌, ℕ, Bool, List, [], ◌++◌, map, All, Option, Some, None, Result, Ok, Err, ⊤}
+use Rattle.std.specs.Prelude.{◌≡◌, ◌⊎◌, ℕ, Bool, true, List, [], ◌++◌, map, All, Option, Some, None, Result, Ok, Err, ⊤}
 use Rattle.std.specs.List.{flat_map}
 use Rattle.cell_types.specs.declared.words.Axis.{Axis}
 use Rattle.cell_types.specs.declared.words.Entry.{Entry}
@@ -43,10 +43,9 @@ pub record Sweeps (settings operator : List ℕ) (w : Wanted) (old new : Option 
   pub told : All (TellsServed settings operator w.service) runs
   pub written : GrowsBy old new w.csv (csv_head ++ flat_map csv_line runs)
 
--- what was written where a sweep broke off: whole lines, unless the writer failed
-abbrev pub IsCutShort : Option (List ℕ) → Option (List ℕ) → Stop → Type 0
-IsCutShort old new (stop.NoRun why) = Grows old new
-IsCutShort old new stop.WriteFault = ⊤
+-- the writer is to blame for what stops a sweep only where a write was refused
+abbrev pub IsToBlame : Bool → Stop → Type 0
+IsToBlame refused why = why ≡ stop.WriteFault → refused ≡ true
 
 -- the status of a sweep
 abbrev pub EndsSo : Result Unit Stop → ℕ → Type 0

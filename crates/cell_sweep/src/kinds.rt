@@ -33,6 +33,11 @@ pub enum KindsError {
 }
 
 impl From<AllocError> for KindsError {
+    ghost use Rattle.std.specs.Prelude.{◌≡◌};
+    ghost use Rattle.cell_sweep.specs.declared.kinds.KindsError.TheVariants as wrong;
+
+    ghost from_gives = { λ error given. given ≡ wrong.OutOfMemory };
+
     fn from(_error: AllocError) -> KindsError {
         KindsError::OutOfMemory
     }

@@ -1,8 +1,8 @@
 //! How a sweep is printed.
-ghost use Rattle.std.specs.Prelude.{◌≡◌, [], IfOk, OnOk, string_bytes};
+ghost use Rattle.std.specs.Prelude.{◌≡◌, [], true, IfOk, OnOk, string_bytes};
 ghost use Rattle.std.specs.Io.KnownBytes.{Appends};
 ghost use Rattle.cell_runs.specs.Runs.{word_of as end_word};
-ghost use Rattle.cell_sweep.specs.Rows.{Grows, GrowsBy, csv_head, csv_line, kind_text, quoted, quoted_byte, quoted_if_any};
+ghost use Rattle.cell_sweep.specs.Rows.{csv_head, csv_line, kind_text, quoted, quoted_byte, quoted_if_any};
 
 use crate::kinds::{readings_of, word_of};
 use crate::row::Row;
@@ -33,8 +33,8 @@ pub(crate) fn word_of_end(end: End) -> &'static str
     }
 }
 
-/// A kind as a list of kinds has it.
-pub(crate) fn kind_text(alloc: Global, kind: Fault) -> std::result::Result<String, AllocError>
+// A kind as a list of kinds has it.
+fn kind_text(alloc: Global, kind: Fault) -> std::result::Result<String, AllocError>
     ensures { IfOk result (λ text. string_bytes text ≡ kind_text kind) }
 {
     let word = word_of(kind);
@@ -99,9 +99,7 @@ fn write_csv<W: Write>(writer: &mut W, kind: &str, row: &Row) -> Result<()>
 }
 
 // Writes what a run waits for behind the other columns, where there is anything.
-fn write_waits<W: Write>(writer: &mut W, waits: &[u8]) -> Result<()>
-    ensures { OnOk result (Grows (W.contents writer.old) (W.contents writer.new)) }
-{
+fn write_waits<W: Write>(writer: &mut W, waits: &[u8]) -> Result<()> {
     if waits.is_empty() {
         return writer.write_all(b"\n");
     }
@@ -111,9 +109,7 @@ fn write_waits<W: Write>(writer: &mut W, waits: &[u8]) -> Result<()>
 }
 
 // Writes a row of a table.
-fn write_table<W: Write>(writer: &mut W, kind: &str, row: &Row) -> Result<()>
-    ensures { OnOk result (Grows (W.contents writer.old) (W.contents writer.new)) }
-{
+fn write_table<W: Write>(writer: &mut W, kind: &str, row: &Row) -> Result<()> {
     let totals = row.totals;
     write!(
         writer,
@@ -131,25 +127,37 @@ fn write_table<W: Write>(writer: &mut W, kind: &str, row: &Row) -> Result<()>
     write_waits(writer, row.waits.as_slice())
 }
 
-/// Writes the line above the rows.
-pub(crate) fn write_head<W: Write>(writer: &mut W, csv: bool) -> Result<()>
-    ensures { OnOk result (GrowsBy (W.contents writer.old) (W.contents writer.new) csv csv_head) }
+/// The line above the rows.
+pub(crate) fn head_of(csv: bool) -> &'static str
+    ensures { csv ≡ true → result.now ≡ csv_head }
 {
-    if csv {
-        writer.write_all(CSV_HEAD.as_bytes())
-    } else {
-        writer.write_all(TABLE_HEAD.as_bytes())
-    }
+    if csv { CSV_HEAD } else { TABLE_HEAD }
 }
 
-/// Writes a row, whose kind has this text.
-pub(crate) fn write_row<W: Write>(writer: &mut W, csv: bool, kind: &str, row: &Row) -> Result<()>
-    ensures { kind.now ≡ kind_text row.now.planned.fault → OnOk result (GrowsBy (W.contents writer.old) (W.contents writer.new) csv (csv_line row.now)) }
+// Writes a row, whose kind has this text.
+fn write_row<W: Write>(writer: &mut W, csv: bool, kind: &str, row: &Row) -> Result<()>
+    ensures { csv ≡ true → kind.now ≡ kind_text row.now.planned.fault → OnOk result (Appends (W.contents writer.old) (W.contents writer.new) (csv_line row.now)) }
 {
     if csv {
         write_csv(writer, kind, row)
     } else {
         write_table(writer, kind, row)
+    }
+}
+
+/// The line of a row.
+pub(crate) fn line_of(
+    alloc: Global,
+    csv: bool,
+    row: &Row,
+) -> std::result::Result<Vec<u8>, AllocError>
+    ensures { csv ≡ true → IfOk result (λ line. line.items ≡ csv_line row.now) }
+{
+    let kind = kind_text(alloc, row.planned.fault)?;
+    let mut line = Vec::new(alloc);
+    match write_row(&mut line, csv, kind.as_str(), row) {
+        Ok(()) => Ok(line),
+        Err(_) => Err(AllocError),
     }
 }
 
@@ -159,18 +167,14 @@ fn count_of(ends: &[End], wanted: End) -> usize {
 }
 
 // Writes how many of some ends are this one.
-fn write_count<W: Write>(writer: &mut W, ends: &[End], end: End) -> Result<()>
-    ensures { OnOk result (Grows (W.contents writer.old) (W.contents writer.new)) }
-{
+fn write_count<W: Write>(writer: &mut W, ends: &[End], end: End) -> Result<()> {
     let count = count_of(ends, end);
     let end = word_of_end(end);
     writeln!(writer, "{end} {count}")
 }
 
 // Writes how many runs there were, and how many had each end.
-fn write_all_counts<W: Write>(writer: &mut W, ends: &[End]) -> Result<()>
-    ensures { OnOk result (Grows (W.contents writer.old) (W.contents writer.new)) }
-{
+fn write_all_counts<W: Write>(writer: &mut W, ends: &[End]) -> Result<()> {
     let runs = ends.len();
     write!(writer, "\nruns {runs}\n")?;
     write_count(writer, ends, End::Finished)?;
@@ -179,13 +183,20 @@ fn write_all_counts<W: Write>(writer: &mut W, ends: &[End]) -> Result<()>
     write_count(writer, ends, End::Full)
 }
 
-/// Writes how many runs there were, and how many had each end. With CSV nothing is written.
-pub(crate) fn write_counts<W: Write>(writer: &mut W, csv: bool, ends: &[End]) -> Result<()>
-    ensures { OnOk result (GrowsBy (W.contents writer.old) (W.contents writer.new) csv []) }
+/// How many runs there were, and how many had each end. With CSV that is no text.
+pub(crate) fn counts_text(
+    alloc: Global,
+    csv: bool,
+    ends: &[End],
+) -> std::result::Result<Vec<u8>, AllocError>
+    ensures { csv ≡ true → IfOk result (λ text. text.items ≡ []) }
 {
+    let mut text = Vec::new(alloc);
     if csv {
-        Ok(())
-    } else {
-        write_all_counts(writer, ends)
+        return Ok(text);
+    }
+    match write_all_counts(&mut text, ends) {
+        Ok(()) => Ok(text),
+        Err(_) => Err(AllocError),
     }
 }

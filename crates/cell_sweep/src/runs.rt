@@ -18,6 +18,11 @@ pub(crate) enum NoRun {
 }
 
 impl From<AllocError> for NoRun {
+    ghost use Rattle.std.specs.Prelude.{◌≡◌};
+    ghost use Rattle.cell_sweep.specs.declared.runs.NoRun.TheVariants as none;
+
+    ghost from_gives = { λ error given. given ≡ none.OutOfMemory };
+
     fn from(_error: AllocError) -> NoRun {
         NoRun::OutOfMemory
     }

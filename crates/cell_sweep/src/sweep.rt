@@ -1,13 +1,15 @@
 //! A sweep by its texts.
-ghost use Rattle.std.specs.Prelude.{◌≡◌, ℕ, IfErr, IfOk, OnOk, slice_index};
+ghost use Rattle.std.specs.Prelude.{◌≡◌, ℕ, true, Err, IfErr, IfOk, IsErr, OnOk, slice_index};
+ghost use Rattle.cell_audit.specs.Watched.{IsSameWriter, bytes_held, has_refused};
 ghost use Rattle.cell_types.specs.Same.{axis_number};
 ghost use Rattle.cell_sweep.specs.Cases.{cases_of};
+ghost use Rattle.cell_sweep.specs.declared.sweep.Stop.TheVariants as stop;
 ghost use Rattle.cell_types.specs.declared.words.Axis.{Axis as AxisValue};
-ghost use Rattle.cell_sweep.specs.Rows.{IsScript, TellsServed};
-ghost use Rattle.cell_sweep.specs.Sweeps.{AreCounts, EndsSo, IsCutShort, Sweeps, SweepsTexts, TellsCase, TellsCases, wanted};
+ghost use Rattle.cell_sweep.specs.Rows.{Grows, IsScript, TellsServed};
+ghost use Rattle.cell_sweep.specs.Sweeps.{AreCounts, EndsSo, IsToBlame, Sweeps, SweepsTexts, TellsCase, TellsCases, wanted};
 
 use crate::cases::{cases_of, script_of};
-use crate::print::{kind_text, write_counts, write_head, write_row};
+use crate::print::{counts_text, head_of, line_of};
 use crate::row::{Row, row_of};
 use crate::runs::{NoRun, run_texts};
 use crate::service::serve;
@@ -18,7 +20,6 @@ use cell_runs::{read_inputs, refuse_input};
 use cell_sim::{Fault, PlannedFault};
 use cell_workers::End;
 use std::alloc::AllocError;
-use std::io;
 use std::io::Write;
 use std::sync::Wait;
 
@@ -46,13 +47,13 @@ enum Stop {
     WriteFault,
 }
 
-impl From<io::Error> for Stop {
+impl From<WriteFault> for Stop {
     ghost use Rattle.std.specs.Prelude.{◌≡◌};
     ghost use Rattle.cell_sweep.specs.declared.sweep.Stop.TheVariants as stop;
 
     ghost from_gives = { λ error given. given ≡ stop.WriteFault };
 
-    fn from(_error: io::Error) -> Stop {
+    fn from(_error: WriteFault) -> Stop {
         Stop::WriteFault
     }
 }
@@ -155,14 +156,16 @@ fn write_case<R: AllocGlobal + Wait, W: Write>(
     rt: &R,
     task: &Task<'_>,
     planned: PlannedFault,
-    output: &mut W,
+    writer: &mut WatchedWriter<'_, W>,
 ) -> Result<End, Stop>
-    ensures told { OnOk result (TellsCase task.now.settings.now task.now.operator.now (wanted task.now.sweep.kinds.now task.now.sweep.motions task.now.sweep.service task.now.sweep.csv) planned (W.contents output.old) (W.contents output.new)) }
-    ensures cut { IfErr result (IsCutShort (W.contents output.old) (W.contents output.new)) }
+    ensures writer { IsSameWriter writer.old writer.new }
+    ensures told { OnOk result (TellsCase task.now.settings.now task.now.operator.now (wanted task.now.sweep.kinds.now task.now.sweep.motions task.now.sweep.service task.now.sweep.csv) planned (bytes_held W.contents writer.old) (bytes_held W.contents writer.new)) }
+    ensures part { IsErr result → Grows (bytes_held W.contents writer.old) (bytes_held W.contents writer.new) }
+    ensures fault { IfErr result (IsToBlame (has_refused writer.new)) }
 {
     let row = run_case(rt, task, planned)?;
-    let kind = kind_text(rt.alloc(), planned.fault)?;
-    write_row(output, task.sweep.csv, kind.as_str(), &row)?;
+    let line = line_of(rt.alloc(), task.sweep.csv, &row)?;
+    writer.write_bytes(line.as_slice())?;
     Ok(row.end)
 }
 
@@ -171,15 +174,17 @@ fn write_rows<R: AllocGlobal + Wait, W: Write, E: Write>(
     rt: &R,
     task: &Task<'_>,
     cases: &[PlannedFault],
-    output: &mut W,
+    writer: &mut WatchedWriter<'_, W>,
     errors: &mut E,
 ) -> Result<Vec<End>, Stop>
-    ensures told { OnOk result (TellsCases task.now.settings.now task.now.operator.now (wanted task.now.sweep.kinds.now task.now.sweep.motions task.now.sweep.service task.now.sweep.csv) cases.now (W.contents output.old) (W.contents output.new)) }
-    ensures cut { IfErr result (IsCutShort (W.contents output.old) (W.contents output.new)) }
+    ensures writer { IsSameWriter writer.old writer.new }
+    ensures told { OnOk result (TellsCases task.now.settings.now task.now.operator.now (wanted task.now.sweep.kinds.now task.now.sweep.motions task.now.sweep.service task.now.sweep.csv) cases.now (bytes_held W.contents writer.old) (bytes_held W.contents writer.new)) }
+    ensures part { IsErr result → Grows (bytes_held W.contents writer.old) (bytes_held W.contents writer.new) }
+    ensures fault { IfErr result (IsToBlame (has_refused writer.new)) }
 {
     let mut ends = Vec::new(rt.alloc());
     for planned in cases {
-        let end = write_case(rt, task, *planned, output)?;
+        let end = write_case(rt, task, *planned, writer)?;
         push_end(&mut ends, end)?;
         if task.sweep.progress {
             tell_progress(errors, ends.len(), cases.len());
@@ -198,23 +203,28 @@ fn push_end(ends: &mut Vec<End>, end: End) -> Result<(), AllocError> {
 fn write_sweep<R: AllocGlobal + Wait, W: Write, E: Write>(
     rt: &R,
     task: &Task<'_>,
-    output: &mut W,
+    writer: &mut WatchedWriter<'_, W>,
     errors: &mut E,
 ) -> Result<(), Stop>
-    ensures told { OnOk result (Sweeps task.now.settings.now task.now.operator.now (wanted task.now.sweep.kinds.now task.now.sweep.motions task.now.sweep.service task.now.sweep.csv) (W.contents output.old) (W.contents output.new)) }
-    ensures cut { IfErr result (IsCutShort (W.contents output.old) (W.contents output.new)) }
+    ensures writer { IsSameWriter writer.old writer.new }
+    ensures told { OnOk result (Sweeps task.now.settings.now task.now.operator.now (wanted task.now.sweep.kinds.now task.now.sweep.motions task.now.sweep.service task.now.sweep.csv) (bytes_held W.contents writer.old) (bytes_held W.contents writer.new)) }
+    ensures part { IsErr result → Grows (bytes_held W.contents writer.old) (bytes_held W.contents writer.new) }
+    ensures fault { IfErr result (IsToBlame (has_refused writer.new)) }
 {
+    let csv = task.sweep.csv;
     let cases = begin(rt, task)?;
-    write_head(output, task.sweep.csv)?;
-    let ends = write_rows(rt, task, cases.as_slice(), output, errors)?;
-    write_counts(output, task.sweep.csv, ends.as_slice())?;
+    writer.write_bytes(head_of(csv).as_bytes())?;
+    let ends = write_rows(rt, task, cases.as_slice(), writer, errors)?;
+    let counts = counts_text(rt.alloc(), csv, ends.as_slice())?;
+    writer.write_bytes(counts.as_slice())?;
     Ok(())
 }
 
 // The status of a sweep, unless the writer failed. Where there is no run memory was refused, since all texts were read
 // before.
 fn ended(swept: Result<(), Stop>) -> Result<u8, WriteFault>
-    ensures { IfOk result (EndsSo swept) }
+    ensures status { IfOk result (EndsSo swept) }
+    ensures fault { IsErr result → swept ≡ Err stop.WriteFault }
 {
     match swept {
         Ok(()) => Ok(status::SUCCESS),
@@ -223,12 +233,42 @@ fn ended(swept: Result<(), Stop>) -> Result<u8, WriteFault>
     }
 }
 
+/// Runs the simulated cell once for each fault of a sweep, as `sweep_texts` does, and writes what is told of it to a writer
+/// that notes whether a write of it was refused.
+pub fn sweep_texts_watched<R: AllocGlobal + Wait, W: Write, E: Write>(
+    rt: &R,
+    settings: &[u8],
+    operator: &[u8],
+    sweep: Sweep<'_>,
+    writer: &mut WatchedWriter<'_, W>,
+    errors: &mut E,
+) -> Result<u8, WriteFault>
+    ensures writer { IsSameWriter writer.old writer.new }
+    ensures whole { IfOk result (SweepsTexts settings.now operator.now (wanted sweep.entry.kinds.now sweep.entry.motions sweep.entry.service sweep.entry.csv) (bytes_held W.contents writer.old) (bytes_held W.contents writer.new)) }
+    // Where the writer failed, what was written before only grew.
+    ensures part { IsErr result → Grows (bytes_held W.contents writer.old) (bytes_held W.contents writer.new) }
+    // It answers that the writer failed only where a write was refused.
+    ensures fault { IsErr result → has_refused writer.new ≡ true }
+{
+    if let Err(error) = read_inputs(rt.alloc(), settings, b"", operator) {
+        return refuse_input(writer, error);
+    }
+    let task = Task {
+        settings,
+        operator,
+        sweep,
+    };
+    let swept = write_sweep(rt, &task, writer, errors);
+    ended(swept)
+}
+
 /// Runs the simulated cell in rounds once for each fault of a sweep, alone, and writes a row of each run, and then, unless
 /// it is CSV, how many runs had each end; gives the exit status.
 ///
 /// The faults are those of each kind in each motion of each axis. The settings or the operator's script, where one is
 /// refused, are told as by `run_texts`, and nothing runs. Else the status is 0, however the runs end, or 4 where memory
-/// was refused, with the rows of the runs before.
+/// was refused, with the rows of the runs before. That `WriteFault` comes only where a refused write was noted is a clause
+/// of `sweep_texts_watched`, of which this is the case of a new writer that notes.
 pub fn sweep_texts<R: AllocGlobal + Wait, W: Write, E: Write>(
     rt: &R,
     settings: &[u8],
@@ -239,16 +279,10 @@ pub fn sweep_texts<R: AllocGlobal + Wait, W: Write, E: Write>(
 ) -> Result<u8, WriteFault>
     // What is written is of the first text that is refused, or of one run for each fault; or the status says that the
     // sweep broke off.
-    ensures { IfOk result (SweepsTexts settings.now operator.now (wanted sweep.entry.kinds.now sweep.entry.motions sweep.entry.service sweep.entry.csv) (W.contents output.old) (W.contents output.new)) }
+    ensures whole { IfOk result (SweepsTexts settings.now operator.now (wanted sweep.entry.kinds.now sweep.entry.motions sweep.entry.service sweep.entry.csv) (W.contents output.old) (W.contents output.new)) }
+    // Where the writer failed, what was written before only grew.
+    ensures part { IsErr result → Grows (W.contents output.old) (W.contents output.new) }
 {
-    if let Err(error) = read_inputs(rt.alloc(), settings, b"", operator) {
-        return refuse_input(&mut WatchedWriter::new(output), error);
-    }
-    let task = Task {
-        settings,
-        operator,
-        sweep,
-    };
-    let swept = write_sweep(rt, &task, output, errors);
-    ended(swept)
+    let mut writer = WatchedWriter::new(output);
+    sweep_texts_watched(rt, settings, operator, sweep, &mut writer, errors)
 }
