@@ -1,9 +1,10 @@
 -- Steps of the loops of a sweep
 use Rattle.std.proofs.Common.{◌≡◌, ◌≢◌, inl, inr, ℕ, suc, ◌+◌, ◌<◌, ◌≤◌, Bool, true, false, List, [], ◌∷◌, ◌++◌, Option, Some, None, Result, Ok, Err, IfOk, IsErr, OnOk, map, length, get_or, take, refl, sym, ap, subst, ◌∙◌, append_assoc, append-nil, add-one}
+use Rattle.std.specs.Borrow.{Bor}
 use Rattle.std.specs.Io.KnownBytes.{Appends}
 use Rattle.std.specs.List.{flat_map}
 use Rattle.std.proofs.KnownBytes.{Appends-nil, Appends-trans}
-use Rattle.std.proofs.lemmas.List.{flat_map_more, map-append, take_all, take_more}
+use Rattle.std.proofs.lemmas.List.{flat_map_more, get_or-map, length-map, map-append, take_all, take_more}
 use Rattle.std.proofs.lemmas.List.Elements.{All-append, All-cons, All-nil}
 use Rattle.cell_sim.specs.declared.fault.Fault.{Fault}
 use Rattle.cell_sim.specs.declared.fault.PlannedFault.{PlannedFault}
@@ -20,6 +21,7 @@ use Rattle.cell_workers.specs.declared.ends.End.{End}
 use Rattle.cell_sweep.specs.declared.sweep.Stop.{Stop}
 use Rattle.cell_sweep.specs.declared.sweep.Stop.TheVariants as stop
 use Rattle.cell_sweep.specs.Cases.{cases_of, in_motions, planned, script_of}
+use Rattle.cell_sweep.specs.Kinds.{kind_of}
 use Rattle.cell_sweep.specs.Rows.{Grows, GrowsBy, IsScript, IsToldOf, RunsTo, TellsRun, TellsServed, Told, csv_head, csv_line}
 use Rattle.cell_sweep.specs.Sweeps.{AreCounts, EndsSo, Sweeps, SweepsTexts, TellsCase, TellsCases, Wanted}
 
@@ -29,6 +31,22 @@ pub motions-more : (kinds : List Fault) (a : Axis) (n : ℕ) (old mid new : List
 motions-more kinds a n old mid new so_far next =
     let next_suc = rw add-one at next in
     rw add-one (next_suc ∙ ap (λ ys. ys ++ map (planned a (suc n)) kinds) so_far ∙ append_assoc old (in_motions kinds a n) (map (planned a (suc n)) kinds))
+
+-- one more part of a list names one more kind
+pub named-more : (parts : List (List ℕ)) (i : ℕ) (kinds new : List Fault) (kind : Fault) → map kind_of (take i parts) ≡ map Some kinds → i < length parts
+    → kind_of (get_or parts i []) ≡ Some kind → new ≡ kinds ++ kind ∷ [] → map kind_of (take (i + 1) parts) ≡ map Some new
+named-more parts i kinds new kind so_far inside here next =
+    ap (map kind_of) (take_more parts i [] inside) ∙ map-append kind_of (take i parts) (get_or parts i [] ∷ [])
+    ∙ ap (λ ks. ks ++ kind_of (get_or parts i []) ∷ []) so_far ∙ ap (λ k. map Some kinds ++ k ∷ []) here ∙ sym (map-append Some kinds (kind ∷ []))
+    ∙ ap (map Some) (sym next)
+
+-- the same of parts that are lent
+pub named-part : (lent : List (Bor (List ℕ))) (parts : List (List ℕ)) (i : ℕ) (d : Bor (List ℕ)) (kinds new : List Fault) (kind : Fault)
+    → map (λ p. p.now) lent ≡ parts → map kind_of (take i parts) ≡ map Some kinds → i < length lent
+    → kind_of (get_or lent i d).now ≡ Some kind → new ≡ kinds ++ kind ∷ [] → map kind_of (take (i + 1) parts) ≡ map Some new
+named-part lent parts i d kinds new kind same so_far inside here next =
+    named-more parts i kinds new kind so_far (subst (λ ps. i < length ps) same (subst (λ n. i < n) (sym (length-map lent (λ p. p.now))) inside))
+    (ap (λ ps. kind_of (get_or ps i [])) (sym same) ∙ ap kind_of (get_or-map (λ (p : Bor (List ℕ)). p.now) lent i d [] inside) ∙ here) next
 
 -- what a function gives of one more element comes after what it gives of those so far
 pub flat-more : {X Y : Type 0} (f : X → List Y) (mid new : List Y) (xs : List X) (i : ℕ) (d : X) → i < length xs

@@ -1,3 +1,4 @@
 pub mod Cases
+pub mod Kinds
 pub mod Rows
 pub mod Sweeps

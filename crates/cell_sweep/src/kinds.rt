@@ -1,6 +1,7 @@
 //! The kinds of faults that a sweep goes through.
-ghost use Rattle.std.specs.Prelude.{◌≡◌};
+ghost use Rattle.std.specs.Prelude.{◌≡◌, ◌∷◌, ◌++◌, [], map, IfErr, IfOk, OnOk};
 ghost use Rattle.cell_sweep.specs.Cases.{readings_of, word_of};
+ghost use Rattle.cell_sweep.specs.Kinds.{IsNoList, NamesKinds, kind_named, kind_of, number_of, parts_of, with_readings};
 
 use cell_sim::Fault;
 use cell_types::number::read_number;
@@ -69,50 +70,88 @@ pub(crate) fn readings_of(kind: Fault) -> Option<u32>
 }
 
 // The kind of a word, with its usual number of readings.
-fn kind_named(word: &str) -> Option<Fault> {
-    for kind in KINDS {
-        if word_of(kind) == word {
-            return Some(kind);
-        }
+fn kind_named(word: &[u8]) -> Option<Fault>
+    ensures { result ≡ kind_named word.now }
+{
+    if word == b"no_motion".as_slice() {
+        Some(Fault::NoMotion)
+    } else if word == b"keeps_old".as_slice() {
+        Some(Fault::KeepsOld)
+    } else if word == b"both".as_slice() {
+        Some(Fault::Both)
+    } else if word == b"slow".as_slice() {
+        Some(Fault::Slow(READINGS))
+    } else if word == b"lose_plate".as_slice() {
+        Some(Fault::LosePlate)
+    } else if word == b"silent".as_slice() {
+        Some(Fault::Silent(READINGS))
+    } else if word == b"refuse_command".as_slice() {
+        Some(Fault::RefuseCommand)
+    } else {
+        None
     }
-    None
 }
 
 // A kind with so many readings, where it takes a number.
-fn with_readings(kind: Fault, readings: u32) -> Option<Fault> {
-    match kind {
-        Fault::Slow(_) => Some(Fault::Slow(readings)),
-        Fault::Silent(_) => Some(Fault::Silent(readings)),
+fn with_readings(kind: Option<Fault>, readings: Option<u32>) -> Option<Fault>
+    ensures { result ≡ with_readings kind readings }
+{
+    match (kind, readings) {
+        (Some(Fault::Slow(_)), Some(readings)) => Some(Fault::Slow(readings)),
+        (Some(Fault::Silent(_)), Some(readings)) => Some(Fault::Silent(readings)),
         _ => None,
     }
 }
 
 // The kind of a part of a list: its word, or its word, a colon and its number of readings.
-fn read_kind(part: &str) -> Option<Fault> {
+fn read_kind(part: &str) -> Option<Fault>
+    ensures { result ≡ kind_of part.now }
+{
     match part.split_once(':') {
-        Some((word, number)) => {
-            let readings = read_number(MOST_READINGS, number.as_bytes())?;
-            with_readings(kind_named(word)?, readings)
-        }
-        None => kind_named(part),
+        Some((word, number)) => with_readings(
+            kind_named(word.as_bytes()),
+            read_number(MOST_READINGS, number.as_bytes()),
+        ),
+        None => kind_named(part.as_bytes()),
     }
 }
 
+// The parts of a list, between its commas.
+fn parts_of(alloc: Global, list: &str) -> Result<Vec<&str>, AllocError>
+    ensures { IfOk result (λ parts. map (λ p. p.now) parts.items ≡ parts_of list.now) }
+{
+    list.split(',').collect(alloc)
+}
+
+// The number of a part, counted from 1.
+fn number_of(index: usize) -> u32
+    ensures { result ≡ number_of index }
+{
+    u32::try_from(index).unwrap_or(u32::MAX).saturating_add(1)
+}
+
 // Adds a kind to a list.
-fn push_kind(kinds: &mut Vec<Fault>, kind: Fault) -> Result<(), AllocError> {
+fn push_kind(kinds: &mut Vec<Fault>, kind: Fault) -> Result<(), AllocError>
+    ensures { OnOk result (kinds.new.items ≡ kinds.old.items ++ kind ∷ []) }
+{
     kinds.push(kind)?;
     Ok(())
 }
 
-/// Reads a list of kinds, which are parted by commas, as `no_motion,slow:5`.
-pub fn read_kinds(alloc: Global, list: &str) -> Result<Vec<Fault>, KindsError> {
+/// Reads a list of kinds, which are parted by commas, as `no_motion,slow:5`: each by its word, with 30 readings where it takes
+/// a number of them, or by its word, a colon and a number from 1 to 1,000.
+pub fn read_kinds(alloc: Global, list: &str) -> Result<Vec<Fault>, KindsError>
+    // The kinds are those that the list names, part by part.
+    ensures kinds { IfOk result (λ kinds. NamesKinds list.now kinds.items) }
+    // A part that is no kind is told by its number, and the parts before it name kinds.
+    ensures unknown { IfErr result (IsNoList list.now) }
+{
+    let parts = parts_of(alloc, list)?;
     let mut kinds = Vec::new(alloc);
-    let mut number: u32 = 0;
-    for part in list.split(',') {
-        number = number.saturating_add(1);
+    for (index, part) in parts.iter().enumerate() {
         match read_kind(part) {
             Some(kind) => push_kind(&mut kinds, kind)?,
-            None => return Err(KindsError::Unknown(number)),
+            None => return Err(KindsError::Unknown(number_of(index))),
         }
     }
     Ok(kinds)

@@ -34,7 +34,7 @@ use Rattle.cell_show.specs.declared.error.ShowError.TheVariants as error
 use Rattle.cell_show.specs.declared.show.Form.{Form}
 use Rattle.cell_show.specs.declared.show.Form.TheVariants as form
 use Rattle.cellctl.specs.Measured.{MeasuresJournals}
-use Rattle.cellctl.specs.Swept.{AreKinds, AreMotions}
+use Rattle.cellctl.specs.Swept.{AreKinds, AreMotions, HasNoKind, IsNoCount}
 use Rattle.cellctl.specs.declared.explain.Text.{Text}
 use Rattle.cellctl.specs.declared.explain.Text.TheVariants as explained
 use Rattle.cellctl.specs.declared.show.Timed.{Timed}
@@ -207,7 +207,7 @@ SweepsSome w old new written =
 -- the list or the number is wrong: a line among the errors says so, and nothing is printed
 abbrev pub IsMistaken : Sweeping → Option (List ℕ) → Option (List ℕ) → Option (List ℕ) → Option (List ℕ) → Result ℕ WriteFault → Type 0
 IsMistaken sweeping old new old_errors new_errors written =
-    (IsGiven sweeping.kinds ⊎ IsGiven sweeping.motions) × ((status : ℕ) × (written ≡ Ok status) × IsWrong old new old_errors new_errors status)
+    (((number : ℕ) × HasNoKind sweeping.kinds number) ⊎ IsNoCount sweeping.motions) × ((status : ℕ) × (written ≡ Ok status) × IsWrong old new old_errors new_errors status)
 
 -- what is written of a sweep for the words of its command
 abbrev pub SweepsFiles : Sweeping → Option (List ℕ) → Option (List ℕ) → Option (List ℕ) → Option (List ℕ) → Result ℕ WriteFault → Type 0

@@ -1,8 +1,8 @@
 //! The command that runs the simulated cell once for each fault.
 ghost use Rattle.std.specs.Prelude.{IfErr, IfNone, IfOk, IfSome};
 ghost use Rattle.cell_sweep.specs.Sweeps.{wanted};
-ghost use Rattle.cellctl.specs.Carried.{IsGiven, SweepsFiles, SweepsSome};
-ghost use Rattle.cellctl.specs.Swept.{AreKinds, AreMotions};
+ghost use Rattle.cellctl.specs.Carried.{SweepsFiles, SweepsSome};
+ghost use Rattle.cellctl.specs.Swept.{AreKinds, AreMotions, HasNoKind, IsNoCount};
 
 use crate::failure::Failure;
 use crate::texts::{script_in, settings_in, tell_too_long};
@@ -24,7 +24,7 @@ const MOST_MOTIONS: u32 = 1_000_000;
 // word that is no kind.
 fn kinds_of(alloc: Global, list: Option<&str>) -> Result<Result<Vec<Fault>, u32>, AllocError>
     ensures known { IfOk result (λ read. IfOk read (λ kinds. AreKinds list.entry kinds.items)) }
-    ensures wrong { IfOk result (λ read. IfErr read (λ _. IsGiven list.entry)) }
+    ensures wrong { IfOk result (λ read. IfErr read (HasNoKind list.entry)) }
 {
     let Some(list) = list else {
         return Ok(Ok(Vec::from_slice(alloc, KINDS.as_slice())?));
@@ -39,7 +39,7 @@ fn kinds_of(alloc: Global, list: Option<&str>) -> Result<Result<Vec<Fault>, u32>
 // How many motions a word asks for, if there is one; `None` where it is no such number.
 fn motions_of(word: Option<&str>) -> Option<Option<u32>>
     ensures known { IfSome result (AreMotions word.entry) }
-    ensures wrong { IfNone result (IsGiven word.entry) }
+    ensures wrong { IfNone result (IsNoCount word.entry) }
 {
     match word {
         Some(word) => Some(Some(read_number(MOST_MOTIONS, word.as_bytes())?)),

@@ -11,10 +11,11 @@ loop-planned-init g c =
 pub loop-planned-preserved : goal.loop-planned-preserved
 loop-planned-preserved g c =
     let (same, told) = c.loop-planned.invariant in
-    let sweep = c.args.task.now.sweep in
-    (c.in_ok-end.ensures.writer ∙ same,
-    case-more _ _ (wanted sweep.kinds.now sweep.motions sweep.service sweep.csv) c.args.cases.now c.loop-planned.planned-index _ _ _ _
-    c.loop-planned-test.true told c.in_ok-end.ensures.told)
+    let sweep = c.args.task.now.sweep in (
+      c.in_ok-end.ensures.writer ∙ same,
+      case-more _ _ (wanted sweep.kinds.now sweep.motions sweep.service sweep.csv) c.args.cases.now c.loop-planned.planned-index _ _ _ _
+          c.loop-planned-test.true told c.in_ok-end.ensures.told,
+    )
 
 pub returns-in_err-end-clause-writer : goal.returns-in_err-end-clause-writer
 returns-in_err-end-clause-writer g c =

@@ -5,7 +5,7 @@ use Rattle.cellctl.proofs.sweep.sweep_words.Goals as goal
 pub returns-in-Err : goal.returns-in-Err
 returns-in-Err g c =
     inr (
-      inl (rw c.in-Err.is at c.in_ok-kinds.ensures.wrong),
+      inl (c.in-Err.number, rw c.in-Err.is at c.in_ok-kinds.ensures.wrong),
       (2, c.in_ok-wrong-in-Err.ensures.status, (refl, refl, c.as_str.result.now, c.in_ok-wrong-in-Err.ensures.line)),
     )
 
