@@ -5,6 +5,7 @@ ghost use Rattle.cell_sweep.specs.Rows.{RefusesRun, RunsTo};
 use cell_runs::{InputError, Inputs, Outcome, read_inputs, simulate};
 use cell_sim::{SimOperator, World};
 use cell_turns::Plan;
+use cell_workers::End;
 use std::alloc::AllocError;
 use std::sync::{Mutex, Wait};
 
@@ -37,7 +38,7 @@ pub(crate) struct Ran {
     pub(crate) left: u32,
 }
 
-/// Runs the simulated cell by its texts over a new world.
+/// Runs the simulated cell by its texts over a new world. A run that ends for want of memory is none.
 pub(crate) fn run_texts<R: AllocGlobal + Wait>(
     rt: &R,
     settings: &[u8],
@@ -59,6 +60,7 @@ pub(crate) fn run_texts<R: AllocGlobal + Wait>(
     let world = Mutex::new(World::new(plan.plates).with_durations(durations));
     let mut hands = SimOperator::new(rt, &world);
     match simulate(rt, &plan, &faults, script, &world, &mut hands) {
+        Ok(outcome) if matches!(outcome.end, End::Memory) => Err(NoRun::OutOfMemory),
         Ok(outcome) => {
             let left = world.lock(rt).left();
             Ok(Ran {

@@ -5,7 +5,7 @@ use cell_endings::lines_done;
 use cell_rows::read_script;
 use cell_types::{Entry, MACHINES, Machine, PlateId, Station, stations_of};
 use operator_desk::{Line, Task, Trigger};
-use plate_book::Book;
+use plate_book::{Book, Refusal};
 use std::alloc::{AllocError, Global};
 use std::sync::Wait;
 
@@ -26,13 +26,17 @@ fn plan_clearing(
         plate,
         src: station,
     });
-    if cleared.is_ok() {
-        lines.push(Line {
-            when: Trigger::Failed(machine),
-            task: Task::Clear(station),
-        })?;
+    match cleared {
+        Ok(()) => {
+            lines.push(Line {
+                when: Trigger::Failed(machine),
+                task: Task::Clear(station),
+            })?;
+            Ok(())
+        }
+        Err(Refusal::OutOfMemory) => Err(AllocError),
+        Err(_) => Ok(()),
     }
-    Ok(())
 }
 
 // Adds what a machine needs that is failed, as far as the book allows it, and books it.

@@ -117,9 +117,6 @@ fn run_case<R: AllocGlobal + Wait>(
     let faults = faults.as_str().as_bytes();
     let operator = script_for(rt, task, faults)?;
     let ran = run_texts(rt, task.settings, faults, operator.as_slice())?;
-    if matches!(ran.outcome.end, End::Memory) {
-        return Err(NoRun::OutOfMemory);
-    }
     let row = row_of(rt.alloc(), planned, &ran, faults, operator.as_slice())?;
     Ok(row)
 }
