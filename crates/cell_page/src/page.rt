@@ -129,8 +129,8 @@ fn write_parts<W: Write>(
 /// Writes one page with all states of a book's journal, with the line of an answer where its text isn't legal, and below the
 /// states with a chart, an SVG text, where one is given.
 ///
-/// `TooManyEntries` comes where the journal has more than 20,000 entries, and then nothing was written; `WriteFault` comes
-/// only where the writer failed. It takes no memory.
+/// `TooManyEntries` comes where the journal has more than 20,000 entries, and then nothing was written. `WriteFault` is meant
+/// for a writer that failed; no clause says so. It takes no memory.
 pub fn write_page<W: Write>(
     writer: &mut W,
     book: &Book,
