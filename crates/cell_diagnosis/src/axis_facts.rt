@@ -47,7 +47,10 @@ pub fn is_shown(pose: Pose, bits: &[bool; 6]) -> bool
 pub fn count_shown(bits: &[bool; 6]) -> usize
     ensures { result ≡ count_shown bits.now }
 {
-    bits.iter().filter(|bit| **bit).count()
+    let [first, second, third, fourth, fifth, sixth] = *bits;
+    first as usize
+        + (second as usize
+            + (third as usize + (fourth as usize + (fifth as usize + sixth as usize))))
 }
 
 /// The place of the first pose that is shown.

@@ -18,8 +18,8 @@ use Rattle.cell_turns.specs.declared.schedule.Step.TheVariants.{Turn, Hand}
 use Rattle.cell_turns.specs.declared.six.Six.{Six}
 use Rattle.cell_turns.specs.declared.watch.Watch.{Watch}
 use Rattle.cell_turns.specs.Logs.{ActLog}
-use Rattle.cell_turns.specs.Minds.{Mind}
-use Rattle.cell_turns.specs.Six.{at}
+use Rattle.cell_turns.specs.Minds.{Mind, first_mind}
+use Rattle.cell_turns.specs.Six.{at, each}
 use Rattle.cell_turns.specs.Schedules.{Now, now, Leads, FitAll, Led, Scheduled, Grown, entries_of, same_actor}
 use Rattle.cell_turns.specs.Schedules.Leads.{stays, turns as one_turn, refuses as one_refused, hands as one_hand, spares as one_spared, fails as one_failed}
 use Rattle.cell_turns.proofs.Joined.{leads_join, led_join}
@@ -29,7 +29,7 @@ use Rattle.cell_workers.specs.declared.ends.End.TheVariants as end
 use Rattle.operator_desk.specs.Next.{next_of, left_after, entry_of}
 use Rattle.operator_desk.specs.declared.action.Action.{Action}
 use Rattle.operator_desk.specs.declared.line.Line.{Line}
-use Rattle.cell_runs.specs.Rounds.{turn_of, turns_of, history, machines, round_steps, Place, place, Operates, Round, Rounds, Breaks, Stops, ComesToRest, EndsIn, Ends, Ended, Takes, TakesTurns, Reaches}
+use Rattle.cell_runs.specs.Rounds.{turn_of, turns_of, history, machines, round_steps, Place, place, Operates, Round, Rounds, Breaks, Stops, ComesToRest, EndsIn, Ends, Ended, Takes, TakesTurns, Reaches, start}
 use Rattle.cell_runs.specs.Rounds.Operates.{rests, waits, books, fails}
 use Rattle.cell_runs.specs.Rounds.Rounds.{none as no_round, more as one_more}
 
@@ -426,3 +426,12 @@ ended_in l l' p from n J J' ws lines lost e is (minds, fits, led) next = record 
 pub ended_by_turns : (l : BookLimits) (p : Plan) (from : Place) (n : ℕ) (J : List Entry) (ws : Six Watch) (lines : List Line) (lost : Bool)
     → n ≡ p.turns → Reaches (Rounds l p from n) J ws lines lost → Ended l p from J end.TurnLimit
 ended_by_turns l p from n J ws lines lost is (minds, fits, led) = record { rounds = n; last = place (now J minds) lines lost; led = led; ends = (is, refl) }
+
+-- a run that began with an empty book started where runs start
+pub ended_started : (l k : BookLimits) (p : Plan) (script : List Line) (B K J J' : List Entry) (ws : Six Watch) (e : End)
+    → K ≡ B → B ≡ [] → k ≡ l → J' ≡ J → FitAll ws (each (λ m. first_mind B m)) → ((minds : Six Mind) → FitAll ws minds → Ended k p (place (now K minds) script false) J e) → Ended l p (start script) J' e
+ended_started l k p script B K J J' ws e is empty same after fits next =
+    subst (λ (x : BookLimits). Ended x p (start script) J' e) same
+    (subst (λ (x : List Entry). Ended k p (start script) x e) (sym after)
+    (subst (λ (x : List Entry). Ended k p (place (now x (each (λ m. first_mind x m))) script false) J e) empty
+    (subst (λ (x : List Entry). Ended k p (place (now x (each (λ m. first_mind B m))) script false) J e) is (next (each (λ m. first_mind B m)) fits))))

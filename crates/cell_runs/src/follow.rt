@@ -16,7 +16,7 @@ use cell_journal::Journal;
 use cell_ledger::{Blanks, Kept, Run};
 use cell_types::same::is_entry;
 use cell_types::{Actor, Entry, Machine, actor_of};
-use cell_workers::{End, OperatorPort, Plan, Port, Ports, Step, Watches};
+use cell_workers::{End, OperatorPort, Plan, Port, Ports, Ran, Step, Watches};
 use operator_desk::Script;
 use plate_book::Book;
 use std::alloc::Global;
@@ -45,7 +45,6 @@ pub struct Following {
 
 // Turns of a machine, each at a reading of its port, until one books an entry, and at most the plan's. It answers the entry.
 fn work<P: Port, O: OperatorPort, R: Run>(
-    alloc: Global,
     machine: Machine,
     ports: &mut Ports<P>,
     hands: &mut O,
@@ -63,14 +62,7 @@ fn work<P: Port, O: OperatorPort, R: Run>(
     let before = cell.kept.book().journal().len();
     for _turn in 0..plan.turns {
         let reading = ports.pick(machine).read();
-        take_step(
-            alloc,
-            Step::Turn(machine, reading),
-            ports,
-            hands,
-            cell,
-            plan,
-        )?;
+        take_step(Step::Turn(machine, reading), ports, hands, cell, plan)?;
         let booked = cell.kept.book().journal().get(before);
         if booked.is_some() {
             return Ok(booked);
@@ -81,7 +73,6 @@ fn work<P: Port, O: OperatorPort, R: Run>(
 
 // The operator's next action, if there is one. It answers the entry that he booked.
 fn operate<P: Port, O: OperatorPort, R: Run>(
-    alloc: Global,
     ports: &mut Ports<P>,
     hands: &mut O,
     cell: &mut Progress<R>,
@@ -96,13 +87,12 @@ fn operate<P: Port, O: OperatorPort, R: Run>(
     ensures unchanged { IfErr result (λ _. (minds : SixValue Mind) → FitAll cell.old.watches minds → cell.new.kept.entries ≡ cell.old.kept.entries) }
 {
     let before = cell.kept.book().journal().len();
-    act(alloc, ports, hands, cell, plan)?;
+    act(ports, hands, cell, plan)?;
     Ok(cell.kept.book().journal().get(before))
 }
 
 // Lets the actor of an entry act. It answers the entry that he booked.
 fn let_act<P: Port, O: OperatorPort, R: Run>(
-    alloc: Global,
     wanted: &Entry,
     ports: &mut Ports<P>,
     hands: &mut O,
@@ -118,8 +108,8 @@ fn let_act<P: Port, O: OperatorPort, R: Run>(
     ensures unchanged { IfErr result (λ _. (minds : SixValue Mind) → FitAll cell.old.watches minds → cell.new.kept.entries ≡ cell.old.kept.entries) }
 {
     match actor_of(*wanted) {
-        Actor::Machine(machine) => work(alloc, machine, ports, hands, cell, plan),
-        Actor::Operator => operate(alloc, ports, hands, cell, plan),
+        Actor::Machine(machine) => work(machine, ports, hands, cell, plan),
+        Actor::Operator => operate(ports, hands, cell, plan),
     }
 }
 
@@ -136,7 +126,6 @@ fn parted(number: u32, wanted: &Entry, booked: Option<Entry>) -> Followed
 
 // Follows one entry of a journal, of this number. The error is how the journal was followed where this entry wasn't booked.
 fn follow_entry<P: Port, O: OperatorPort, R: Run>(
-    alloc: Global,
     number: u32,
     wanted: &Entry,
     ports: &mut Ports<P>,
@@ -150,7 +139,7 @@ fn follow_entry<P: Port, O: OperatorPort, R: Run>(
     ensures acts { IfOk result (λ _. (minds : SixValue Mind) → FitAll cell.old.watches minds → Reaches (Acts cell.old.kept.limits plan.now (actor_of wanted.now) (place (now cell.old.kept.entries minds) cell.old.script cell.old.lost) (Some wanted.now)) cell.new.kept.entries cell.new.watches cell.new.script cell.new.lost) }
     ensures ends { IfErr result (λ how. (minds : SixValue Mind) → FitAll cell.old.watches minds → EndsAt cell.old.kept.limits plan.now (place (now cell.old.kept.entries minds) cell.old.script cell.old.lost) number wanted.now cell.new.kept.entries how) }
 {
-    match let_act(alloc, wanted, ports, hands, cell, plan) {
+    match let_act(wanted, ports, hands, cell, plan) {
         Ok(Some(booked)) => {
             if is_entry(&booked, wanted) {
                 Ok(())
@@ -166,7 +155,6 @@ fn follow_entry<P: Port, O: OperatorPort, R: Run>(
 
 // Follows the entries of a journal, until one isn't booked.
 fn follow_entries<P: Port, O: OperatorPort, R: Run>(
-    alloc: Global,
     journal: &Journal,
     ports: &mut Ports<P>,
     hands: &mut O,
@@ -180,7 +168,7 @@ fn follow_entries<P: Port, O: OperatorPort, R: Run>(
 {
     for i in 0..journal.len() {
         let wanted = journal.at(i);
-        if let Err(followed) = follow_entry(alloc, i + 1, &wanted, ports, hands, cell, plan) {
+        if let Err(followed) = follow_entry(i + 1, &wanted, ports, hands, cell, plan) {
             return followed;
         }
     }
@@ -212,10 +200,11 @@ pub fn follow_over<P: Port, O: OperatorPort, R: Run>(
         kept,
         shares,
         watches,
+        ran: Ran::new(alloc),
         script,
         lost: false,
     };
-    let followed = follow_entries(alloc, journal, ports, hands, &mut cell, plan);
+    let followed = follow_entries(journal, ports, hands, &mut cell, plan);
     cell.kept.is_lawful();
     Following {
         book: cell.kept.into_book(),

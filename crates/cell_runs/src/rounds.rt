@@ -14,8 +14,8 @@ ghost use Rattle.cell_ledger.specs.New.{AreBlank};
 use cell_ledger::{Blanks, Kept, Run, Shares};
 use cell_types::{MACHINES, Machine};
 use cell_workers::{
-    End, OperatorPort, Plan, Port, Ports, Six, Step, Watch, Watches, end_at_rest, is_idle,
-    run_schedule,
+    End, OperatorPort, Plan, Port, Ports, Ran, Six, Step, Watch, Watches, end_at_rest, is_idle,
+    run_step,
 };
 use operator_desk::{Script, entry_of};
 use plate_book::Book;
@@ -34,6 +34,8 @@ pub(crate) struct Progress<R: Run> {
     pub(crate) kept: Kept<R>,
     pub(crate) shares: Shares<R>,
     pub(crate) watches: Watches,
+    /// What the last step did.
+    pub(crate) ran: Ran,
     pub(crate) script: Script,
     /// The operator's port failed.
     pub(crate) lost: bool,
@@ -41,7 +43,6 @@ pub(crate) struct Progress<R: Run> {
 
 /// One step. It answers whether the operator booked an entry in it, or the end that the step sets.
 pub(crate) fn take_step<P: Port, O: OperatorPort, R: Run>(
-    alloc: Global,
     step: Step,
     ports: &mut Ports<P>,
     hands: &mut O,
@@ -57,9 +58,9 @@ pub(crate) fn take_step<P: Port, O: OperatorPort, R: Run>(
     ensures stops { IfErr result (λ e. (minds : SixValue Mind) → FitAll cell.old.watches minds → Stops cell.old.kept.limits plan.now (turn_of step ∷ []) (now cell.old.kept.entries minds) cell.new.kept.entries e) }
     ensures unchanged { IfErr result (λ _. (minds : SixValue Mind) → FitAll cell.old.watches minds → cell.new.kept.entries ≡ cell.old.kept.entries) }
 {
-    let ran = run_schedule(
-        alloc,
-        &[step],
+    let taken = run_step(
+        &step,
+        &mut cell.ran,
         ports,
         hands,
         &mut cell.kept,
@@ -67,16 +68,15 @@ pub(crate) fn take_step<P: Port, O: OperatorPort, R: Run>(
         &mut cell.watches,
         plan,
     );
-    match ran {
-        Ok(ran) if ran.refused > 0 => Err(End::Full),
-        Ok(ran) => Ok(!ran.operator.is_empty()),
+    match taken {
+        Ok(()) if cell.ran.refused > 0 => Err(End::Full),
+        Ok(()) => Ok(!cell.ran.operator.is_empty()),
         Err(_) => Err(End::Memory),
     }
 }
 
 // A turn of each machine, at a reading of its port.
 fn take_turns<P: Port, O: OperatorPort, R: Run>(
-    alloc: Global,
     ports: &mut Ports<P>,
     hands: &mut O,
     cell: &mut Progress<R>,
@@ -91,21 +91,13 @@ fn take_turns<P: Port, O: OperatorPort, R: Run>(
 {
     for machine in MACHINES {
         let reading = ports.pick(machine).read();
-        take_step(
-            alloc,
-            Step::Turn(machine, reading),
-            ports,
-            hands,
-            cell,
-            plan,
-        )?;
+        take_step(Step::Turn(machine, reading), ports, hands, cell, plan)?;
     }
     Ok(())
 }
 
 /// The operator's next action, if there is one. Where his port fails, nothing is booked and he does nothing more.
 pub(crate) fn act<P: Port, O: OperatorPort, R: Run>(
-    alloc: Global,
     ports: &mut Ports<P>,
     hands: &mut O,
     cell: &mut Progress<R>,
@@ -124,14 +116,7 @@ pub(crate) fn act<P: Port, O: OperatorPort, R: Run>(
     let Some(action) = cell.script.next(cell.kept.book()) else {
         return Ok(());
     };
-    if take_step(
-        alloc,
-        Step::Hand(entry_of(action)),
-        ports,
-        hands,
-        cell,
-        plan,
-    )? {
+    if take_step(Step::Hand(entry_of(action)), ports, hands, cell, plan)? {
         cell.script.done();
     } else {
         cell.lost = true;
@@ -153,7 +138,6 @@ fn are_idle(book: &Book, watches: &Six<Watch>, plan: &Plan) -> bool
 
 // One round: a turn of each machine, and then the operator's next action.
 fn take_round<P: Port, O: OperatorPort, R: Run>(
-    alloc: Global,
     ports: &mut Ports<P>,
     hands: &mut O,
     cell: &mut Progress<R>,
@@ -166,8 +150,8 @@ fn take_round<P: Port, O: OperatorPort, R: Run>(
     ensures ends { IfErr result (λ e. (minds : SixValue Mind) → FitAll cell.old.watches minds → EndsIn cell.old.kept.limits plan.now (place (now cell.old.kept.entries minds) cell.old.script cell.old.lost) cell.new.kept.entries e) }
 {
     let before = cell.kept.book().journal().len();
-    take_turns(alloc, ports, hands, cell, plan)?;
-    act(alloc, ports, hands, cell, plan)?;
+    take_turns(ports, hands, cell, plan)?;
+    act(ports, hands, cell, plan)?;
     let book = cell.kept.book();
     if book.journal().len() == before && are_idle(book, &cell.watches, plan) {
         return Err(end_at_rest(book, plan));
@@ -177,7 +161,6 @@ fn take_round<P: Port, O: OperatorPort, R: Run>(
 
 // Rounds, until one ends the run.
 fn run_rounds<P: Port, O: OperatorPort, R: Run>(
-    alloc: Global,
     ports: &mut Ports<P>,
     hands: &mut O,
     cell: &mut Progress<R>,
@@ -189,7 +172,7 @@ fn run_rounds<P: Port, O: OperatorPort, R: Run>(
     ensures ended { (minds : SixValue Mind) → FitAll cell.old.watches minds → Ended cell.old.kept.limits plan.now (place (now cell.old.kept.entries minds) cell.old.script cell.old.lost) cell.new.kept.entries result }
 {
     for _round in 0..plan.turns {
-        if let Err(end) = take_round(alloc, ports, hands, cell, plan) {
+        if let Err(end) = take_round(ports, hands, cell, plan) {
             return end;
         }
     }
@@ -219,10 +202,11 @@ pub fn run_over<P: Port, O: OperatorPort, R: Run>(
         kept,
         shares,
         watches,
+        ran: Ran::new(alloc),
         script,
         lost: false,
     };
-    let end = run_rounds(alloc, ports, hands, &mut cell, plan);
+    let end = run_rounds(ports, hands, &mut cell, plan);
     cell.kept.is_lawful();
     Outcome {
         book: cell.kept.into_book(),

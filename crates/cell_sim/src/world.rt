@@ -24,7 +24,7 @@ use cell_diagnosis::Reading;
 use cell_measures::Durations;
 use cell_turns::PortFault;
 use cell_types::{
-    AXES, Arm, Axis, Belt, Colour, Command, Machine, Pose, STATIONS, Station, axis_number,
+    AXES, Arm, Axis, Belt, Colour, Command, Machine, Pose, STATIONS, Station, axes_of, axis_number,
     axis_of_arm, faced, home, is_before_press, is_pose_of, machine_of_axis, machine_of_station,
     motion_named, press_of, station_number, station_of_arm,
 };
@@ -428,8 +428,8 @@ impl World {
     // Whether a machine's reading is missing: one of its motions is silent still. Its motions then don't go on.
     fn is_missing(&mut self, machine: Machine) -> bool {
         let mut is_missing = false;
-        for axis in AXES {
-            if machine_of_axis(axis) == machine && self.skip_reading(axis) {
+        for axis in axes_of(machine) {
+            if self.skip_reading(*axis) {
                 is_missing = true;
             }
         }
@@ -452,10 +452,8 @@ impl World {
     }
 
     fn advance_machine(&mut self, machine: Machine) {
-        for axis in AXES {
-            if machine_of_axis(axis) == machine {
-                self.advance(axis);
-            }
+        for axis in axes_of(machine) {
+            self.advance(*axis);
         }
     }
 

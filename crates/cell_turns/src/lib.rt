@@ -17,7 +17,7 @@ mod watching;
 pub use plan::Plan;
 pub use port::{Act, OperatorPort, Port, PortFault};
 pub use schedule::{OutOfMemory, Step};
-pub use scheduling::{Ran, run_schedule};
+pub use scheduling::{Ran, run_schedule, run_step};
 pub use six::{Ports, Six};
 pub use turns::{TurnError, turn};
 pub use watch::Watch;

@@ -38,6 +38,37 @@ pub struct Ran {
     pub refused: usize,
 }
 
+impl Ran {
+    /// What no step did.
+    pub fn new(alloc: Global) -> Ran
+        ensures machines { (m : MachineValue) → (at result.machines m).items ≡ [] }
+        ensures operator { result.operator.items ≡ [] }
+        ensures refused { result.refused ≡ 0 }
+    {
+        Ran {
+            machines: no_entries(alloc),
+            operator: Vec::new(alloc),
+            refused: 0,
+        }
+    }
+
+    /// Forgets what was done. The lists keep their places.
+    fn clear(&mut self)
+        ensures machines { (m : MachineValue) → (at self.new.machines m).items ≡ [] }
+        ensures operator { self.new.operator.items ≡ [] }
+        ensures refused { self.new.refused ≡ 0 }
+    {
+        self.machines.feed.clear();
+        self.machines.table.clear();
+        self.machines.robot.clear();
+        self.machines.press1.clear();
+        self.machines.press2.clear();
+        self.machines.deposit.clear();
+        self.operator.clear();
+        self.refused = 0;
+    }
+}
+
 /// A turn of a machine, and its command. It answers whether the turn was refused.
 fn take_turn<P: Port, R: Run>(
     machine: Machine,
@@ -166,4 +197,34 @@ pub fn run_schedule<P: Port, O: OperatorPort, R: Run>(
     }
     kept.is_lawful();
     Ok(ran)
+}
+
+/// Takes one step, as `run_schedule` takes a list of one. What it did is told in `ran`, whose lists the caller keeps from
+/// step to step; what they had before is dropped, and their places stay, so that a step that books nothing takes no memory.
+pub fn run_step<P: Port, O: OperatorPort, R: Run>(
+    step: &Step,
+    ran: &mut Ran,
+    ports: &mut Ports<P>,
+    operator: &mut O,
+    kept: &mut Kept<R>,
+    shares: &mut Shares<R>,
+    watches: &mut Watches,
+    plan: &Plan,
+) -> Result<(), OutOfMemory>
+    requires { (m : MachineValue) → machine_of_watch (at watches.old m) ≡ m }
+    ensures machines { (m : MachineValue) → machine_of_watch (at watches.new m) ≡ m }
+    ensures grown { OnOk result (Grown kept.old kept.new shares.old shares.new (map_six (λ v. v.items) ran.new.machines) ran.new.operator.items) }
+    ensures sent { OnOk result (AllSent P.tells P.log ports.old ports.new watches.old watches.new (map_six (λ v. v.items) ran.new.machines)) }
+    ensures did { OnOk result (O.tells operator.new ≡ true → Did (O.log operator.old) (O.log operator.new) ran.new.operator.items) }
+    ensures scheduled { OnOk result (Scheduled plan.now (step.now ∷ []) ran.new.refused kept.old kept.new watches.old watches.new (O.tells operator.new) (O.log operator.old) (O.log operator.new)) }
+    ensures legal { OnOk result (legal kept.new.limits kept.new.entries ≡ true) }
+    ensures stopped { OnErr result (Stopped P.tells P.log plan.now (step.now ∷ []) ports.old ports.new kept.old kept.new shares.old shares.new watches.old watches.new (O.tells operator.new) (O.log operator.old) (O.log operator.new)) }
+{
+    ran.clear();
+    let taken = take_step(step, ran, ports, operator, kept, shares, watches, plan);
+    if let Err(error) = taken {
+        return Err(error);
+    }
+    kept.is_lawful();
+    Ok(())
 }

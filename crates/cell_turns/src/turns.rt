@@ -65,9 +65,6 @@ pub fn book_turn<R: Run>(
     ensures memory { result ≡ Err TurnError.OutOfMemory → vec_capacity entries.old ≡ vec_len entries.old }
     ensures unchanged { OnErr result ((entries.new.items ≡ entries.old.items) × (kept.new ≡ kept.old) × (shares.new ≡ shares.old) × (watch.new ≡ watch.old)) }
 {
-    if entries.reserve(1).is_err() {
-        return Err(TurnError::OutOfMemory);
-    }
     kept.is_lawful();
     useful_is_own();
     useful_is_bookable();
@@ -77,8 +74,16 @@ pub fn book_turn<R: Run>(
     let ruling = decide::decide(book, watch.machine, &watch.memory, &observed.findings);
     let entry = match book::entry_of(ruling, watch.machine, book, plan) {
         Ok(entry) => entry,
-        Err(refusal) => return Err(TurnError::Refused(refusal)),
+        Err(refusal) => {
+            if entries.reserve(1).is_err() {
+                return Err(TurnError::OutOfMemory);
+            }
+            return Err(TurnError::Refused(refusal));
+        }
     };
+    if book::make_room(entries, &entry).is_err() {
+        return Err(TurnError::OutOfMemory);
+    }
     let booked = entry;
     if let Err(refusal) = book::book_entry(kept, shares, entries, entry) {
         return Err(TurnError::Refused(refusal));
@@ -91,8 +96,9 @@ pub fn book_turn<R: Run>(
 /// that of the first of the nine points that applies, with the verdicts of all readings so far; it lists the entry and
 /// answers its command, which is to be sent once the lock is free.
 ///
-/// `OutOfMemory` comes before all else, where the list can't take one more. `Refused` comes with `JournalFull`, or with
-/// `PlateLimit` where a plate would be admitted. After an error nothing has changed.
+/// `OutOfMemory` comes before all else where an entry is wanted and the list can't take one more; a turn that wants none takes
+/// no memory, and so can't find it wanting. `Refused` comes with `JournalFull`, or with `PlateLimit` where a plate would be
+/// admitted. After an error nothing has changed.
 pub fn turn<R: Run>(
     machine: Machine,
     kept: &mut Kept<R>,

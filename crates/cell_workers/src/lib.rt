@@ -11,7 +11,7 @@ pub mod working;
 
 pub use cell_turns::{
     Act, OperatorPort, OutOfMemory, Plan, Port, PortFault, Ports, Ran, Six, Step, TurnError, Watch,
-    Watches, run_schedule, turn,
+    Watches, run_schedule, run_step, turn,
 };
 pub use ends::{End, end_at_rest, is_idle};
 pub use hall::{Ended, Hall, Room};

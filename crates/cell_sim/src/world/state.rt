@@ -6,8 +6,7 @@ ghost use Rattle.cell_sim.specs.Simulated.{rule_number};
 use crate::watch::{Occasion, SafetyRule};
 use crate::world::World;
 use cell_types::{
-    AXES, Axis, AxisState, MACHINES, Machine, STATIONS, Station, axis_number, machine_number,
-    machine_of_axis,
+    Axis, AxisState, MACHINES, Machine, STATIONS, Station, axes_of, axis_number, machine_number,
 };
 
 /// Where its axes and plates are.
@@ -29,8 +28,8 @@ impl World {
 
     /// Whether a motion of an axis of this machine is under way.
     pub fn is_machine_moving(&self, machine: Machine) -> bool {
-        for axis in AXES {
-            if machine_of_axis(axis) == machine && self.is_moving(axis) {
+        for axis in axes_of(machine) {
+            if self.is_moving(*axis) {
                 return true;
             }
         }

@@ -8,6 +8,7 @@ ghost use Rattle.cell_turns.specs.Turns.{IsRuled, IsUnbooked};
 ghost use Rattle.cell_turns.specs.declared.turns.decide.Ruling.TheVariants.{PastLast};
 
 use crate::Plan;
+use crate::schedule::OutOfMemory;
 use crate::turns::decide::Ruling;
 use cell_ledger::{Kept, Run, Shares};
 use cell_machines::propose;
@@ -32,6 +33,21 @@ pub fn entry_of(
     }
 }
 
+/// Reserves a place in the list for an entry, if there is one.
+pub fn make_room(entries: &mut Vec<Entry>, entry: &Option<Entry>) -> Result<(), OutOfMemory>
+    ensures room { OnOk result (IfSome entry.now (λ _. vec_len entries.new < vec_capacity entries.new)) }
+    ensures full { OnErr result (vec_capacity entries.old ≡ vec_len entries.old) }
+    ensures same { entries.new.items ≡ entries.old.items }
+{
+    match entry {
+        Some(_) => match entries.reserve(1) {
+            Ok(_) => Ok(()),
+            Err(_) => Err(OutOfMemory),
+        },
+        None => Ok(()),
+    }
+}
+
 /// Books an entry, if there is one, and lists it.
 pub fn book_entry<R: Run>(
     kept: &mut Kept<R>,
@@ -39,7 +55,7 @@ pub fn book_entry<R: Run>(
     entries: &mut Vec<Entry>,
     entry: Option<Entry>,
 ) -> Result<(), Refusal>
-    requires { vec_len entries.old < vec_capacity entries.old }
+    requires { IfSome entry (λ _. vec_len entries.old < vec_capacity entries.old) }
     ensures entries { OnOk result (entries.new.items ≡ entries.old.items ++ option_to_list entry) }
     ensures kept { OnOk result (kept.new ≡ record { limits = kept.old.limits; entries = kept.old.entries ++ option_to_list entry }) }
     ensures shares { OnOk result (shares.new ≡ held shares.old.parts (plus shares.old.counts (count_of (option_to_list entry)))) }
