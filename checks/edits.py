@@ -37,8 +37,9 @@ def edits_of(crate):
 
 
 def plain(text):
-    """The text of a source file without its imports and its hints to inline."""
+    """The text of a source file without its imports, its comments and its hints to inline."""
     text = re.sub(r"^(?:ghost )?use [^;]*;\n", "", text, flags=re.MULTILINE)
+    text = re.sub(r"^ *//.*\n", "", text, flags=re.MULTILINE)
     return re.sub(r"^ *#\[inline(?:\(always\))?\]\n", "", text, flags=re.MULTILINE)
 
 
