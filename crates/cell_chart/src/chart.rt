@@ -187,7 +187,7 @@ fn draw<W: Write>(
 /// holds it, and one for each station which plate is there; a machine is marked from where it is booked failed to its repair.
 /// Above stand how many entries are drawn and their time, and the audit's answer where the journal's text isn't legal.
 ///
-/// `WriteFault` comes only where the writer failed; a first part of the file was written then.
+/// `WriteFault` is meant for a writer that failed, and no clause says so; a first part of the file was written then.
 pub fn draw_chart<W: Write>(
     alloc: Global,
     writer: &mut W,

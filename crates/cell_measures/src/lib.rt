@@ -1,4 +1,4 @@
-//! How long the events of a journal need at least, and how the time goes.
+//! How long the entries of a journal need at least, and how the time goes.
 #![tactic(auto)]
 
 mod clock;

@@ -15,7 +15,7 @@ use std::io::Write;
 /// the lights and the zones, and beside them the counts and the answer's line. Failed machines, forged plates and the
 /// lights are told by a sign or a word besides their colour.
 ///
-/// `WriteFault` comes only where the writer failed; a first part of the file was written then.
+/// `WriteFault` is meant for a writer that failed, and no clause says so; a first part of the file was written then.
 pub fn draw_picture<W: Write>(writer: &mut W, scene: &Scene) -> Result<(), WriteFault> {
     match draw_scene(writer, scene) {
         Ok(()) => Ok(()),

@@ -105,7 +105,9 @@ pub fn check_lines_watched<W: Write>(
 ///
 /// Good settings: `settings ok`, status 0. Settings that are refused: `settings`, the error's name and the path of the
 /// key, if it names one, as `write_escaped` writes it, status 1. Where memory is refused (status 4) nothing is written.
-/// `WriteFault` comes only where the writer failed.
+///
+/// That `WriteFault` comes only where a refused write was noted is a clause of `check_lines_watched`, of which this is the case
+/// of a new writer that notes.
 pub fn check_lines<W: Write>(alloc: Global, text: &[u8], writer: &mut W) -> Result<u8, WriteFault>
     // The line and the status are those of the settings' answer.
     ensures whole { IfOk result (TellsCheck text.now (W.contents writer.old) (W.contents writer.new)) }
