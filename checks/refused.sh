@@ -1,5 +1,5 @@
 #!/usr/bin/env bash
-# Refuses memory: to each call that takes memory (calls) and to the program (program), its first allocation, then its second,
+# Refuses memory: to calls that take memory (calls) and to the program (program), its first allocation, then its second,
 # and so on until a run ends with none refused; and once more with all allocations refused from that one on. Each run has to
 # give want of memory, or the answer with ample memory. docs/HOSTILE.md says how.
 # The crates' tests and the program have to be built: by `rt ci`, or by `rt test` in the crates' folders and `rt run` in
