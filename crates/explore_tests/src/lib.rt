@@ -1,0 +1,7 @@
+//! The tests of `cell_explore`.
+#![tactic(auto)]
+
+#[cfg(test)]
+mod counts;
+#[cfg(test)]
+mod journals;
