@@ -1,8 +1,8 @@
 #!/bin/bash
 # Looks whether the documents are true where a script can tell: each command in a block of the kind `console` is run, and
 # prints what stands there; each excerpt of code stands in its file; each link leads somewhere; each crate is in the map and
-# has its README; the documents name the kit that KIT names; the manual page is what the help texts make, and the completion
-# has each command and option.
+# has its README of at most 40 lines; the documents name the kit that KIT names; the index of docs/PROVED.md is what the sources
+# make; the manual page is what the help texts make, and the completion has each command and option.
 # Usage: checks/docs.sh     Build the program first: ./cellctl --prove does. CELLCTL names another one.
 set -u
 here=$(cd "$(dirname "$0")/.." && pwd) || exit 1
@@ -133,9 +133,10 @@ look_at_crates() {
         [ "$crate: $stands" = "$(grep "^$crate:" crates.txt)" ] || [ "$crate:" = "$(grep "^$crate:" crates.txt)$stands" ] ||
             wrong "docs/CRATES.md tells of $crate that it stands on '$stands'"
         [ -f "crates/$crate/README.md" ] || { wrong "there is no crates/$crate/README.md"; continue; }
-        for heading in "# $crate" '## What it has' '## Proved, by which clause' '## Only tested' '## Neither'; do
+        for heading in "# $crate" '## What it has' '## Only tested' '## Neither'; do
             grep -qxF "$heading" "crates/$crate/README.md" || wrong "crates/$crate/README.md has no heading '$heading'"
         done
+        [ "$(wc -l < "crates/$crate/README.md")" -le 40 ] || wrong "crates/$crate/README.md has more than 40 lines"
     done
     [ "$(wc -l < README.md)" -le 80 ] || wrong "README.md has more than 80 lines"
 }
@@ -145,6 +146,11 @@ look_at_kit() {
     for document in README.md docs/PROVED.md; do
         grep -qF "\`$(cat KIT)\`" "$document" || wrong "$document names another kit than KIT"
     done
+}
+
+# What stands below the mark is made of the sources.
+look_at_proved() {
+    checks/proved.py > "$work/proved" || { wrong "docs/PROVED.md isn't what checks/proved.py makes:"; cat "$work/proved"; }
 }
 
 # The words of a part of a help text: its commands, or its long options.
@@ -186,6 +192,7 @@ look_at_excerpts
 look_at_links
 look_at_crates
 look_at_kit
+look_at_proved
 look_at_words
 echo "documents: $commands commands run; $([ $failed = 0 ] && echo all as they stand || echo some are another)"
 exit $failed
