@@ -80,12 +80,14 @@ class Reach:
 
     def follow_definition(self, it):
         """What a definition names: others of its file, and what the file imports."""
-        words, path = contracts.used_words(it.text), f"Rattle.{it.crate}.specs.{it.module}"
-        own = contracts.specs().modules[path]
+        path = f"Rattle.{it.crate}.specs.{it.module}"
+        own, imports = contracts.specs().modules[path], contracts.specs().imports[path]
+        others = frozenset(name for name, source, _ in imports if source.split(".")[1] not in contracts.sources())
+        words = contracts.used_words(it.text, others)
         for name, other in own.items():
             if contracts.is_named(name, words):
                 self.add_definition(other)
-        self.follow_imports(words, [one for one in contracts.specs().imports[path] if one[0] not in own])
+        self.follow_imports(words, [one for one in imports if one[0] not in own])
 
     def follow_imports(self, words, imports):
         for name, path, old in imports:
@@ -98,15 +100,16 @@ class Reach:
         if crate not in contracts.sources():
             self.foreign.add((crate, name or [it for it in parts if it != "TheVariants"][-1]))
             return
-        if parts[1:2] == ["declared"]:
-            named = [it for it in parts[2:] if it != "TheVariants"]
+        if parts[1:2] in (["declared"], ["contracts"]):
+            named = [it for it in parts[2:] if it not in ("TheVariants", "TheInside")]
             found = contracts.type_named(crate, named[-1], named[:-1])
-            if found:
-                self.add_type(found)
-            return
-        found = contracts.specs().resolve(path, name)
-        if found:
-            self.add_definition(found)
+            add = self.add_type
+        else:
+            found = contracts.specs().resolve(path, name)
+            add = self.add_definition
+        if not found:
+            raise SystemExit(f"believe: {path} has no {name}")
+        add(found)
 
     def add_definition(self, it):
         if it not in self.definitions:

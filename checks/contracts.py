@@ -87,15 +87,15 @@ def words_of(text):
 
 
 @functools.cache
-def used_words(text):
+def used_words(text, constructors=frozenset()):
     """The words of antt in a text, without what follows a point, that aren't bound in it: no variable of a function, a
-    quantifier or a pattern, and no name of a field."""
+    quantifier or a pattern, which may have constructors, and no name of a field."""
     text = re.sub(r"([{;]\s*)[^\s{};=]+(?= = )", r"\1", text)
     if text.startswith("pub record"):
         text = re.sub(r"^ +\S+ : ", " ", text, flags=re.MULTILINE)
-    bound = re.findall(r"λ ([^.λ]*)\.", text) + re.findall(r"[({]([^(){}:]*) : ", text)
+    bound = [re.sub(r":[^)]*", "", it) for it in re.findall(r"λ ([^.λ]*)\.", text)] + re.findall(r"[({]([^(){}:]*) : ", text)
     heads = re.findall(r"^\S.*? =(?= |$)", text, re.MULTILINE)
-    variables = {word for head in heads for word in words_of(head) if word[:1].islower()}
+    variables = {word for head in heads for word in words_of(head) if word[:1].islower() and word not in constructors}
     bound = variables.union(*map(words_of, bound))
     return frozenset({it.partition(".")[0] or it for it in words_of(text) if it not in bound} - bound)
 
@@ -124,9 +124,23 @@ def imports_of(text, ghost):
     return tuple(found)
 
 
+def without_modules(text):
+    """The text of a file of specs/ with the definitions of its modules moved out to the margin."""
+    lines, inside = text.split("\n"), False
+    for place, line in enumerate(lines):
+        if line.startswith("module "):
+            inside = True
+            lines[place] = ""
+        elif inside and line.startswith("  "):
+            lines[place] = line[2:]
+        elif line.strip():
+            inside = False
+    return "\n".join(lines)
+
+
 def split_definitions(crate, module, file):
     """The definitions of a file of specs/."""
-    text = blanked(read(file), "--")
+    text = without_modules(blanked(read(file), "--"))
     opens = re.compile(r"(?:(?:abbrev|unfoldable|pub|data|record) )+(\S+)|(\S+) :(?= |$)")
     blocks, name = [], None
     for number, line in enumerate(text.split("\n"), 1):
