@@ -1,10 +1,13 @@
 #!/usr/bin/env python3
 """Tells what one has to believe of a public call: each definition of specs/ that its clauses reach.
-Usage: checks/believe.sh CRATE::CALL, as cell_audit::audit, plate_book::laws::legal_is_safe or the type cell_workers::Hall
+Usage: checks/believe.sh CRATE::CALL | CRATE
+
+CALL is a call or a type, as in cell_audit::audit, plate_book::laws::legal_is_safe or cell_workers::Hall. Of a whole crate it
+lists those of its definitions that callers of it, or of the crates above, reach, and by name the others.
 
 The clauses' words lead to definitions, and these to more. The types of its signature count too: the value as which contracts
-see a type, and of a trait its members and its methods' clauses. Where a type is named, what its ghost fields and its invariant
-say counts besides. A type that is seen as another value has no fields for a caller, so these lead nowhere. Definitions that
+see a type, and of a trait its members and its methods' clauses. If CALL is a type, what its ghost fields and its impls say
+counts besides. A type that is seen as another value has no fields for a caller, so these lead nowhere. Definitions that
 are only steps of proofs aren't listed. Of std and of the kit's crates it lists the names apart. It reads the sources and
 proves nothing. Exit status 2: no such call, or several."""
 
@@ -25,19 +28,25 @@ def models_of(item):
 
 
 class Reach:
-    """All that the clauses of an item reach."""
+    """All that the clauses of items reach."""
 
-    def __init__(self, item):
+    def __init__(self, *items):
         self.definitions, self.types, self.foreign, self.queue = {}, {}, set(), []
+        for item in items:
+            self.add_item(item)
+        while self.queue:
+            self.follow_definition(self.queue.pop())
+
+    def add_item(self, item):
+        """What an item says itself, of a type with its impls."""
         self.follow_facts(item, item.facts)
         if item.kind in ("struct", "enum", "trait"):
-            for it in models_of(item):
-                self.follow_facts(it, it.facts)
+            for it in members_of(item):
+                if it.kind == "impl":
+                    self.follow_facts(it, it.facts)
             self.add_type(item)
         self.follow_holds(item)
         self.add_owner(item)
-        while self.queue:
-            self.follow_definition(self.queue.pop())
 
     def add_owner(self, item):
         """The type whose function it is, with the bounds of its impl."""
@@ -120,6 +129,28 @@ class Reach:
         return sum(it.lines for it in self.definitions)
 
 
+def reach_of_all():
+    """All that callers of the crates can reach."""
+    return Reach(*(it for crate in contracts.product() for it in contracts.shown(crate)))
+
+
+def tell_crate(crate):
+    """Lists the definitions of a crate that callers of it or of the crates above reach, and by name the others."""
+    reached = reach_of_all().definitions
+    own = [it for defined in contracts.specs().modules.values() for it in defined.values() if it.crate == crate]
+    for file in sorted({it.file for it in own}):
+        here = [it for it in own if it.file == file]
+        believed = [it for it in here if it in reached]
+        print(f"\n{file}, {sum(it.lines for it in believed)} of {sum(it.lines for it in here)} lines")
+        for it in believed:
+            print(f"  {it.line:4}  {it.name}, {it.lines}")
+        others = ", ".join(it.name for it in here if it not in reached)
+        if others:
+            print(f"        for proofs and private functions: {others}")
+    believed = [it for it in own if it in reached]
+    print(f"\n{crate}: {len(believed)} of {len(own)} definitions, {sum(it.lines for it in believed)} lines")
+
+
 def named(call):
     """The items that a call's path names."""
     crate, *parts = call.split("::")
@@ -153,6 +184,9 @@ def main(words):
     if len(words) != 1:
         print("believe: name one call, as cell_audit::audit", file=sys.stderr)
         return 2
+    if words[0] in contracts.sources():
+        tell_crate(words[0])
+        return 0
     found = named(words[0])
     if len(found) != 1:
         print(f"believe: {len(found)} calls are named {words[0]}", file=sys.stderr)

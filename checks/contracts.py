@@ -378,3 +378,53 @@ def type_in(item, name):
         return None
     crate = item.crate if parts[0] in ("crate", "super", "self") else parts[0]
     return type_named(crate, parts[-1], parts[:-1])
+
+
+def product():
+    """The crates but those that hold tests or what tests use, in the order of crates.txt."""
+    names = re.findall(r"^(\w+):", read(f"{TREE}/crates.txt"), re.MULTILINE)
+    return [it for it in names if not it.endswith(("_tests", "_samples"))]
+
+
+def open_modules(crate):
+    """The modules that a library's root opens, and the names that it hands out, each with its module. A program has none."""
+    root = f"{CRATES}/{crate}/src/lib.rt"
+    if not os.path.isfile(root):
+        return set(), set()
+    text = blanked(read(root), "//")
+    modules = set(re.findall(r"^pub mod (\w+)", text, re.MULTILINE)) | {""}
+    paths = [path.split("::") for it in re.findall(r"^pub use ([^;]*);", text, re.MULTILINE) for path in expand(it)]
+    return modules, {(it[-1], tuple(part for part in it[:-1] if part not in ("crate", "self"))) for it in paths}
+
+
+def is_open(item, modules, names):
+    """Whether a caller of the crate can name a type, a trait or a function that stands alone."""
+    parts = item.module.split("::")
+    handed = [path for name, path in names if name == item.name]
+    return item.is_public and (parts[0] in modules and len(parts) == 1 or any(
+        path == tuple(parts[-len(path):]) for path in handed if path))
+
+
+def is_shown(item, modules, names):
+    """Whether a caller of the crate can name an item, or the type or trait that has it; of a program whether it has clauses
+    and stands beside `main`."""
+    if not modules:
+        return item.kind == "fn" and not item.module and bool(item.facts)
+    if not item.owner:
+        return is_open(item, modules, names)
+    owner = type_named(item.crate, item.owner, item.module.split("::"))
+    return bool(owner) and is_open(owner, modules, names) and (item.is_public or item.kind == "impl")
+
+
+@functools.cache
+def shown(crate):
+    """What a caller of the crate can name: functions, types and traits, and what impls of the types say."""
+    modules, names = open_modules(crate)
+    return [it for it in sources()[crate] if is_shown(it, modules, names) and (it.kind != "impl" or it.facts)]
+
+
+def path_of(item):
+    """How an item is named in its crate; of a type's model as the type, and of another impl with its trait."""
+    if item.kind == "impl":
+        return item.owner if item.name == "Model" else f"{item.owner}: {item.name}"
+    return f"{item.owner}::{item.name}" if item.owner else item.name

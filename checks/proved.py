@@ -7,7 +7,6 @@ It says how the page differs, and fails then; `make` writes the page."""
 
 import difflib
 import os
-import re
 import sys
 
 sys.dont_write_bytecode = True
@@ -21,42 +20,6 @@ TEN = [
     "cell_audit::audit", "plate_book::Book::apply", "cell_turns::turn", "cell_method::drive", "cell_explore::explore_lines",
     "cellctl::main_over",
 ]
-
-
-def crates():
-    """The crates but those that hold tests or what tests use, in the order of crates.txt."""
-    names = re.findall(r"^(\w+):", contracts.read(f"{contracts.TREE}/crates.txt"), re.MULTILINE)
-    return [it for it in names if not it.endswith(("_tests", "_samples"))]
-
-
-def open_modules(crate):
-    """The modules that a library's root opens, and the names that it hands out, each with its module. A program has none."""
-    root = f"{contracts.CRATES}/{crate}/src/lib.rt"
-    if not os.path.isfile(root):
-        return set(), set()
-    text = contracts.blanked(contracts.read(root), "//")
-    modules = set(re.findall(r"^pub mod (\w+)", text, re.MULTILINE)) | {""}
-    paths = [path.split("::") for it in re.findall(r"^pub use ([^;]*);", text, re.MULTILINE) for path in contracts.expand(it)]
-    return modules, {(it[-1], tuple(part for part in it[:-1] if part not in ("crate", "self"))) for it in paths}
-
-
-def is_open(item, modules, names):
-    """Whether a caller of the crate can name a type, a trait or a function that stands alone."""
-    parts = item.module.split("::")
-    handed = [path for name, path in names if name == item.name]
-    return item.is_public and (parts[0] in modules and len(parts) == 1 or any(
-        path == tuple(parts[-len(path):]) for path in handed if path))
-
-
-def is_shown(item, modules, names):
-    """Whether a caller of the crate can name an item, or the type or trait that has it; of a program whether it has clauses
-    and stands beside `main`."""
-    if not modules:
-        return item.kind == "fn" and not item.module and bool(item.facts)
-    if not item.owner:
-        return is_open(item, modules, names)
-    owner = contracts.type_named(item.crate, item.owner, item.module.split("::"))
-    return bool(owner) and is_open(owner, modules, names) and (item.is_public or item.kind == "impl")
 
 
 def cited(item):
@@ -77,17 +40,24 @@ def clauses(item):
 
 def rows(crate):
     """The rows of a crate's calls and types, and the calls that no clause speaks of."""
-    modules, names = open_modules(crate)
     listed, silent = [], []
-    for item in contracts.sources()[crate]:
-        if item.kind == "impl" and item.name != "Model" or not is_shown(item, modules, names):
-            continue
-        name = f"{item.owner}::{item.name}" if item.owner and item.kind != "impl" else item.owner or item.name
+    for item in contracts.shown(crate):
+        name = contracts.path_of(item)
         if item.facts:
             listed.append((name, clauses(item), ", ".join(cited(item))))
         elif item.kind == "fn":
             silent.append(name)
     return listed, silent
+
+
+def unreached():
+    """Of each crate the files of specs/ in which no definition is reached by a call or type of any crate."""
+    found = {(it.crate, it.module) for it in believe.reach_of_all().definitions}
+    lone = {}
+    for it in (it for defined in contracts.specs().modules.values() for it in defined.values()):
+        if (it.crate, it.module) not in found and it.module.replace(".", "/") not in lone.setdefault(it.crate, []):
+            lone[it.crate].append(it.module.replace(".", "/"))
+    return lone
 
 
 def made():
@@ -96,13 +66,15 @@ def made():
     lines += ["How many definitions the clauses of ten main contracts reach, std's apart, and how many lines these have.\n"]
     lines += ["\n", "|Contract|Definitions|Lines|\n", "|---|---|---|\n"]
     for call in TEN:
-        item, = believe.named(call)
-        reach = believe.Reach(item)
+        reach = believe.Reach(*believe.named(call))
         lines.append(f"|`{call}`|{len(reach.definitions)}|{reach.lines()}|\n")
+    lone = unreached()
     lines += ["\n", "## Index\n"]
-    lines += ["What a call requires stands in brackets. A clause without a name is `one`, since it stands alone. Of a type that\n"]
-    lines += ["contracts see as another value, `Value` and `view` say as which, and `invariant` what holds of it.\n"]
-    for crate in crates():
+    lines += ["What a call requires stands in brackets. A clause without a name is `one`, since it stands alone. Of a type\n"]
+    lines += ["that contracts see as another value, `Value` and `view` say as which, and `invariant` what holds of it. A type\n"]
+    lines += ["with a trait is what the type says of that trait. `checks/believe.sh CRATE` parts a crate's definitions into\n"]
+    lines += ["those that callers reach and those for proofs and private functions.\n"]
+    for crate in contracts.product():
         listed, silent = rows(crate)
         if not listed and not silent:
             continue
@@ -112,6 +84,8 @@ def made():
             lines += [f"|`{name}`|{said}|{files}|\n" for name, said, files in listed]
         if silent:
             lines += ["\n"] * bool(listed) + [f"No clause: {', '.join(f'`{it}`' for it in silent)}.\n"]
+        if lone.get(crate):
+            lines += ["\n", f"No call here or above reaches: {', '.join(lone[crate])}.\n"]
     return "".join(lines)
 
 
@@ -125,7 +99,8 @@ def main(words):
         with open(PAGE, "w", encoding="utf-8") as out:
             out.write(due)
         return 0
-    for line in list(difflib.unified_diff(page.splitlines(), due.splitlines(), "docs/PROVED.md", "sources", lineterm="", n=0))[:20]:
+    differs = difflib.unified_diff(page.splitlines(), due.splitlines(), "docs/PROVED.md", "sources", lineterm="", n=0)
+    for line in list(differs)[:20]:
         print(line)
     return 0 if page == due else 1
 
