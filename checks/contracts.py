@@ -387,22 +387,27 @@ def product():
 
 
 def open_modules(crate):
-    """The modules that a library's root opens, and the names that it hands out, each with its module. A program has none."""
-    root = f"{CRATES}/{crate}/src/lib.rt"
-    if not os.path.isfile(root):
+    """The modules that a caller of a library can name, and the names that they hand out, each with its module. A program has
+    none."""
+    folder = f"{CRATES}/{crate}/src"
+    if not os.path.isfile(f"{folder}/lib.rt"):
         return set(), set()
-    text = blanked(read(root), "//")
-    modules = set(re.findall(r"^pub mod (\w+)", text, re.MULTILINE)) | {""}
-    paths = [path.split("::") for it in re.findall(r"^pub use ([^;]*);", text, re.MULTILINE) for path in expand(it)]
-    return modules, {(it[-1], tuple(part for part in it[:-1] if part not in ("crate", "self"))) for it in paths}
+    modules, names, due = set(), set(), [""]
+    while due:
+        module = due.pop()
+        modules.add(module)
+        text = blanked(read(f"{folder}/{module.replace('::', '/') or 'lib'}.rt"), "//")
+        due += [f"{module}::{it}".removeprefix("::") for it in re.findall(r"^pub mod (\w+);", text, re.MULTILINE)]
+        for paths in re.findall(r"^pub use ([^;]*);", text, re.MULTILINE):
+            names |= {tuple(path.split("::")) for path in expand(paths)}
+    return modules, {(it[-1], tuple(part for part in it[:-1] if part not in ("crate", "self", "super"))) for it in names}
 
 
 def is_open(item, modules, names):
     """Whether a caller of the crate can name a type, a trait or a function that stands alone."""
-    parts = item.module.split("::")
-    handed = [path for name, path in names if name == item.name]
-    return item.is_public and (parts[0] in modules and len(parts) == 1 or any(
-        path == tuple(parts[-len(path):]) for path in handed if path))
+    parts = tuple(item.module.split("::"))
+    handed = [path for name, path in names if name == item.name and path]
+    return item.is_public and (item.module in modules or any(path == parts[-len(path):] for path in handed))
 
 
 def is_shown(item, modules, names):
