@@ -1,0 +1,146 @@
+#!/usr/bin/env python3
+"""Says whether an exercise is solved. From the repository's top:
+
+    examples/exercises/check.py NUMBER [FILE]
+
+FILE is the answer; where none is given it is the file `mine` with the ending of the exercise's starting file, in its folder. The
+status is 0 if it is solved, else 1, and a line says what is missing. The last exercise has 42 runs, or with `--all` 126.
+"""
+import argparse
+import concurrent.futures
+import difflib
+import os
+import subprocess
+import sys
+import tempfile
+from pathlib import Path
+
+HERE = Path(__file__).resolve().parent
+CELLCTL = os.environ.setdefault("CELLCTL", str(HERE.parents[1] / "cellctl"))
+sys.path.insert(0, str(HERE.parent / "methods"))
+import compare  # noqa: E402
+
+EDITS = 6       # so many lines of the journal may be written anew
+
+
+class Missing(Exception):
+    """What is missing of a solution."""
+
+
+def need(holds, what):
+    if not holds:
+        raise Missing(what)
+
+
+def told(*words):
+    """The lines that the program prints on standard output."""
+    return subprocess.run([CELLCTL, *map(str, words)], stdout=subprocess.PIPE, text=True).stdout.splitlines()
+
+
+def repair(folder, file, asked):
+    answer = told("audit", file)
+    need(answer[0].startswith("legal"), f"{answer[0]}; {told('explain', file)[0]}")
+    need({"forged 2", "delivered 2"} <= set(answer), f"two plates have to be forged and delivered: {', '.join(answer)}")
+    changes = difflib.unified_diff(Path(folder, "start.journal").read_text().splitlines(), file.read_text().splitlines(), n=0)
+    lines = [line[0] for line in changes if line[:3] not in ("---", "+++", "@@ ")]
+    need(max(lines.count("+"), lines.count("-")) <= EDITS, f"more than {EDITS} lines are another than in start.journal")
+
+
+def serve(folder, file, asked):
+    answer = told("sim", folder / "cell.toml", folder / "given.faults", file)
+    need(answer[0] == "finished", f"the run ends with {answer[0]}")
+    need("delivered 4" in answer, f"four plates have to be delivered: {', '.join(answer)}")
+
+
+def find(folder, file, asked):
+    need(len(file.read_text().split()) == 1, "the script has to have one line")
+    given = Path(folder, "given.journal").read_text().splitlines()
+    mine = told("sim", "--journal", folder / "cell.toml", file, "/dev/null")
+    for number, (wanted, have) in enumerate(zip([*given, "nothing"], [*mine, "nothing"]), 1):
+        need(wanted == have, f"line {number} of the journal is {wanted}, and by this script {have}")
+
+
+def drive(folder, method, faults="/dev/null"):
+    """What the cell tells of a method by the settings of an exercise."""
+    return compare.run(str(method), (str(folder / "cell.toml"), str(faults), "/dev/null"))
+
+
+def need_true(run, when):
+    """Nothing untrue was booked in a run, and no safety rule was broken."""
+    for word in ("untrue", "broken"):
+        need(run.get(word) == 0, f"{when}: {word} {run.get(word)}")
+
+
+def need_finished(run, plates):
+    need(run.get("end") == "finished", f"without a fault the run ends with {run.get('end')}, delivered {run.get('delivered')}")
+    need(run.get("delivered") == plates, f"delivered {run.get('delivered')} of {plates} plates")
+    need_true(run, "without a fault")
+
+
+def one_press(folder, method, asked):
+    need_finished(drive(folder, method), 3)
+
+
+def journal_of(folder, method):
+    """The journal of a method's run without a fault."""
+    pipes = '"$1" drive --journal "$2" /dev/null /dev/null < "$0/lines" 2> "$0/journal" | "$3" > "$0/lines" 2> /dev/null'
+    with tempfile.TemporaryDirectory() as work:
+        os.mkfifo(f"{work}/lines")
+        subprocess.run(["bash", "-c", pipes, work, CELLCTL, folder / "cell.toml", method], stdout=subprocess.DEVNULL)
+        return Path(work, "journal").read_text().splitlines()
+
+
+def two_presses(folder, method, asked):
+    need_finished(drive(folder, method), 6)
+    forged = [line.split(",")[1] for line in journal_of(folder, method) if line.startswith("forged,")]
+    counts = [forged.count(press) for press in ("press1", "press2")]
+    need(min(counts) >= 2, f"press 1 forged {counts[0]} plates and press 2 {counts[1]}, and each has to forge two at least")
+
+
+def need_five(folder, method, script):
+    """With a fault in a press all plates but one are delivered."""
+    with tempfile.NamedTemporaryFile("w", suffix=".faults") as faults:
+        faults.write(script)
+        faults.flush()
+        run = drive(folder, method, faults.name)
+    when = f"with the fault {script.strip()}"
+    need(run.get("delivered", 0) >= 5, f"{when}: delivered {run.get('delivered')} of 6 plates, and 5 have to be")
+    need_true(run, when)
+
+
+def a_press_fails(folder, method, asked):
+    need_finished(drive(folder, method), 6)
+    swept = compare.sweep("9" if asked.all else "3", (str(folder / "cell.toml"), "/dev/null"))
+    scripts = [compare.script_of(row) for row in swept if row["axis"].startswith("press")]
+    with concurrent.futures.ThreadPoolExecutor(os.cpu_count()) as pool:
+        runs = [pool.submit(need_five, folder, method, script) for script in scripts]
+        try:
+            for run in runs:
+                run.result()
+        finally:
+            pool.shutdown(cancel_futures=True)
+
+
+EXERCISES = [repair, serve, find, one_press, two_presses, a_press_fails]
+
+
+def main():
+    words = argparse.ArgumentParser(description="Says whether an exercise is solved.")
+    words.add_argument("number", type=int, choices=range(1, len(EXERCISES) + 1), help="the exercise's number")
+    words.add_argument("file", nargs="?", metavar="FILE", help="the answer; else the file mine in the exercise's folder")
+    words.add_argument("--all", action="store_true", help="of the last exercise every motion of a press, and not the first three")
+    asked = words.parse_args()
+    folder = next(HERE.glob(f"{asked.number}_*"))
+    start = next(folder.glob("start.*"))
+    file = Path(asked.file).resolve() if asked.file else start.with_name("mine" + start.suffix)
+    try:
+        need(file.is_file(), f"there is no file {os.path.relpath(file)}")
+        EXERCISES[asked.number - 1](folder, file, asked)
+    except Missing as missing:
+        print(f"exercise {asked.number}: not yet: {missing}")
+        sys.exit(1)
+    print(f"exercise {asked.number}: solved")
+
+
+if __name__ == "__main__":
+    main()
