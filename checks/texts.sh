@@ -193,7 +193,7 @@ outputs_that_fail() {
     for words in 'audit' 'migrate' 'show' 'show --svg' 'show --html' 'explain' 'explain --settings good' '--help' '--version' 'check good' \
         'audit journal' 'migrate journal' 'show --file journal' 'explain journal' 'measure journal' 'measure --csv journal' 'sim good none none' 'sim --explain good none none' \
         'sim --journal good none none' 'sim --measures good none none' 'run good none none' 'run --journal good none none' 'run --measures good none none' \
-        'drive good none none' 'drive --raw good none none'; do
+        'drive good none none' 'drive --raw good none none' 'explore 1' 'explore --journal 1'; do
         # The words of a command are parted at blanks.
         # shellcheck disable=SC2086
         {
@@ -294,6 +294,29 @@ words_back() {
     done
 }
 
+# Words of explore that ask nothing, and why. Nothing is printed.
+wrong_questions() {
+    local numbers='error: STATES is a whole number from 1 to 4294967295'
+    local machines='error: MACHINE is feed, table, robot, press1, press2 or deposit, and not'
+    while IFS='|' read -r words why; do
+        # The words of a command are parted at blanks.
+        # shellcheck disable=SC2086
+        "$cellctl" explore $words > said 2> told < /dev/null
+        ended "cellctl explore $words" $? 2 "$why"
+        [ ! -s said ] || { echo '  wanted: nothing on standard output'; failed=1; }
+    done << END
+16|error: PLATES is a whole number from 0 to 15
+-- -1|error: PLATES is a whole number from 0 to 15
+4294967296|error: PLATES is a whole number from 0 to 15
+one|error: PLATES is a whole number from 0 to 15
+--limit 0 1|$numbers
+--limit 4294967296 1|$numbers
+--limit 1e6 1|$numbers
+--fail brew 1|$machines 'brew'
+--fail robot --fail Robot --fail brew 1|$machines 'Robot'
+END
+}
+
 audit_texts
 settings_texts
 script_texts
@@ -304,5 +327,6 @@ outputs_that_fail
 files_that_fail
 named_files
 words_back
+wrong_questions
 echo "hostile texts and outputs: $([ $failed = 0 ] && echo all as due || echo some are another)"
 exit $failed

@@ -4,10 +4,11 @@ _cellctl() {
     local word=${COMP_WORDS[COMP_CWORD]} before=${COMP_WORDS[COMP_CWORD - 1]} words=
     COMPREPLY=()
     if [ "$COMP_CWORD" = 1 ]; then
-        words='audit migrate show explain measure check sim sweep drive run help --help --version'
+        words='audit migrate show explain measure check sim sweep explore drive run help --help --version'
     else
         case "${COMP_WORDS[1]} $before" in
-            'explain --settings' | 'explain --faults' | 'explain --operator' | 'show --file' | 'show -f' | 'sim --follow' | *' --times' | 'sweep --kinds' | 'sweep --motions') return ;;
+            'explain --settings' | 'explain --faults' | 'explain --operator' | 'show --file' | 'show -f' | 'sim --follow' | *' --times' | 'sweep --kinds' | 'sweep --motions' | 'explore --limit') return ;;
+            'explore --fail') mapfile -t COMPREPLY < <(compgen -W 'feed table robot press1 press2 deposit' -- "$word"); return ;;
         esac
         case ${COMP_WORDS[1]} in
             show) words='--svg --html --unicode --times --file --help' ;;
@@ -17,8 +18,9 @@ _cellctl() {
             drive) words='--raw --journal --explain --times --help' ;;
             run) words='--journal --explain --times --measures --help' ;;
             sweep) words='--kinds --motions --service --csv --help' ;;
+            explore) words='--fail --repair --limit --journal --help' ;;
             audit | migrate | check) words='--help' ;;
-            help) words='audit migrate show explain measure check sim sweep drive run' ;;
+            help) words='audit migrate show explain measure check sim sweep explore drive run' ;;
         esac
         # Elsewhere a file may stand, which bash completes itself.
         [[ ${COMP_WORDS[1]} = help || $word = -* ]] || return

@@ -4,7 +4,8 @@ use Rattle.std.specs.Prelude.{IfSome, true}
 use Rattle.clap.specs.Words.{all_of, is_simple, is_simple_and_free, matched_of, raw_values, rows_of}
 use Rattle.clap.specs.declared.parser.matches.Found.{Found}
 use Rattle.clap.proofs.WalkLemmas.{raw_values-rows}
-use Rattle.cell_command.specs.Shape.{cellctl, checking, driving, explain, flagged, judging, measure, measuring, pictured, reading, scripted, show, showing, simulating, sweep, sweeping}
+use Rattle.cell_command.specs.Orders.{values_or_none}
+use Rattle.cell_command.specs.Shape.{cellctl, checking, driving, explain, explore, exploring, flagged, judging, measure, measuring, pictured, reading, scripted, show, showing, simulating, sweep, sweeping}
 
 abbrev pub both : {X A B : Type 0} → (X → A) → (X → B) → X → A × B
 both f g x = (f x, g x)
@@ -26,11 +27,16 @@ pub same-values : (found : Found) (id : List ℕ) (texts values : List (Bor (Lis
 same-values found id texts values h same =
     sym (raw_values-rows found id) ∙ sym h ∙ ap (λ (l : List (Bor (List ℕ))). Some (map (λ v. v.now) l)) (sym same)
 
+-- the values that were found, or none
+pub any-values : (found : Found) (id : List ℕ) (texts : Option (List (List ℕ))) → texts ≡ option_map raw_values (matched_of found id)
+    → values_or_none texts ≡ values_or_none (all_of id (rows_of found))
+any-values found id texts h = ap values_or_none (h ∙ raw_values-rows found id)
+
 -- the program's command line is one of which clap's definitions tell the matches and the faults
 pub cellctl-simple : is_simple cellctl ≡ true
-unfolding checking driving explain flagged judging measure measuring pictured reading scripted show showing simulating sweep sweeping
+unfolding checking driving explain explore exploring flagged judging measure measuring pictured reading scripted show showing simulating sweep sweeping
 cellctl-simple = refl
 
 pub cellctl-free : is_simple_and_free cellctl ≡ true
-unfolding checking driving explain flagged judging measure measuring pictured reading scripted show showing simulating sweep sweeping
+unfolding checking driving explain explore exploring flagged judging measure measuring pictured reading scripted show showing simulating sweep sweeping
 cellctl-free = refl

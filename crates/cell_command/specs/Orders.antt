@@ -1,10 +1,11 @@
 -- What an order has of the words
-use Rattle.std.specs.Prelude.{◌≡◌, ℕ, Bool, true, false, List, Option, Some, None, codes, map, option_map}
+use Rattle.std.specs.Prelude.{◌≡◌, ℕ, Bool, true, false, List, Option, Some, None, codes, map, option_map, []}
 use Rattle.std.specs.Borrow.{Bor}
 use Rattle.clap.specs.Words.{Row, Text, all_of, first_of, one_of, subcommand_of}
 use Rattle.cell_command.specs.Shape.{cellctl}
 use Rattle.cell_command.specs.declared.order.Driving.{Driving}
 use Rattle.cell_command.specs.declared.order.Explaining.{Explaining}
+use Rattle.cell_command.specs.declared.order.Exploring.{Exploring}
 use Rattle.cell_command.specs.declared.order.Measuring.{Measuring}
 use Rattle.cell_command.specs.declared.order.Paths.{Paths}
 use Rattle.cell_command.specs.declared.order.Running.{Running}
@@ -24,6 +25,14 @@ HasValue rows id value = option_map (λ v. v.now) value ≡ first_of id rows
 -- the values that are matched at an id
 abbrev pub HasValues : List Row → Text → List (Bor (List ℕ)) → Type 0
 HasValues rows id values = all_of id rows ≡ Some (map (λ v. v.now) values)
+
+-- the values that are matched at an id, or none
+abbrev pub values_or_none : Option (List Text) → List Text
+values_or_none None = []
+values_or_none (Some values) = values
+
+abbrev pub HasAnyValues : List Row → Text → List (Bor (List ℕ)) → Type 0
+HasAnyValues rows id values = map (λ v. v.now) values ≡ values_or_none (all_of id rows)
 
 -- the flag is set where it is matched
 abbrev pub HasFlag : List Row → Text → Bool → Type 0
@@ -76,6 +85,14 @@ IsSwept rows s = HasValue rows (codes "kinds") s.kinds
     × HasPath rows (codes "settings") s.settings.now
     × HasPath rows (codes "operator") s.operator.now
 
+-- the machines that may fail, the flags, the limit and the number of plates of a search
+abbrev pub IsExplored : List Row → Exploring → Type 0
+IsExplored rows e = HasAnyValues rows (codes "fail") e.failing.items
+    × HasFlag rows (codes "repair") e.repairs
+    × HasValue rows (codes "limit") e.limit
+    × HasFlag rows (codes "journal") e.journal
+    × HasPath rows (codes "plates") e.plates.now
+
 -- the order of a command's name and what is matched below it
 abbrev pub Fits : Text → List Row → Order → Type 0
 Fits name rows (order.Audit file) = (name ≡ codes "audit") × HasValue rows (codes "file") file
@@ -88,6 +105,7 @@ Fits name rows (order.Sim running) = (name ≡ codes "sim") × HasValue rows (co
 Fits name rows (order.SimMeasured running) = (name ≡ codes "sim") × HasValue rows (codes "follow") None × HasFlag rows (codes "measures") true × IsRun rows running
 Fits name rows (order.Follow path running) = (name ≡ codes "sim") × HasValue rows (codes "follow") (Some path) × IsRun rows running
 Fits name rows (order.Sweep sweeping) = (name ≡ codes "sweep") × IsSwept rows sweeping
+Fits name rows (order.Explore exploring) = (name ≡ codes "explore") × IsExplored rows exploring
 Fits name rows (order.Drive driving) = (name ≡ codes "drive") × IsDriven rows driving
 Fits name rows (order.Run running) = (name ≡ codes "run") × HasFlag rows (codes "measures") false × IsRun rows running
 Fits name rows (order.RunMeasured running) = (name ≡ codes "run") × HasFlag rows (codes "measures") true × IsRun rows running

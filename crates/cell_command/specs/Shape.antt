@@ -57,6 +57,10 @@ show = with_rule (with_rule (with_rule (with_rule pictured (flag_rule (codes "un
 abbrev pub several_rule : Text → Rule
 several_rule id = record (new_rule id) { required = true; value_names = 1; action = Some Append }
 
+-- an option that may be given several times
+abbrev pub repeated_rule : Text → Rule
+repeated_rule id = record (file_rule id) { action = Some Append }
+
 unfoldable pub explain : App
 explain =
     with_input (with_rule (with_rule (with_rule (new_app (codes "explain")) (file_rule (codes "settings"))) (file_rule (codes "faults"))) (file_rule (codes "operator")))
@@ -90,6 +94,13 @@ sweep =
     let chosen = with_rule (with_rule optioned (flag_rule (codes "service"))) (flag_rule (codes "csv")) in
     with_rule (with_rule chosen (path_rule (codes "settings"))) (path_rule (codes "operator"))
 
+-- the command that looks at every order of events: the machines that may fail, the flag of repairs, the limit, the flag of the
+-- journal and the number of plates
+unfoldable pub explore : App
+explore =
+    let asked = with_rule (with_rule (new_app (codes "explore")) (repeated_rule (codes "fail"))) (flag_rule (codes "repair")) in
+    with_rule (with_rule (with_rule asked (file_rule (codes "limit"))) (flag_rule (codes "journal"))) (path_rule (codes "plates"))
+
 -- the command by which a method drives the cell, with the flag for commands to the bare machines
 abbrev pub drive : App
 drive = filed (flagged (with_rule (new_app (codes "drive")) (flag_rule (codes "raw"))))
@@ -122,13 +133,18 @@ checking = with_subcommand measuring check.top
 unfoldable pub simulating : App
 simulating = with_subcommand checking sim.top
 
--- the program with all commands but those by which a method drives the cell and which run it on threads
+-- the program with all commands but those by which a method drives the cell and which look at every order of events or run it on
+-- threads
 unfoldable pub sweeping : App
 sweeping = with_subcommand simulating sweep.top
 
+-- the program with all commands but those by which a method drives the cell and which run it on threads
+unfoldable pub exploring : App
+exploring = with_subcommand sweeping explore.top
+
 -- the program with all commands but that which runs the cell on threads
 unfoldable pub driving : App
-driving = with_subcommand sweeping drive.top
+driving = with_subcommand exploring drive.top
 
 abbrev pub cellctl : App
 cellctl =

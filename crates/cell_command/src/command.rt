@@ -2,17 +2,19 @@
 ghost use Rattle.std.specs.Prelude.{◌≡◌, IfOk, codes, false};
 ghost use Rattle.clap.specs.Words.{app_of, new_app, with_rule, with_subcommand};
 ghost use Rattle.clap.specs.declared.builder.command.Command.TheViews.{out-Command};
-ghost use Rattle.cell_command.specs.Shape.{audit, cellctl, check, checking, drive, driving, explain, file_rule, filed, flag_rule, flagged, journal_rule, judging, measure, measuring, migrate, optional_rule, path_rule, pictured, reading, run, scripted, several_rule, show, showing, sim, simulating, sweep, sweeping, times_rule, with_input};
+ghost use Rattle.cell_command.specs.Shape.{audit, cellctl, check, checking, drive, driving, explain, explore, exploring, file_rule, filed, flag_rule, flagged, journal_rule, judging, measure, measuring, migrate, optional_rule, path_rule, pictured, reading, repeated_rule, run, scripted, several_rule, show, showing, sim, simulating, sweep, sweeping, times_rule, with_input};
 
 use crate::help::{
     ABOUT, AFTER, AUDIT_ABOUT, AUDIT_EXAMPLE, AUDIT_HELP, CHECK_ABOUT, CHECK_EXAMPLE, CHECK_HELP,
     CSV_HELP, DRIVE_ABOUT, DRIVE_EXAMPLE, DRIVE_HELP, ENTRY_HELP, EXPLAIN_ABOUT, EXPLAIN_EXAMPLE,
-    EXPLAIN_HELP, EXPLAIN_USAGE, FAULTS_HELP, FILE_HELP, FOLLOW_HELP, HTML_HELP, JOURNAL_HELP,
-    JOURNALS_HELP, KINDS_HELP, LEAST_HELP, MEASURE_ABOUT, MEASURE_EXAMPLE, MEASURE_HELP,
-    MEASURES_HELP, MIGRATE_ABOUT, MIGRATE_EXAMPLE, MIGRATE_HELP, MOTIONS_HELP, OPERATOR_HELP,
-    RAW_HELP, RUN_ABOUT, RUN_EXAMPLE, RUN_HELP, RUNS_HELP, SERVICE_HELP, SETTINGS_HELP, SHOW_ABOUT,
-    SHOW_EXAMPLE, SHOW_HELP, SHOW_USAGE, SIM_ABOUT, SIM_EXAMPLE, SIM_HELP, SVG_HELP, SWEEP_ABOUT,
-    SWEEP_EXAMPLE, SWEEP_HELP, TIMES_HELP, UNICODE_HELP, VERSION, WHY_HELP,
+    EXPLAIN_HELP, EXPLAIN_USAGE, EXPLORE_ABOUT, EXPLORE_EXAMPLE, EXPLORE_HELP, FAIL_HELP,
+    FAULTS_HELP, FILE_HELP, FOLLOW_HELP, HTML_HELP, JOURNAL_HELP, JOURNALS_HELP, KINDS_HELP,
+    LEAST_HELP, LIMIT_HELP, MEASURE_ABOUT, MEASURE_EXAMPLE, MEASURE_HELP, MEASURES_HELP,
+    MIGRATE_ABOUT, MIGRATE_EXAMPLE, MIGRATE_HELP, MOTIONS_HELP, OPERATOR_HELP, PLATES_HELP,
+    RAW_HELP, REPAIR_HELP, RUN_ABOUT, RUN_EXAMPLE, RUN_HELP, RUNS_HELP, SERVICE_HELP,
+    SETTINGS_HELP, SHOW_ABOUT, SHOW_EXAMPLE, SHOW_HELP, SHOW_USAGE, SIM_ABOUT, SIM_EXAMPLE,
+    SIM_HELP, SVG_HELP, SWEEP_ABOUT, SWEEP_EXAMPLE, SWEEP_HELP, TIMES_HELP, UNICODE_HELP, VERSION,
+    WAY_HELP, WHY_HELP,
 };
 use clap::{Arg, ArgAction, Command};
 use std::alloc::{AllocError, Global};
@@ -314,6 +316,40 @@ fn sweep_command<'a>(alloc: Global) -> Result<Command<'a>, AllocError>
     with_path(alloc, settings, "operator", "OPERATOR", OPERATOR_HELP)
 }
 
+// Adds the option with the machines that may fail.
+fn with_failing<'a>(alloc: Global, command: Command<'a>) -> Result<Command<'a>, AllocError>
+    requires local { (out-Command command).has_globals ≡ false }
+    ensures app { IfOk result (λ c. app_of c ≡ with_rule (app_of command.entry) (repeated_rule (codes "fail"))) }
+    ensures local { IfOk result (λ c. (out-Command c).has_globals ≡ false) }
+{
+    let failing = Arg::new(alloc, "fail")
+        .long("fail")
+        .value_name("MACHINE")
+        .action(ArgAction::Append)
+        .help(FAIL_HELP);
+    command.arg(failing)
+}
+
+// The command that looks at every order of events.
+#[tactic(auto, unfolding(crate::specs::Shape::explore))]
+fn explore_command<'a>(alloc: Global) -> Result<Command<'a>, AllocError>
+    ensures app { IfOk result (λ c. app_of c ≡ explore) }
+    ensures local { IfOk result (λ c. (out-Command c).has_globals ≡ false) }
+{
+    let command = described(
+        alloc,
+        "explore",
+        EXPLORE_ABOUT,
+        EXPLORE_HELP,
+        EXPLORE_EXAMPLE,
+    );
+    let failing = with_failing(alloc, command)?;
+    let repair = with_flag(alloc, failing, "repair", REPAIR_HELP)?;
+    let limit = with_file(alloc, repair, "limit", "STATES", LIMIT_HELP)?;
+    let journal = with_flag(alloc, limit, "journal", WAY_HELP)?;
+    with_path(alloc, journal, "plates", "PLATES", PLATES_HELP)
+}
+
 // The command by which a method drives the cell, with the flag for commands to the bare machines.
 fn drive_command<'a>(alloc: Global) -> Result<Command<'a>, AllocError>
     ensures app { IfOk result (λ c. app_of c ≡ drive) }
@@ -413,7 +449,8 @@ fn simulating_commands<'a>(alloc: Global) -> Result<Command<'a>, AllocError>
     add(checking, sim)
 }
 
-// The program with all commands but those by which a method drives the cell and which run it on threads.
+// The program with all commands but those by which a method drives the cell and which look at every order of events or run it on
+// threads.
 #[tactic(auto, unfolding(crate::specs::Shape::sweeping))]
 fn sweeping_commands<'a>(alloc: Global) -> Result<Command<'a>, AllocError>
     ensures app { IfOk result (λ c. app_of c ≡ sweeping) }
@@ -424,15 +461,26 @@ fn sweeping_commands<'a>(alloc: Global) -> Result<Command<'a>, AllocError>
     add(simulating, sweep)
 }
 
+// The program with all commands but those by which a method drives the cell and which run it on threads.
+#[tactic(auto, unfolding(crate::specs::Shape::exploring))]
+fn exploring_commands<'a>(alloc: Global) -> Result<Command<'a>, AllocError>
+    ensures app { IfOk result (λ c. app_of c ≡ exploring) }
+    ensures local { IfOk result (λ c. (out-Command c).has_globals ≡ false) }
+{
+    let sweeping = sweeping_commands(alloc)?;
+    let explore = explore_command(alloc)?;
+    add(sweeping, explore)
+}
+
 // The program with all commands but that which runs the cell on threads.
 #[tactic(auto, unfolding(crate::specs::Shape::driving))]
 fn driving_commands<'a>(alloc: Global) -> Result<Command<'a>, AllocError>
     ensures app { IfOk result (λ c. app_of c ≡ driving) }
     ensures local { IfOk result (λ c. (out-Command c).has_globals ≡ false) }
 {
-    let sweeping = sweeping_commands(alloc)?;
+    let exploring = exploring_commands(alloc)?;
     let drive = drive_command(alloc)?;
-    add(sweeping, drive)
+    add(exploring, drive)
 }
 
 // The program with all commands.

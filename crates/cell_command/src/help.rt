@@ -411,6 +411,46 @@ Exit status: 0 all runs are told, however they ended, 1 a text is refused,
 pub(crate) const SWEEP_EXAMPLE: &str =
     "Example: cellctl sweep --kinds lose_plate,slow:50 examples/press_fails.toml /dev/null";
 
+pub(crate) const EXPLORE_ABOUT: &str = "Look at every order of events of the cell";
+
+pub(crate) const EXPLORE_HELP: &str = "\
+Looks at every state that the cell can reach from its opening with PLATES
+plates, 0 to 15, whatever the order in which machines book what is useful,
+motions end, and plates are laid in and taken out. With --fail a machine, feed,
+table, robot, press1, press2 or deposit, may be declared failed once, at any
+moment; with --repair the operator clears and repairs what failed, whenever
+that is allowed.
+
+Prints how many states there are, how many steps lead from one to another, how
+far the farthest is from the opening, how many states are finished and how many
+are stuck: nothing can happen there but a failure, and a plate stands in a
+healthy machine or not all were laid in.
+  states 1631
+  steps 4544
+  deepest 72
+  finished 1
+  stuck 0
+Or says that there are more than STATES states, 1 to 4294967295, by default
+2000000:
+  more than 2000000 states
+With --journal prints in their place the shortest journal to a stuck state,
+or, if there is none, to the end.
+
+Exit status: 0 nothing is stuck, 1 something is, or there are more states,
+2 wrong arguments, 3 a write failed, 4 out of memory.";
+
+pub(crate) const EXPLORE_EXAMPLE: &str = "Example: cellctl explore --fail press2 1";
+
+pub(crate) const FAIL_HELP: &str = "A machine that may fail; may be given several times";
+
+pub(crate) const REPAIR_HELP: &str = "Let the operator clear and repair what failed";
+
+pub(crate) const LIMIT_HELP: &str = "How many states to look at, at the most";
+
+pub(crate) const WAY_HELP: &str = "Print the shortest journal to a stuck state, or to the end";
+
+pub(crate) const PLATES_HELP: &str = "How many plates are laid in";
+
 pub(crate) const KINDS_HELP: &str = "The kinds of faults, with commas between them";
 
 pub(crate) const MOTIONS_HELP: &str = "How many motions of each axis to go through";

@@ -13,5 +13,5 @@ pub use count::{Count, read_count};
 pub use escaped::Escaped;
 pub use failure::{Place, tell_failure};
 pub use order::{
-    Driving, Explaining, Measuring, Order, Paths, Running, Showing, Sweeping, read_words,
+    Driving, Explaining, Exploring, Measuring, Order, Paths, Running, Showing, Sweeping, read_words,
 };

@@ -3,7 +3,7 @@ ghost use Rattle.std.specs.Prelude.{IfOk, IfSome, codes, map};
 ghost use Rattle.clap.specs.Kinds.{FailsBy};
 ghost use Rattle.clap.specs.Words.{fault_of, found_of, rows_of};
 ghost use Rattle.cell_command.specs.Shape.{cellctl};
-ghost use Rattle.cell_command.specs.Orders.{Fits, HasFlag, HasPath, HasPaths, HasValue, HasValues, IsDriven, IsExplained, IsMeasured, IsOrdered, IsRun, IsShown, IsSwept};
+ghost use Rattle.cell_command.specs.Orders.{Fits, HasAnyValues, HasFlag, HasPath, HasPaths, HasValue, HasValues, IsDriven, IsExplained, IsExplored, IsMeasured, IsOrdered, IsRun, IsShown, IsSwept};
 
 use crate::command::command;
 use clap::{ArgMatches, Error};
@@ -76,6 +76,17 @@ pub struct Sweeping<'a> {
     pub operator: &'a str,
 }
 
+/// What is asked of every order of events: the machines that may fail, whether the operator repairs, how many states may be seen,
+/// as it is written, whether a journal is printed besides, and how many plates are laid in, as it is written.
+#[derive(Debug, Drop, PartialEq, Eq)]
+pub struct Exploring<'a> {
+    pub failing: Vec<&'a str>,
+    pub repairs: bool,
+    pub limit: Option<&'a str>,
+    pub journal: bool,
+    pub plates: &'a str,
+}
+
 /// What the program is to do.
 #[derive(Debug, Drop, PartialEq, Eq)]
 pub enum Order<'a> {
@@ -87,7 +98,7 @@ pub enum Order<'a> {
     Show(Showing<'a>),
     /// Say why a text is refused.
     Explain(Explaining<'a>),
-    /// Tell how long the events of journals need at least.
+    /// Tell how long the entries of journals need at least.
     Measure(Measuring<'a>),
     /// Check the settings in the file of this path.
     Check(&'a str),
@@ -99,6 +110,8 @@ pub enum Order<'a> {
     Follow(&'a str, Running<'a>),
     /// Run the simulated cell on one thread once for each fault.
     Sweep(Sweeping<'a>),
+    /// Look at every order of events.
+    Explore(Exploring<'a>),
     /// Let a method drive the simulated cell over the standard streams.
     Drive(Driving<'a>),
     /// Run the simulated cell by workers on threads.
@@ -252,6 +265,35 @@ fn sweep_words<'a>(matches: &ArgMatches<'a>) -> Option<Sweeping<'a>>
     })
 }
 
+// The values that are matched at an id, if there are any; `None` where memory was refused.
+fn any_values<'a>(alloc: Global, matches: &ArgMatches<'a>, id: &str) -> Option<Vec<&'a str>>
+    ensures { IfSome result (λ values. HasAnyValues (rows_of (found_of matches.now)) id.now values.items) }
+{
+    let Some(texts) = matches.get_strs(id) else {
+        return Some(Vec::new(alloc));
+    };
+    match Vec::from_slice(alloc, texts) {
+        Ok(values) => Some(values),
+        Err(_) => None,
+    }
+}
+
+// What is asked of every order of events; `None` where memory was refused.
+fn explore_words<'a>(alloc: Global, matches: &ArgMatches<'a>) -> Option<Exploring<'a>>
+    ensures { IfSome result (IsExplored (rows_of (found_of matches.now))) }
+{
+    let failing = any_values(alloc, matches, "fail")?;
+    let plates = path(matches, "plates")?;
+    let journal = flag(matches, "journal");
+    Some(Exploring {
+        failing,
+        repairs: flag(matches, "repair"),
+        limit: value(matches, "limit"),
+        journal,
+        plates,
+    })
+}
+
 // The order of a command's name and its matches.
 fn order_of<'a>(alloc: Global, name: &str, matches: &ArgMatches<'a>) -> Option<Order<'a>>
     ensures { IfSome result (Fits name.now (rows_of (found_of matches.now))) }
@@ -265,6 +307,7 @@ fn order_of<'a>(alloc: Global, name: &str, matches: &ArgMatches<'a>) -> Option<O
         "check" => Some(Order::Check(path(matches, "settings")?)),
         "sim" => sim_words(matches),
         "sweep" => Some(Order::Sweep(sweep_words(matches)?)),
+        "explore" => Some(Order::Explore(explore_words(alloc, matches)?)),
         "drive" => Some(Order::Drive(drive_words(matches)?)),
         "run" => threads_words(matches),
         _ => None,

@@ -1,5 +1,5 @@
 -- Journals that are measured, and their texts
-use Rattle.std.proofs.Common.{◌≡◌, ◌⊎◌, inl, inr, ℕ, ◌+◌, Bool, true, false, Result, Ok, Err, List, [], ◌∷◌, ◌++◌, All, arith, length, length-append, is_ok, refl, subst}
+use Rattle.std.proofs.Common.{◌≡◌, ◌⊎◌, inl, inr, ℕ, ◌+◌, Bool, true, false, Result, Ok, Err, List, [], ◌∷◌, arith, is_ok, refl, subst}
 use Rattle.std.proofs.lemmas.List.Elements.{All-cons, All-nil}
 use Rattle.cell_types.specs.declared.words.Totals.{Totals}
 use Rattle.cell_rows.specs.Rows.{rows_of}

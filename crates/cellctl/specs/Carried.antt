@@ -14,6 +14,7 @@ use Rattle.cell_command.specs.Orders.{IsOrdered}
 use Rattle.cell_command.specs.Shape.{cellctl}
 use Rattle.cell_command.specs.declared.count.Count.{Count}
 use Rattle.cell_command.specs.declared.order.Explaining.{Explaining}
+use Rattle.cell_command.specs.declared.order.Exploring.{Exploring}
 use Rattle.cell_command.specs.declared.order.Running.{Running}
 use Rattle.cell_command.specs.declared.order.Showing.{Showing}
 use Rattle.cell_command.specs.declared.order.Sweeping.{Sweeping}
@@ -21,6 +22,11 @@ use Rattle.cell_command.specs.declared.order.Order.{Order}
 use Rattle.cell_command.specs.declared.order.Order.TheVariants as order
 use Rattle.cell_command.specs.declared.order.Driving.{Driving}
 use Rattle.cell_drive.specs.Drives.{DrivesTexts}
+use Rattle.cell_types.specs.declared.words.Entry.{Entry}
+use Rattle.cell_explore.specs.Moves.{is_stuck}
+use Rattle.cell_explore.specs.Printed.{TellsSearch}
+use Rattle.cell_explore.specs.Told.{IsPossible, cell_told, opening_of}
+use Rattle.cell_explore.specs.declared.question.Question.{Question}
 use Rattle.cell_sim.specs.declared.fault.Fault.{Fault}
 use Rattle.cell_sweep.specs.Sweeps.{SweepsTexts, Wanted, wanted}
 use Rattle.cell_explain.specs.Explained.{EndsAsAudit, EndsAsCheck, EndsAsFaults, EndsAsScript}
@@ -33,6 +39,7 @@ use Rattle.cell_show.specs.declared.error.ShowError.{ShowError}
 use Rattle.cell_show.specs.declared.error.ShowError.TheVariants as error
 use Rattle.cell_show.specs.declared.show.Form.{Form}
 use Rattle.cell_show.specs.declared.show.Form.TheVariants as form
+use Rattle.cellctl.specs.Asked.{Asks, AsksNothing}
 use Rattle.cellctl.specs.Measured.{MeasuresJournals}
 use Rattle.cellctl.specs.Swept.{AreKinds, AreMotions, HasNoKind, IsNoCount}
 use Rattle.cellctl.specs.declared.explain.Text.{Text}
@@ -216,6 +223,22 @@ SweepsFiles sweeping old new old_errors new_errors written =
     × SweepsSome (wanted kinds motions sweeping.service sweeping.csv) old new written)
     ⊎ IsMistaken sweeping old new old_errors new_errors written
 
+-- no list of entries that can happen one after another, whatever their order, leaves the cell stuck
+abbrev pub IsNeverStuck : Question → Type 0
+IsNeverStuck q = (es : List Entry) → IsPossible q (opening_of q) es → is_stuck q (cell_told q es) ≡ false
+
+-- what is written of every order of events for a question, and what status 0 says
+abbrev pub Explores : Question → ℕ → Bool → Option (List ℕ) → Option (List ℕ) → Result ℕ WriteFault → Type 0
+Explores q limit journal old new written = IfOk written (TellsSearch q limit journal old new) × (written ≡ Ok 0 → IsNeverStuck q)
+
+-- what is written of every order of events for the words of its command: for the question that they ask; or a word is wrong, a
+-- line among the errors says so, and nothing is printed
+abbrev pub ExploresWords : Exploring → Option (List ℕ) → Option (List ℕ) → Option (List ℕ) → Option (List ℕ) → Result ℕ WriteFault → Type 0
+ExploresWords exploring old new old_errors new_errors written =
+    ((question : Question) × (limit : ℕ) × Asks exploring question limit × Explores question limit exploring.journal old new written
+    × (new_errors ≡ old_errors))
+    ⊎ (AsksNothing exploring × ((status : ℕ) × (written ≡ Ok status) × IsWrong old new old_errors new_errors status))
+
 -- what is written for the audit of a text
 abbrev pub Audits : Option (List ℕ) → Option (List ℕ) → Option (List ℕ) → Result ℕ WriteFault → Type 0
 Audits text old new written = MatchResult written (TellsAudit text old new) (λ _. PartOfAudit text old new)
@@ -242,6 +265,7 @@ CarriesOut (order.Sim running) input old new old_errors new_errors written = Run
 CarriesOut (order.SimMeasured running) input old new old_errors new_errors written = MeasuresFiles false running old new written × (new_errors ≡ old_errors)
 CarriesOut (order.Follow path running) input old new old_errors new_errors written = FollowsFiles running old new written × (new_errors ≡ old_errors)
 CarriesOut (order.Sweep sweeping) input old new old_errors new_errors written = SweepsFiles sweeping old new old_errors new_errors written
+CarriesOut (order.Explore exploring) input old new old_errors new_errors written = ExploresWords exploring old new old_errors new_errors written
 CarriesOut (order.Drive driving) input old new old_errors new_errors written = DrivesFiles driving input old new written
 CarriesOut (order.Run running) input old new old_errors new_errors written = RunsFiles true running old new written × (new_errors ≡ old_errors)
 CarriesOut (order.RunMeasured running) input old new old_errors new_errors written = MeasuresFiles true running old new written × (new_errors ≡ old_errors)

@@ -2,8 +2,10 @@
 //! settings, and the runs of the simulated cell.
 #![tactic(auto)]
 
+mod asked;
 mod end;
 mod explain;
+mod explore;
 mod failure;
 mod fault;
 mod measure;

@@ -4,6 +4,7 @@ ghost use Rattle.std.specs.Io.KnownBytes.{Appends};
 ghost use Rattle.cellctl.specs.Carried.{Audits, CarriesOut, ChecksSettings, DrivesFiles, FollowsFiles, MeasuresFiles, MigratesText, OfText, RunsFiles, TellsUnfit};
 
 use crate::explain::explain_words;
+use crate::explore::explore_words;
 use crate::failure::Failure;
 use crate::measure::{measure_words, tell_least};
 use crate::show::show_words;
@@ -354,6 +355,9 @@ pub(crate) fn carry_out<
         Order::Follow(path, running) => follow_files(rt, output, path, running),
         Order::Sweep(sweeping) => {
             Ok(without_ending(sweep_words(rt, output, errors, sweeping, progress)?))
+        }
+        Order::Explore(exploring) => {
+            Ok(without_ending(explore_words(rt.alloc(), output, errors, &exploring)?))
         }
         Order::Drive(driving) => Ok(without_ending(drive_files(
             rt, input, output, errors, driving,

@@ -17,7 +17,7 @@ const ORDERS: [&str; 7] = [
     "cellctl check settings.toml|Check(\"settings.toml\")",
 ];
 
-const REFUSED: [&str; 28] = [
+const REFUSED: [&str; 34] = [
     "cellctl brew|InvalidSubcommand",
     "cellctl run|MissingRequiredArgument",
     "cellctl sim|MissingRequiredArgument",
@@ -41,6 +41,12 @@ const REFUSED: [&str; 28] = [
     "cellctl measure|MissingRequiredArgument",
     "cellctl measure a --times|InvalidValue",
     "cellctl measure --times a --times b c|ArgumentConflict",
+    "cellctl explore|MissingRequiredArgument",
+    "cellctl explore 1 2|UnknownArgument",
+    "cellctl explore 1 --fail|InvalidValue",
+    "cellctl explore --limit 1 --limit 2 1|ArgumentConflict",
+    "cellctl explore --csv 1|UnknownArgument",
+    "cellctl explore --help|DisplayHelp",
     "cellctl --help|DisplayHelp",
     "cellctl audit --help|DisplayHelp",
     "cellctl --version|DisplayVersion",
@@ -111,6 +117,16 @@ const MEASURED: [&str; 4] = [
         Measure(Measuring { times: Some(\"c.toml\"), csv: false, journals: [\"--csv\"] })",
 ];
 
+const EXPLORED: [&str; 4] = [
+    "cellctl explore 1|Explore(Exploring { failing: [], repairs: false, limit: None, journal: false, plates: \"1\" })",
+    "cellctl explore --fail press2 --repair --limit 100 --journal 2 --fail=robot|\
+        Explore(Exploring { failing: [\"press2\", \"robot\"], repairs: true, limit: Some(\"100\"), journal: true, plates: \"2\" })",
+    "cellctl explore --fail brew --fail brew --limit=none 16|\
+        Explore(Exploring { failing: [\"brew\", \"brew\"], repairs: false, limit: Some(\"none\"), journal: false, plates: \"16\" })",
+    "cellctl explore -- -1|\
+        Explore(Exploring { failing: [], repairs: false, limit: None, journal: false, plates: \"-1\" })",
+];
+
 // What words are read as.
 fn reading(alloc: Global, words: &[&str]) -> Result<String, AllocError> {
     match read_words(alloc, words) {
@@ -141,10 +157,38 @@ fn reads_the_words_of_the_command_line(rt: HostRuntime) -> Result<(), Fail> {
         &SHOWN,
         &EXPLAINED,
         &MEASURED,
+        &EXPLORED,
     ] {
         for case in cases {
             check(&rt, case)?;
         }
+    }
+    Ok(())
+}
+
+// The commands that the help lists.
+const COMMANDS: [&str; 11] = [
+    "audit", "migrate", "show", "explain", "measure", "check", "sim", "sweep", "explore", "drive",
+    "run",
+];
+
+// The first word of a line.
+fn first_word(line: &str) -> Option<&str> {
+    line.split(' ').find(|word| !word.is_empty())
+}
+
+#[test]
+fn lists_the_commands_in_the_help(rt: HostRuntime) -> Result<(), Fail> {
+    let Err(help) = read_words(rt.alloc(), &["cellctl", "--help"]) else {
+        panic!(&rt; "there is an order for help");
+    };
+    let text = help.to_string(rt.alloc())?;
+    for command in COMMANDS {
+        let is_listed = text
+            .as_str()
+            .lines()
+            .any(|line| first_word(line) == Some(command));
+        assert!(&rt; is_listed, "{command}");
     }
     Ok(())
 }
