@@ -8,12 +8,12 @@ const [page, pictures] = process.argv.slice(2);
 const address = pathToFileURL(page).href;
 const text = readFileSync(page, "utf8");
 const journal = JSON.parse(text.split('<script type="application/json" id="journal">')[1].split("</script>")[0]);
-const { machines, stations, parts, poses, ways, rows } = journal;
+const { machines, stations, parts, poses, ways, zones, rows } = journal;
 const last = rows.length - 1;
 
 const browser = spawn(
   process.env.CHROMIUM ?? "chromium",
-  ["--headless=new", "--no-sandbox", "--disable-gpu", "--hide-scrollbars", "--remote-debugging-pipe", "about:blank"],
+  ["--headless=new", "--no-sandbox", "--disable-gpu", "--hide-scrollbars", "--disable-ipc-flooding-protection", "--remote-debugging-pipe", "about:blank"],
   { stdio: ["ignore", "ignore", "ignore", "pipe", "pipe"] },
 );
 const waiting = new Map();
@@ -69,7 +69,7 @@ const open = async (hash) => {
 const resize = (width, height) => tell("Emulation.setDeviceMetricsOverride", { width, height, deviceScaleFactor: 1, mobile: false });
 const key = async (name, code) => {
   const press = { key: name, code: name === " " ? "Space" : name, windowsVirtualKeyCode: code };
-  await tell("Input.dispatchKeyEvent", { type: "keyDown", ...press, text: name === " " ? " " : undefined });
+  await tell("Input.dispatchKeyEvent", { type: "keyDown", ...press, text: name.length === 1 ? name : undefined });
   await tell("Input.dispatchKeyEvent", { type: "keyUp", ...press });
 };
 const click = async (x, y) => {
@@ -181,10 +181,11 @@ const checkControls = async () => {
   await ask("document.getElementById('speed').value = '33'");
   await key(" ", 32);
   await sleep(400);
-  await key(" ", 32);
+  // A page of few entries has played to its end by now, and stopped.
+  if (last > 30) await key(" ", 32);
   const paused = await entry();
   await sleep(200);
-  check("play by the space key", paused > 2 || last <= 2, true);
+  check("play by the space key", paused > 2 || paused === last, true);
   check("a pause", await entry(), paused);
   await compare(paused);
   await ask(`location.hash = "#entry=${last - 2}"`);
@@ -194,8 +195,89 @@ const checkControls = async () => {
   check("play stops at the end", [await entry(), await ask("document.getElementById('play').textContent")], [last, "Play"]);
   console.log("keys, buttons, slider, number box, marks, play and pause were tried");
 };
+// The entries that name a plate, or a zone, or after which it is elsewhere or has another holder.
+const ofPlate = (plate) => rows.map((_, i) => i).filter((i) => i > 0
+  && (` ${rows[i][13]} `.replaceAll(",", " ").includes(` plate ${plate} `) || rows[i][0].indexOf(plate) !== rows[i - 1][0].indexOf(plate)));
+const ofZone = (zone) => rows.map((_, i) => i).filter((i) => i > 0
+  && (rows[i][13].endsWith(zones[zone]) || rows[i][4][zone] !== rows[i - 1][4][zone]));
+const walk = async (what, letter, list) => {
+  await ask("location.hash = '#entry=0'");
+  await sleep(20);
+  for (const i of list.slice(0, 12)) {
+    await key(letter, letter.toUpperCase().charCodeAt(0));
+    check(`${what}: ${letter}`, await entry(), i);
+    check(`${what}: entry ${i} is marked`, await ask(`document.querySelector('#lanes [data-entry="${i}"] .followed') !== null`), letter !== "d");
+  }
+  const back = list.slice(0, 12).reverse().slice(1);
+  for (const i of back) {
+    await key(letter.toUpperCase(), letter.toUpperCase().charCodeAt(0));
+    check(`${what}: ${letter.toUpperCase()}`, await entry(), i);
+  }
+};
+const choose = (id, value, event) => ask(`(() => { const box = document.getElementById("${id}"); box.value = "${value}"; box.dispatchEvent(new Event("${event}")); })()`);
+const checkFollowing = async () => {
+  await open("");
+  check("the page opens at the start", await entry(), 0);
+  await key("PageDown", 34);
+  check("page down", await entry(), Math.min(last, 1));
+  await ask("document.getElementById('number').focus()");
+  await key("PageDown", 34);
+  check("page down in the number's box", await entry(), Math.min(last, 2));
+  await key("PageUp", 33);
+  check("page up", await entry(), Math.min(last, 1));
+  await ask("document.activeElement.blur()");
+  const failures = rows.map((_, i) => i).filter((i) => rows[i][12].startsWith("declared,"));
+  await choose("plate", 1, "input");
+  await walk("plate 1", "p", ofPlate(1));
+  const standing = rows.findIndex((row) => row[0].includes(1));
+  await ask(`location.hash = "#entry=${Math.max(0, standing)}"`);
+  await sleep(20);
+  check("the plate that is followed is marked", await ask("[...document.querySelectorAll('#cell .plate.followed text')].map((node) => node.textContent.replace('*', ''))"), standing === -1 ? [] : ["1"]);
+  await choose("plate", "", "input");
+  await choose("zone", 2, "change");
+  await walk("zone z3", "z", ofZone(2));
+  check("the zone that is followed is marked", await ask("[...document.querySelectorAll('#cell .zone.followed')].map((node) => node.id)"), ["zone-2"]);
+  await choose("zone", "", "change");
+  check("nothing is followed any more", await ask("document.querySelectorAll('.followed').length"), 0);
+  await ask("location.hash = '#entry=0'");
+  await walk("failures", "d", failures);
+  await ask("document.getElementById('letters').checked = false");
+  const before = await entry();
+  await key("d", 68);
+  await key("D", 68);
+  check("letters that are no keys", await entry(), before);
+  await open("#entry=" + (process.env.ENTRY ?? Math.round(last / 2)));
+  await choose("plate", 1, "input");
+  await choose("zone", 2, "change");
+  await picture("followed");
+  console.log("the start, page up and down, a plate, a zone and failures were tried");
+};
+// A step is drawn at once where less motion is asked for, else it is at its end after half a second.
+const checkMotion = async () => {
+  const place = () => ask(`[...document.querySelectorAll("#cell .plate:not(.off)"), document.getElementById("arms"), document.getElementById("arm-0"),
+    ...document.querySelectorAll("#cell .bead, #cell .pointer")].map((node) => [node.getAttribute("transform"), node.getAttribute("x2")].join(" ")).join("; ")`);
+  const steps = Array.from({ length: Math.min(last, 40) }, (_, k) => k + 1);
+  for (const reduce of [true, false]) {
+    await tell("Emulation.setEmulatedMedia", { features: [{ name: "prefers-reduced-motion", value: reduce ? "reduce" : "no-preference" }] });
+    await open("#entry=0");
+    let moved = 0;
+    for (const i of steps) {
+      await key("ArrowRight", 39);
+      const first = await place();
+      if (!reduce) await sleep(480);
+      const end = await place();
+      await ask("location.hash = '#entry=0'; new Promise((done) => setTimeout(done, 0))");
+      await ask(`location.hash = '#entry=${i}'; new Promise((done) => setTimeout(done, 0))`);
+      check(`entry ${i} is drawn as after a jump`, end, await place());
+      if (first !== end) moved += 1;
+    }
+    check(reduce ? "no motion where less is asked for" : "steps are drawn with motion", moved > 0, !reduce && last > 6);
+  }
+  await tell("Emulation.setEmulatedMedia", { features: [] });
+  console.log(`${steps.length} steps were drawn with motion and without`);
+};
 const checkSizes = async () => {
-  for (const [name, width, height, dark] of [["wide", 1200, 1000, false], ["narrow", 400, 900, false], ["dark", 1000, 900, true]]) {
+  for (const [name, width, height, dark] of [["wide", 1200, 1000, false], ["narrow", 390, 844, false], ["dark", 1000, 900, true]]) {
     await resize(width, height);
     await tell("Emulation.setEmulatedMedia", { features: [{ name: "prefers-color-scheme", value: dark ? "dark" : "light" }] });
     await open("#entry=" + (process.env.ENTRY ?? Math.round(last / 2)));
@@ -204,11 +286,17 @@ const checkSizes = async () => {
       return [...document.querySelectorAll("#cell text")].filter((node) => node.textContent !== "").map((node) => [node.textContent, node.getBoundingClientRect()])
         .filter(([, box]) => box.width > 0 && (box.left < all.left || box.right > all.right || box.top < all.top || box.bottom > all.bottom)).map(([words]) => words); })()`);
     check(`${name}: texts that the drawing's edge cuts`, cut, []);
+    const least = await ask(`Math.min(...[...document.querySelectorAll("#cell text")].filter((node) => node.textContent !== "" && node.getClientRects().length > 0
+      && node.closest(".plate") === null).map((node) => parseFloat(getComputedStyle(node).fontSize) * document.getElementById("cell").getScreenCTM().a))`);
+    check(`${name}: words of the drawing of 10 pixels and more (${least.toFixed(1)})`, least >= 10 || name !== "narrow", true);
     await picture(name);
   }
   await tell("Emulation.setEmulatedMedia", { features: [] });
   await resize(1200, 1000);
-  console.log("pictures were taken: wide, narrow, dark");
+  await open("#entry=" + (process.env.ENTRY ?? Math.round(last / 2)));
+  await key("w", 87);
+  await picture("larger");
+  console.log("pictures were taken: wide, narrow, dark, larger");
 };
 const checkWithoutScripts = async () => {
   await tell("Emulation.setScriptExecutionDisabled", { value: true });
@@ -216,6 +304,9 @@ const checkWithoutScripts = async () => {
   await sleep(1000);
   await tell("Emulation.setScriptExecutionDisabled", { value: false });
   const words = await ask("document.body.innerText");
+  const without = await ask("['last', 'cell', 'controls', 'jumps', 'strip', 'lanes', 'legend', 'facts'].filter((id) => document.getElementById(id).getClientRects().length > 0)");
+  check("without scripts nothing is shown that scripts fill", without, []);
+  await picture("without-scripts");
   check("without scripts the page says so", words.includes("needs scripts"), true);
   check("without scripts the last entry is told", words.includes(last === 0 ? "nothing is booked" : rows[last][13]), true);
 };
@@ -233,6 +324,8 @@ const run = async () => {
   console.log(`${last} entries, ${text.length} bytes: open in ${took} ms, a jump in ${steps.toFixed(1)} ms`);
   await checkEntries();
   await checkControls();
+  await checkFollowing();
+  await checkMotion();
   await checkSizes();
   await checkWithoutScripts();
   const outside = requests.filter((url) => !url.startsWith(address) && !url.startsWith("data:") && url !== "about:blank");

@@ -2,7 +2,39 @@
 
 /// To the end of the page.
 pub(crate) const CONTROL_SCRIPT: &str =
-    r##"  // The lanes: a part of the entries, of which the current one is one.
+    r##"  // What is followed: a plate's number, a zone's place, and the entries of each and of both.
+  const followed = { plate: 0, zone: -1, ofPlate: [], ofZone: [], all: [] };
+  const numbered = Array.from({ length: last }, (_, i) => i + 1);
+  const isOfPlate = (i, plate) =>
+    rows[i][13].split(/[ ,]/).some((word, place, all) => word === String(plate) && all[place - 1] === "plate")
+    || rows[i][0].indexOf(plate) !== rows[i - 1][0].indexOf(plate);
+  const isOfZone = (i, zone) => rows[i][13].endsWith(zones[zone]) || rows[i][4][zone] !== rows[i - 1][4][zone];
+  const follows = (i) => followed.ofPlate.includes(i) || followed.ofZone.includes(i);
+  const listFollowed = () => {
+    const { plate, zone } = followed;
+    followed.ofPlate = plate === 0 ? [] : numbered.filter((i) => isOfPlate(i, plate));
+    followed.ofZone = zone === -1 ? [] : numbered.filter((i) => isOfZone(i, zone));
+    followed.all = [...followed.ofPlate, ...followed.ofZone].sort((a, b) => a - b);
+  };
+  const failures = numbered.filter((i) => kindOf(i) === "declared");
+  const nextOf = (list) => list.find((i) => i > current);
+  const beforeOf = (list) => list.findLast((i) => i < current);
+  const soFar = (list, i) => `${list.length} entries, ${list.filter((k) => k <= i).length} of them so far`;
+  const drawFollowed = (state, i) => {
+    const { plate, zone, ofPlate, ofZone, all } = followed;
+    stations.forEach((_, s) => el("plate-" + s).classList.toggle("followed", plate !== 0 && state.plates[s] === plate));
+    zones.forEach((_, z) => el("zone-" + z).classList.toggle("followed", z === zone));
+    const station = state.plates.indexOf(plate);
+    const where = station === -1 ? "not in the cell" : "at " + stations[station];
+    const texts = [];
+    if (plate !== 0) texts.push(`Plate ${plate}: ${where}; ${soFar(ofPlate, i)}.`);
+    if (zone !== -1) texts.push(`Z${zones[zone].slice(1)}: ${named(machines, state.holders[zone]) ?? "free"}; ${soFar(ofZone, i)}.`);
+    el("followed").textContent = texts.join(" ");
+    const wanted = { "followed-back": beforeOf(all), "followed-on": nextOf(all), "failure-back": beforeOf(failures), "failure-on": nextOf(failures) };
+    Object.entries(wanted).forEach(([id, found]) => { el(id).disabled = found === undefined; });
+  };
+
+  // The lanes: a part of the entries, of which the current one is one.
   const lanes = { first: 1, shown: 0, left: 104, step: 17, height: 24 };
   const svg = (name, attributes, text) => {
     const node = document.createElementNS("http://www.w3.org/2000/svg", name);
@@ -20,6 +52,7 @@ pub(crate) const CONTROL_SCRIPT: &str =
       svg("rect", { x: laneX(i) + 1, y: y + 3, width: lanes.step - 2, height: lanes.height - 6, rx: 3 }),
       svg("text", { class: "sign", x: laneX(i) + lanes.step / 2, y: y + lanes.height / 2 }, signs[kind][0]),
     );
+    if (follows(i)) mark.append(svg("rect", { class: "followed", x: laneX(i), y: y + lanes.height - 4, width: lanes.step, height: 4 }));
     return mark;
   };
   const layLanes = () => {
@@ -55,11 +88,11 @@ pub(crate) const CONTROL_SCRIPT: &str =
     if (mark !== null) mark.classList.add("current");
   };
 
-  // All entries in one strip, drawn once for a size, and a frame round the current one.
+  // All entries in one strip, and below them those that are followed, drawn once for a size, and a frame round the current one.
   const drawStrip = () => {
     const canvas = el("whole");
     canvas.width = canvas.clientWidth;
-    canvas.height = 42;
+    canvas.height = 48;
     const pen = canvas.getContext("2d");
     const colours = getComputedStyle(document.documentElement);
     const wide = canvas.width / Math.max(1, last);
@@ -69,6 +102,8 @@ pub(crate) const CONTROL_SCRIPT: &str =
     for (let i = 1; i <= last; i += 1) {
       if (faults.includes(kindOf(i))) pen.fillRect((i - 1) * wide, rows[i][11] * 6, Math.max(2, wide - 0.5), 5);
     }
+    pen.fillStyle = colours.getPropertyValue("--follow");
+    followed.all.forEach((i) => pen.fillRect((i - 1) * wide, 43, Math.max(2, wide - 0.5), 5));
   };
   const showInStrip = (i) => {
     const share = 100 / Math.max(1, last);
@@ -81,14 +116,17 @@ pub(crate) const CONTROL_SCRIPT: &str =
   const show = (wanted) => {
     const i = Math.min(last, Math.max(0, Math.trunc(Number(wanted)) || 0));
     if (i === current) return;
+    const before = current;
     current = i;
     const state = read(i);
     drawPlates(state);
-    drawArms(state);
+    drawAims(state);
+    moveTo(read(Math.max(0, before)), state, Math.abs(i - before) === 1 && before !== -1 ? smoothly() : 0);
     drawAxes(state);
     drawMachines(state);
     drawCounts(state);
     writeFacts(state);
+    drawFollowed(state, i);
     showInLanes(i);
     showInStrip(i);
     el("sentence").textContent = i === 0 ? "The opening: nothing is booked." : state.sentence;
@@ -99,6 +137,12 @@ pub(crate) const CONTROL_SCRIPT: &str =
     el("first").disabled = el("back").disabled = i === 0;
     el("end").disabled = el("forward").disabled = i === last;
     if (timer === null) keepAddress();
+  };
+  // How many milliseconds a step may take to be drawn.
+  const smoothly = () => {
+    if (window.matchMedia("(prefers-reduced-motion: reduce)").matches) return 0;
+    const pause = timer === null ? 500 : Number(el("speed").value);
+    return pause < 80 ? 0 : Math.min(400, 0.8 * pause);
   };
   const keepAddress = () => history.replaceState(null, "", "#entry=" + current);
 
@@ -129,18 +173,54 @@ pub(crate) const CONTROL_SCRIPT: &str =
     show(i);
   };
 
+  const jump = (i) => {
+    if (i !== undefined) goTo(i);
+  };
+  const follow = () => {
+    const plate = Number(el("plate").value);
+    followed.plate = Number.isInteger(plate) && plate > 0 ? plate : 0;
+    followed.zone = el("zone").value === "" ? -1 : Number(el("zone").value);
+    listFollowed();
+    drawStrip();
+    layLanes();
+    showInLanes(current);
+    drawFollowed(read(current), current);
+  };
+
+  // Larger words: in a narrow window always, and where they are asked for.
+  const narrow = window.matchMedia("(max-width: 40rem)");
+  const root = document.documentElement.classList;
+  const size = () => root.toggle("large", narrow.matches || root.contains("back-row"));
+  const enlarge = () => {
+    el("words").setAttribute("aria-pressed", String(root.toggle("back-row")));
+    size();
+  };
+
+  // The keys. A letter is one in small letters, and with Shift goes the other way.
+  const pages = { PageUp: () => goTo(current - 1), PageDown: () => goTo(current + 1) };
+  const moves = {
+    ...pages, ArrowLeft: pages.PageUp, ArrowRight: pages.PageDown,
+    Home: () => goTo(0), End: () => goTo(last), " ": toggle,
+  };
+  const letters = {
+    d: () => jump(nextOf(failures)), D: () => jump(beforeOf(failures)),
+    p: () => jump(nextOf(followed.ofPlate)), P: () => jump(beforeOf(followed.ofPlate)),
+    z: () => jump(nextOf(followed.ofZone)), Z: () => jump(beforeOf(followed.ofZone)),
+    w: enlarge,
+  };
+  const keysAt = (target) => {
+    if (target.type === "select-one") return {};
+    if (target.type === "number") return pages;
+    return el("letters").checked ? { ...moves, ...letters } : moves;
+  };
   const onKey = (event) => {
     if (event.ctrlKey || event.metaKey || event.altKey) return;
-    const kind = event.target.type;
-    if (kind === "number" || kind === "select-one") return;
-    const moves = {
-      ArrowLeft: () => goTo(current - 1), ArrowRight: () => goTo(current + 1),
-      Home: () => goTo(0), End: () => goTo(last), " ": toggle,
-    };
-    const onButton = kind === "button" || event.target.tagName === "SUMMARY";
-    if (moves[event.key] === undefined || (event.key === " " && onButton)) return;
+    const { type, tagName } = event.target;
+    const act = keysAt(event.target)[event.key];
+    const pressed = type === "button" || type === "checkbox" || tagName === "SUMMARY";
+    if (act === undefined || (event.key === " " && pressed)) return;
     event.preventDefault();
-    moves[event.key]();
+    act();
   };
   const onLanes = (event) => {
     const i = lanes.first + Math.floor((event.clientX - el("lanes").getBoundingClientRect().left - lanes.left) / lanes.step);
@@ -152,7 +232,7 @@ pub(crate) const CONTROL_SCRIPT: &str =
   };
   const entryInAddress = () => {
     const found = /^#entry=(\d+)$/.exec(location.hash);
-    return found === null ? last : Number(found[1]);
+    return found === null ? 0 : Number(found[1]);
   };
   const redraw = () => {
     const i = current;
@@ -172,6 +252,15 @@ pub(crate) const CONTROL_SCRIPT: &str =
   el("forward").addEventListener("click", () => goTo(current + 1));
   el("end").addEventListener("click", () => goTo(last));
   el("play").addEventListener("click", toggle);
+  zones.forEach((name, z) => el("zone").add(new Option(name, z)));
+  el("plate").addEventListener("input", follow);
+  el("zone").addEventListener("change", follow);
+  el("followed-back").addEventListener("click", () => jump(beforeOf(followed.all)));
+  el("followed-on").addEventListener("click", () => jump(nextOf(followed.all)));
+  el("failure-back").addEventListener("click", () => jump(beforeOf(failures)));
+  el("failure-on").addEventListener("click", () => jump(nextOf(failures)));
+  el("words").addEventListener("click", enlarge);
+  narrow.addEventListener("change", size);
   el("speed").addEventListener("change", () => { if (timer !== null) play(); });
   el("lanes").addEventListener("click", onLanes);
   el("whole").addEventListener("click", onStrip);
@@ -179,7 +268,8 @@ pub(crate) const CONTROL_SCRIPT: &str =
   window.addEventListener("hashchange", () => goTo(entryInAddress()));
   window.addEventListener("resize", redraw);
   window.matchMedia("(prefers-color-scheme: dark)").addEventListener("change", redraw);
-  document.documentElement.classList.add("ready");
+  root.add("ready");
+  size();
   drawStrip();
   layLanes();
   show(entryInAddress());

@@ -55,22 +55,106 @@ pub(crate) const DRAWING_SCRIPT: &str = r##"
     });
   };
 
-  const drawArms = (state) => {
-    const angle = turnAngles[state.at[3]];
-    el("arms").setAttribute("transform", `translate(${robot.x} ${robot.y}) rotate(${angle})`);
+  // What moves smoothly: the robot's turn, its arms, the presses' heights, the table's turn and lift, and plates.
+  const heights = { q: -28, p: 0, r: 28 };
+  const spots = stations.map((_, s) => {
+    const { e: x, f: y } = el("plate-" + s).transform.baseVal[0].matrix;
+    return { x, y };
+  });
+  const numbersOf = (state) => ({
+    angle: turnAngles[state.at[3]],
+    reach: [reaches[state.at[4]], reaches[state.at[5]]],
+    press: [heights[state.at[6]], heights[state.at[7]]],
+    turn: state.at[2] === "f" ? 180 : 0,
+    lift: state.at[1] === "e" ? 39 : 46,
+  });
+  const mix = (from, to, share) => from + (to - from) * share;
+  const mixAngle = (from, to, share) => from + ((((to - from + 540) % 360) + 360) % 360 - 180) * share;
+  const mixNumbers = (from, to, share) => ({
+    angle: mixAngle(from.angle, to.angle, share),
+    reach: to.reach.map((reach, arm) => mix(from.reach[arm], reach, share)),
+    press: to.press.map((height, press) => mix(from.press[press], height, share)),
+    turn: mix(from.turn, to.turn, share),
+    lift: mix(from.lift, to.lift, share),
+  });
+  const turned = (angle, along, aside) => {
+    const turn = (angle * Math.PI) / 180;
+    return {
+      x: robot.x + along * Math.cos(turn) - aside * Math.sin(turn),
+      y: robot.y + along * Math.sin(turn) + aside * Math.cos(turn),
+    };
+  };
+  const spotOf = (s, numbers) => {
+    const arm = s - 3;
+    return arm === 0 || arm === 1 ? turned(numbers.angle + arm * armTwoBehind, numbers.reach[arm], 0) : spots[s];
+  };
+  const placeArms = (numbers) => {
+    el("arms").setAttribute("transform", `translate(${robot.x} ${robot.y}) rotate(${numbers.angle.toFixed(1)})`);
+    [0, 1].forEach((arm) => {
+      el("arm-" + arm).setAttribute("x2", numbers.reach[arm].toFixed(1));
+      const name = turned(numbers.angle + arm * armTwoBehind, 46, 17);
+      el("arm-name-" + arm).setAttribute("x", name.x.toFixed(1));
+      el("arm-name-" + arm).setAttribute("y", name.y.toFixed(1));
+    });
+  };
+  const placeParts = (state, numbers) => {
+    [0, 1].forEach((press) => {
+      const at = state.at[6 + press];
+      const bead = document.querySelector(`#cell [data-axis="${6 + press}"][data-at="${at}"]`);
+      bead.setAttribute("transform", `translate(0 ${(numbers.press[press] - heights[at]).toFixed(1)})`);
+    });
+    const own = state.at[2] === "f" ? 180 : 0;
+    document.querySelector(`#cell [data-axis="2"][data-at="${state.at[2]}"]`)
+      .setAttribute("transform", `rotate(${(numbers.turn - own).toFixed(1)} ${spots[2].x} ${spots[2].y})`);
+    document.querySelector('#cell [data-axis="1"]').setAttribute("r", numbers.lift.toFixed(1));
+  };
+  const placePlates = (state, numbers, starts, share) => {
+    stations.forEach((_, s) => {
+      const spot = spotOf(s, numbers);
+      const start = starts[state.plates[s]] ?? spot;
+      const x = mix(start.x, spot.x, share).toFixed(1);
+      const y = mix(start.y, spot.y, share).toFixed(1);
+      el("plate-" + s).setAttribute("transform", `translate(${x} ${y})`);
+    });
+  };
+  const place = (state, numbers, starts, share) => {
+    placeArms(numbers);
+    placeParts(state, numbers);
+    placePlates(state, numbers, starts, share);
+  };
+  // Where the plates begin that are at another station than before, by their numbers.
+  const startsOf = (before, state, numbers) => {
+    const starts = {};
+    before.plates.forEach((plate, s) => {
+      if (plate !== 0 && state.plates[s] !== plate) starts[plate] = spotOf(s, numbers);
+    });
+    return starts;
+  };
+  let frame = null;
+  // Moves all from where it was to where it is, within so many milliseconds; at once where that is 0.
+  const moveTo = (before, state, milliseconds) => {
+    cancelAnimationFrame(frame);
+    const goal = numbersOf(state);
+    place(state, goal, {}, 1);
+    if (milliseconds === 0) return;
+    const from = numbersOf(before);
+    const starts = startsOf(before, state, from);
+    const began = performance.now();
+    const draw = (now) => {
+      const part = Math.min(1, Math.max(0, (now - began) / milliseconds));
+      const share = part * part * (3 - 2 * part);
+      place(state, mixNumbers(from, goal, share), starts, share);
+      if (part < 1) frame = requestAnimationFrame(draw);
+    };
+    place(state, from, starts, 0);
+    frame = requestAnimationFrame(draw);
+  };
+  const drawAims = (state) => {
     const going = turnAngles[state.going[3]];
     el("arms-going").classList.toggle("off", going === undefined);
     if (going !== undefined) {
       el("arms-going").setAttribute("transform", `translate(${robot.x} ${robot.y}) rotate(${going})`);
     }
-    [0, 1].forEach((arm) => {
-      const reach = reaches[state.at[4 + arm]];
-      el("arm-" + arm).setAttribute("x2", reach);
-      const turn = ((angle + arm * armTwoBehind) * Math.PI) / 180;
-      const x = (robot.x + reach * Math.cos(turn)).toFixed(1);
-      const y = (robot.y + reach * Math.sin(turn)).toFixed(1);
-      el("plate-" + (3 + arm)).setAttribute("transform", `translate(${x} ${y})`);
-    });
   };
 
   const drawAxes = (state) => {
@@ -121,6 +205,7 @@ pub(crate) const DRAWING_SCRIPT: &str = r##"
     const moving = axes.map((_, a) => a).filter((a) => state.going[a] !== "-");
     const resting = axes.map((_, a) => a).filter((a) => state.going[a] === "-");
     const flagged = (flags) => listed(machines.filter((_, m) => flags[m] === "1"));
+    el("moving-line").textContent = moving.length === 0 ? "Nothing moves." : moving.map((a) => axes[a] + goingText(state, a)).join(", ");
     const facts = {
       plates: listed(full.map((s) => `${state.plates[s]}${state.forged[s] === "1" ? " (forged)" : ""} at ${stations[s]}`)),
       moving: listed(moving.map((a) => `${axes[a]}: ${axisText(state, a)}`)),
