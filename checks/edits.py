@@ -40,7 +40,7 @@ def plain(text):
     """The text of a source file without its imports, its comments and its hints to inline."""
     text = re.sub(r"^(?:ghost )?use [^;]*;\n", "", text, flags=re.MULTILINE)
     text = re.sub(r"^ *//.*\n", "", text, flags=re.MULTILINE)
-    return re.sub(r"^ *#\[inline(?:\(always\))?\]\n", "", text, flags=re.MULTILINE)
+    return re.sub(r"^ *#\[(?:cold|inline(?:\((?:always|never)\))?)\]\n", "", text, flags=re.MULTILINE)
 
 
 def promises(text):

@@ -5,6 +5,7 @@ use Rattle.cell_types.specs.declared.words.Machine.TheVariants as machine
 use Rattle.cell_types.specs.declared.words.Pose.{Pose}
 use Rattle.cell_diagnosis.specs.declared.reading.Reading.{Reading}
 use Rattle.cell_diagnosis.specs.declared.expect.Expect.{Expect}
+use Rattle.cell_diagnosis.specs.declared.rest_facts.RestFacts.{RestFacts}
 use Rattle.cell_diagnosis.specs.Readings.{bit, no_bits, two_bits, three_bits, six_bits}
 use Rattle.cell_diagnosis.specs.AxisFacts.{is_shown, count_shown}
 
@@ -114,3 +115,18 @@ unfoldable pub agrees : Noted → Bool
 agrees n =
     not (is_unread n) && (not (any_of_three (λ j. disagrees j n))
     && (not (any_of_three (λ k. is_lost k n)) && not (any_of_three (λ k. is_strange k n))))
+
+-- a test of each of the three axes, or presence bits
+abbrev pub of_three : (ℕ → Bool) → List Bool
+of_three test = test 0 ∷ test 1 ∷ test 2 ∷ []
+
+-- what the rules ask of a reading
+abbrev pub rest_facts_of : Noted → RestFacts
+rest_facts_of n = record {
+  missing = is_unread n;
+  agrees = agrees n;
+  disagrees = of_three (λ j. disagrees j n);
+  several = of_three (λ j. shows_several_at j n);
+  lost = of_three (λ k. is_lost k n);
+  strange = of_three (λ k. is_strange k n);
+}

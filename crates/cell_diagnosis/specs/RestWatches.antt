@@ -1,5 +1,5 @@
 -- A rest watch: what it shows, what it keeps of the readings, and the list of readings that it fits
-use Rattle.std.specs.Prelude.{◌≡◌, ℕ, Bool, ◌&&◌, Option, List, [], ◌∷◌, if◌then◌else◌}
+use Rattle.std.specs.Prelude.{◌≡◌, ℕ, Bool, true, false, ◌&&◌, Option, Some, List, [], ◌∷◌, if◌then◌else◌}
 use Rattle.cell_types.specs.declared.words.Cause.TheVariants as cause
 use Rattle.cell_types.specs.declared.words.Machine.{Machine}
 use Rattle.cell_diagnosis.specs.declared.expect.Expect.{Expect}
@@ -10,7 +10,7 @@ use Rattle.cell_diagnosis.specs.declared.rest_facts.RestFacts.{RestFacts}
 use Rattle.cell_diagnosis.specs.declared.rest_watch.RestWatch.{RestWatch}
 use Rattle.cell_diagnosis.specs.Ends.{last_are}
 use Rattle.cell_diagnosis.specs.Verdicts.{then_verdict}
-use Rattle.cell_diagnosis.specs.RestFacts.{Noted, noted, is_unread, agrees, disagrees, shows_several_at, is_lost, is_strange, is_set, any_of_three}
+use Rattle.cell_diagnosis.specs.RestFacts.{Noted, noted, is_unread, agrees, disagrees, shows_several_at, is_lost, is_strange, is_set, any_of_three, of_three, rest_facts_of}
 use Rattle.cell_diagnosis.specs.RestRules.{rest}
 
 -- the machine that a watch watches
@@ -24,21 +24,6 @@ rest_answer_of w = w.verdict
 -- a reading and its Expect as this watch notes them
 abbrev pub noted_by : RestWatch → Expect → Option Reading → Noted
 noted_by w e r = noted (machine_of w) e r
-
--- a test of each of the three axes, or presence bits
-abbrev pub of_three : (ℕ → Bool) → List Bool
-of_three test = test 0 ∷ test 1 ∷ test 2 ∷ []
-
--- what the rules ask of a reading
-abbrev pub rest_facts_of : Noted → RestFacts
-rest_facts_of n = record {
-  missing = is_unread n;
-  agrees = agrees n;
-  disagrees = of_three (λ j. disagrees j n);
-  several = of_three (λ j. shows_several_at j n);
-  lost = of_three (λ k. is_lost k n);
-  strange = of_three (λ k. is_strange k n);
-}
 
 -- the same of the last reading of a list, and false where there is none
 unfoldable pub last_rest_facts : List Noted → RestFacts
@@ -73,8 +58,11 @@ rest_ruling two_missing last next =
     else then_verdict (axis_ruling 0 last next)
     (then_verdict (axis_ruling 1 last next) (then_verdict (axis_ruling 2 last next) (plate_ruling last next)))
 
--- what a watch keeps is what the list says, and its answer is the list's verdict
+-- what a watch keeps is what the list says, and its answer is the list's verdict; facts that agree are those of the reading
+-- that it keeps, before which not two were missing
 pub record RestFits (w : RestWatch) (L : List Noted) : Type 0 where
   pub last : w.last ≡ last_rest_facts L
   pub two_missing : w.two_missing ≡ last_are 2 is_unread L
   pub verdict : w.verdict ≡ rest L
+  pub kept : w.last.agrees ≡ true → w.last ≡ rest_facts_of (noted_by w w.expect (Some w.reading))
+  pub present : w.last.agrees ≡ true → w.two_missing ≡ false

@@ -1,8 +1,7 @@
 //! What the rules of a rest watch ask of one reading.
 ghost use Rattle.std.specs.Prelude.{◌≡◌, ◌&&◌, not, nat_le};
 ghost use Rattle.cell_diagnosis.specs.AxisFacts.{count_shown};
-ghost use Rattle.cell_diagnosis.specs.RestFacts.{noted, machine_poses, machine_axes, machine_presence, pose_disagrees, any_of_three, is_set};
-ghost use Rattle.cell_diagnosis.specs.RestWatches.{rest_facts_of};
+ghost use Rattle.cell_diagnosis.specs.RestFacts.{noted, machine_poses, machine_axes, machine_presence, pose_disagrees, any_of_three, is_set, rest_facts_of};
 
 use crate::axis_facts::{count_shown, is_shown};
 use crate::reading::{bit, six_bits, three_bits, two_bits};

@@ -1,5 +1,5 @@
 //! The watch of a machine's axes at rest and of its plates.
-ghost use Rattle.std.specs.Prelude.{◌≡◌, ◌≢◌, ◌<◌, ◌++◌, ◌∷◌, List, []};
+ghost use Rattle.std.specs.Prelude.{◌≡◌, ◌≢◌, ◌<◌, ◌++◌, ◌∷◌, List, [], Some, IfSome, true};
 ghost use Rattle.cell_diagnosis.specs.Ends.{last_are};
 ghost use Rattle.cell_diagnosis.specs.RestFacts.{Noted, agrees, any_of_three};
 ghost use Rattle.cell_diagnosis.specs.RestRules.{rest};
@@ -9,9 +9,9 @@ ghost use Rattle.cell_diagnosis.specs.declared.verdict.Verdict.TheVariants.{Pend
 use crate::rest_facts::{NO_REST_FACTS, RestFacts, rest_facts_of};
 use crate::verdict::then_verdict;
 use crate::{Expect, Reading, Verdict};
-use cell_types::{Cause, Machine};
+use cell_types::{Cause, Machine, Pose};
 
-/// Watches the axes of one machine that are at rest, and its plates. It keeps the last reading's facts, and no list; which
+/// Watches the axes of one machine that are at rest, and its plates. It keeps the last reading and its facts, and no list; which
 /// verdict it answers is said of the list of all readings since its start, each with its Expect.
 ///
 /// The rules are this project's profile. Each reading is compared with the Expect given with it; a missing reading, or a
@@ -24,6 +24,9 @@ use cell_types::{Cause, Machine};
 #[derive(Clone, Copy, Debug, PartialEq, Eq)]
 pub struct RestWatch {
     machine: Machine,
+    // The last reading that wasn't missing, and its Expect.
+    reading: Reading,
+    expect: Expect,
     last: RestFacts,
     two_missing: bool,
     verdict: Verdict,
@@ -38,6 +41,8 @@ impl RestWatch {
     {
         RestWatch {
             machine,
+            reading: NO_READING,
+            expect: NOTHING_EXPECTED,
             last: NO_REST_FACTS,
             two_missing: false,
             verdict: Verdict::Pending,
@@ -57,12 +62,52 @@ impl RestWatch {
         ensures answer { rest_answer_of self.new ≡ result }
         ensures stays { rest_answer_of self.old ≢ Pending → result ≡ rest_answer_of self.old }
     {
+        if self.repeats(expect, reading) {
+            self.verdict
+        } else {
+            self.note_other(expect, reading)
+        }
+    }
+
+    // Whether a reading and its Expect are those of the reading before, and that one agreed: then nothing changes.
+    fn repeats(&self, expect: &Expect, reading: Option<Reading>) -> bool
+        ensures agrees { result ≡ true → self.now.last.agrees ≡ true }
+        ensures reading { result ≡ true → reading ≡ Some self.now.reading }
+        ensures expect { result ≡ true → expect.now ≡ self.now.expect }
+    {
+        match reading {
+            Some(reading) => {
+                self.last.agrees
+                    && is_same_reading(&self.reading, &reading)
+                    && is_same_expect(&self.expect, expect)
+            }
+            None => false,
+        }
+    }
+
+    // Notes the next reading, whatever it is.
+    #[inline(never)]
+    fn note_other(&mut self, expect: &Expect, reading: Option<Reading>) -> Verdict
+        ensures verdict { (L : List Noted) → RestFits self.old L →
+            result ≡ rest (L ++ noted_by self.old expect.now reading ∷ []) }
+        ensures fits { (L : List Noted) → RestFits self.old L →
+            RestFits self.new (L ++ noted_by self.old expect.now reading ∷ []) }
+        ensures machine { machine_of self.new ≡ machine_of self.old }
+        ensures answer { rest_answer_of self.new ≡ result }
+        ensures stays { rest_answer_of self.old ≢ Pending → result ≡ rest_answer_of self.old }
+    {
         let next = rest_facts_of(self.machine, expect, reading);
         let ruling = rest_rule(self.two_missing, &self.last, &next);
-        self.verdict = then_verdict(self.verdict, ruling);
-        self.two_missing = self.last.missing & next.missing;
-        self.last = next;
-        self.verdict
+        let verdict = then_verdict(self.verdict, ruling);
+        *self = RestWatch {
+            machine: self.machine,
+            reading: kept_reading(reading, self.reading),
+            expect: *expect,
+            last: next,
+            two_missing: self.last.missing & next.missing,
+            verdict,
+        };
+        verdict
     }
 
     /// Whether there was a reading, the last one wasn't missing, and no part of it disagreed with its Expect.
@@ -70,6 +115,52 @@ impl RestWatch {
         ensures { (L : List Noted) → RestFits self.now L → result ≡ last_are 1 agrees L }
     {
         self.last.agrees
+    }
+}
+
+// What a watch keeps before its first reading.
+const NO_READING: Reading = Reading {
+    switches: [0; 3],
+    presence: 0,
+};
+
+const NOTHING_EXPECTED: Expect = Expect {
+    poses: [None; 3],
+    must: 0,
+    may: 0,
+};
+
+fn is_same_reading(some: &Reading, other: &Reading) -> bool
+    ensures { result ≡ true → some.now ≡ other.now }
+{
+    some == other
+}
+
+fn is_same_pose(some: Option<Pose>, other: Option<Pose>) -> bool
+    ensures { result ≡ true → some ≡ other }
+{
+    some == other
+}
+
+fn is_same_expect(some: &Expect, other: &Expect) -> bool
+    ensures { result ≡ true → some.now ≡ other.now }
+{
+    let [first, second, third] = some.poses;
+    let [one, two, three] = other.poses;
+    some.must == other.must
+        && some.may == other.may
+        && is_same_pose(first, one)
+        && is_same_pose(second, two)
+        && is_same_pose(third, three)
+}
+
+// The reading that a watch keeps: the last one that wasn't missing.
+fn kept_reading(reading: Option<Reading>, before: Reading) -> Reading
+    ensures { IfSome reading (λ r. result ≡ r) }
+{
+    match reading {
+        Some(reading) => reading,
+        None => before,
     }
 }
 

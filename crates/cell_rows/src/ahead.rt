@@ -79,6 +79,7 @@ impl<R: TellsFault> ReadAhead<R> {
     }
 
     // Takes the next line, if it is plain and whole in sight.
+    #[inline(always)]
     fn take_line(&mut self) -> Result<(), Stop>
         requires { InSight self.old }
         ensures sight { InSight self.new }

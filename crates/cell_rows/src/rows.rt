@@ -163,8 +163,8 @@ impl<R: TellsFault> RowReader<R> {
 
     /// Reads the next record, and says whether there was one.
     ///
-    /// A line that is plain so far is read no further than its fourth comma, or the 21st byte of a field of it: then it is
-    /// `Unfit`. After an error the reader may stand inside a record, and is open no more.
+    /// A line that is plain up to its fourth comma, or to the 21st byte of a field of it, is `Unfit`: no end of it is looked
+    /// for. After an error the reader may stand inside a record, and is open no more.
     pub fn advance(&mut self) -> Result<bool, RowError>
         requires { IsOpen self.old }
         ensures open { OnOk result (IsOpen self.new) }

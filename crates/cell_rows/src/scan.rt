@@ -1,5 +1,5 @@
 //! Finding the four fields of a plain line.
-ghost use Rattle.std.specs.Prelude.{◌≡◌, ◌≢◌, ◌≤◌, ◌<◌, ◌⊎◌, false, length, take, get_or, Err, IfOk, IsErrOf};
+ghost use Rattle.std.specs.Prelude.{◌≡◌, ◌≢◌, ◌≤◌, ◌<◌, ◌⊎◌, false, length, take, get_or, slice_range, Err, IfOk, IsErrOf};
 ghost use Rattle.csv.specs.Writing.{default_writer, needs_byte, needs_quotes};
 ghost use Rattle.cell_rows.specs.Plain.{BeginsLine, BeginsLong, EndsField, HasComma, IsLineAt, IsUnfitAt, IsUnfitLine, TakesLine};
 
@@ -30,6 +30,7 @@ fn ends_field(byte: u8) -> bool
 }
 
 // How many bytes come before the first that can't stand in a field without quotes.
+#[inline(always)]
 fn plain_len(text: &[u8]) -> usize
     ensures bound { result ≤ length text.now }
     ensures plain { needs_quotes default_writer (take result text.now) ≡ false }
@@ -42,13 +43,29 @@ fn plain_len(text: &[u8]) -> usize
     text.len()
 }
 
+// How many bytes without quotes come from a place on, of the first that no short field has room for. Their number is a
+// constant but at the end of what is in sight, so that the compiler lays the loop out.
+#[inline(always)]
+fn plain_run(text: &[u8], from: usize, to: usize) -> usize
+    requires { (from ≤ to) × (to ≤ length text.now) }
+    ensures bound { result ≤ length (slice_range text.now from to) }
+    ensures plain { needs_quotes default_writer (take result (slice_range text.now from to)) ≡ false }
+{
+    if to - from > LONGEST_FIELD {
+        plain_len(&text[from..from + (LONGEST_FIELD + 1)])
+    } else {
+        plain_len(&text[from..to])
+    }
+}
+
 // Where the plain field that begins at a place ends.
+#[inline(always)]
 fn field_end(text: &[u8], from: usize, to: usize) -> Result<usize, Stop>
     requires { (from ≤ to) × (to ≤ length text.now) }
     ensures end { IfOk result (λ at. (at < to) × EndsField text.now from to (get_or text.now at 0) at) }
     ensures long { IsErrOf result Stop.Unfit → BeginsLong text.now from to }
 {
-    let len = plain_len(&text[from..to]);
+    let len = plain_run(text, from, to);
     if len > LONGEST_FIELD {
         return Err(Stop::Unfit);
     }
@@ -57,6 +74,7 @@ fn field_end(text: &[u8], from: usize, to: usize) -> Result<usize, Stop>
 }
 
 // Where the plain field that begins at a place ends at a comma.
+#[inline(always)]
 fn comma(text: &[u8], from: usize, to: usize) -> Result<usize, Stop>
     requires { (from ≤ to) × (to ≤ length text.now) }
     ensures end { IfOk result (λ at. EndsField text.now from to 44 at) }
@@ -71,6 +89,7 @@ fn comma(text: &[u8], from: usize, to: usize) -> Result<usize, Stop>
 }
 
 // Where the plain field that begins at a place ends at a line feed. A comma there is that of a fifth field.
+#[inline(always)]
 fn line_feed(text: &[u8], from: usize, to: usize) -> Result<usize, Stop>
     requires { (from ≤ to) × (to ≤ length text.now) }
     ensures end { IfOk result (λ at. EndsField text.now from to 10 at) }
@@ -85,6 +104,7 @@ fn line_feed(text: &[u8], from: usize, to: usize) -> Result<usize, Stop>
 }
 
 // The places of the fields of the line that begins at `start`, if it has four plain fields and ends before `to`.
+#[inline(always)]
 fn places_of(text: &[u8], start: usize, to: usize) -> Result<Places, Stop>
     requires { (start ≤ to) × (to ≤ length text.now) × (to ≤ 16384) }
     ensures line { IfOk result (λ places. IsLineAt text.now start to places) }
@@ -105,6 +125,7 @@ fn places_of(text: &[u8], start: usize, to: usize) -> Result<Places, Stop>
 
 // Where the next line begins: after the line feed that ended the last one, if there is one. A line that might begin with
 // a byte order mark is odd.
+#[inline(always)]
 fn line_start(text: &[u8], at: usize, to: usize) -> Result<usize, Stop>
     requires { (at ≤ to) × (to ≤ length text.now) }
     ensures start { IfOk result (λ start. BeginsLine text.now at to start) }

@@ -463,6 +463,9 @@ impl World {
             return;
         };
         let phase = motion.next_phase();
+        if phase == motion.phase {
+            return;
+        }
         self.set_motion(axis, Some(Motion { phase, ..motion }));
         match (motion.phase, phase) {
             (Phase::Seen, Phase::Between(_)) => self.leave(axis, motion.fault),

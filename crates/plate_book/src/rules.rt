@@ -212,6 +212,7 @@ impl Registers {
     }
 
     /// Why an entry isn't allowed now.
+    #[inline(always)]
     pub fn refusal(&self, limits: BookLimits, entry: Entry) -> Option<Refusal>
         requires { limits.entries ≤ 1000000 }
         ensures { result ≡ first limits (recorded self.now) entry }

@@ -1,18 +1,11 @@
-use Rattle.std.proofs.Common.{◌∙◌, refl}
-use Rattle.cell_diagnosis.proofs.VerdictLaws.{then_stays}
-use Rattle.cell_diagnosis.proofs.RestLaws.{rest_note, last_note, missing_note}
+use Rattle.cell_diagnosis.proofs.RestLaws.{repeated}
 use Rattle.cell_diagnosis.proofs.rest_watch.RestWatch.note.Goals as goal
 
-pub returns-clause-verdict : goal.returns-clause-verdict
-returns-clause-verdict c L f =
-    rest_note c.args.self.now L _ _ _ _ c.rest_facts_of-next.ensures c.rest_rule-ruling.ensures c.then_verdict-self.ensures f
+pub returns-then-repeats-clause-fits : goal.returns-then-repeats-clause-fits
+returns-then-repeats-clause-fits c L f =
+    let same = c.repeats.ensures in
+    let is = c.if-repeats.true in
+    repeated c.args.self.now L c.args.expect.now c.args.reading (same.agrees is) (same.reading is) (same.expect is) f
 
-pub returns-clause-fits : goal.returns-clause-fits
-returns-clause-fits c L f = record {
-  last = last_note L _ _ c.rest_facts_of-next.ensures;
-  two_missing = missing_note c.args.self.now L _ _ _ c.rest_facts_of-next.ensures refl f;
-  verdict = returns-clause-verdict c L f;
-}
-
-pub returns-clause-stays : goal.returns-clause-stays
-returns-clause-stays c h = c.then_verdict-self.ensures ∙ then_stays _ _ h
+pub returns-then-repeats-clause-verdict : goal.returns-then-repeats-clause-verdict
+returns-then-repeats-clause-verdict c L f = (returns-then-repeats-clause-fits c L f).verdict
