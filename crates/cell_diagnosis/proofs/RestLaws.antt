@@ -106,10 +106,10 @@ agreeing_is_no_fault both n agreed =
   where
     by : (t u a b c p q r l m o x y z : Bool) → (not u && (not (a || (b || c)) && (not (l || (m || o)) && not (x || (y || z))))) ≡ true
         → Pending ≡ (if t && u then Fault cause.Silent
-          else then_verdict (if a && a then (if p && p then Fault cause.Contradictory else Fault cause.LostPosition) else Pending)
-          (then_verdict (if b && b then (if q && q then Fault cause.Contradictory else Fault cause.LostPosition) else Pending)
-          (then_verdict (if c && c then (if r && r then Fault cause.Contradictory else Fault cause.LostPosition) else Pending)
-          (if (l && l) || ((m && m) || (o && o)) then Fault cause.PlateLost else if (x && x) || ((y && y) || (z && z)) then Fault cause.StrangePlate else Pending))))
+        else then_verdict (if a && a then (if p && p then Fault cause.Contradictory else Fault cause.LostPosition) else Pending)
+        (then_verdict (if b && b then (if q && q then Fault cause.Contradictory else Fault cause.LostPosition) else Pending)
+        (then_verdict (if c && c then (if r && r then Fault cause.Contradictory else Fault cause.LostPosition) else Pending)
+        (if (l && l) || ((m && m) || (o && o)) then Fault cause.PlateLost else if (x && x) || ((y && y) || (z && z)) then Fault cause.StrangePlate else Pending))))
     by t true a b c p q r l m o x y z h = cc
     by t false true b c p q r l m o x y z h = cc
     by t false false true c p q r l m o x y z h = cc
@@ -139,8 +139,8 @@ repeated w L e r agreed same_reading same_expect f =
     let is : w.last ≡ rest_facts_of n = f.kept agreed in
     let there : w.last.missing ≡ false = agreeing_is_there n w.last is agreed in
     let none : Pending ≡ rest_ruling w.two_missing w.last w.last =
-        agreeing_is_no_fault w.two_missing n (agreed_at w.last (rest_facts_of n) is agreed)
-        ∙ ap (λ (facts : RestFacts). rest_ruling w.two_missing facts facts) (sym is) in
+    agreeing_is_no_fault w.two_missing n (agreed_at w.last (rest_facts_of n) is agreed)
+    ∙ ap (λ (facts : RestFacts). rest_ruling w.two_missing facts facts) (sym is) in
     rw (same_reading, same_expect) (record {
       last = last_note L n w.last is;
       two_missing = missing_note w L n w.last w.two_missing is (f.present agreed ∙ sym (ap (λ (b : Bool). b && b) there)) f;

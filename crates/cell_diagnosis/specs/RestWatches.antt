@@ -1,5 +1,5 @@
 -- A rest watch: what it shows, what it keeps of the readings, and the list of readings that it fits
-use Rattle.std.specs.Prelude.{◌≡◌, ℕ, Bool, true, false, ◌&&◌, Option, Some, List, [], ◌∷◌, if◌then◌else◌}
+use Rattle.std.specs.Prelude.{◌≡◌, ℕ, Bool, true, false, ◌&&◌, Option, Some, List, if◌then◌else◌}
 use Rattle.cell_types.specs.declared.words.Cause.TheVariants as cause
 use Rattle.cell_types.specs.declared.words.Machine.{Machine}
 use Rattle.cell_diagnosis.specs.declared.expect.Expect.{Expect}

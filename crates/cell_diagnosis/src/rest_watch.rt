@@ -75,9 +75,10 @@ impl RestWatch {
         ensures reading { result ≡ true → reading ≡ Some self.now.reading }
         ensures expect { result ≡ true → expect.now ≡ self.now.expect }
     {
+        let before = &self.last;
         match reading {
             Some(reading) => {
-                self.last.agrees
+                before.agrees
                     && is_same_reading(&self.reading, &reading)
                     && is_same_expect(&self.expect, expect)
             }

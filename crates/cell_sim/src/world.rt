@@ -457,15 +457,15 @@ impl World {
         }
     }
 
-    // The motion of an axis goes on by one reading.
+    // The motion of an axis goes on by one reading, unless it has arrived or was stopped.
     fn advance(&mut self, axis: Axis) {
         let Some(motion) = self.axis(axis).motion else {
             return;
         };
-        let phase = motion.next_phase();
-        if phase == motion.phase {
+        if !self.axis(axis).is_moving() {
             return;
         }
+        let phase = motion.next_phase();
         self.set_motion(axis, Some(Motion { phase, ..motion }));
         match (motion.phase, phase) {
             (Phase::Seen, Phase::Between(_)) => self.leave(axis, motion.fault),
