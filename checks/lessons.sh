@@ -46,12 +46,14 @@ commands() {
 
 # Each row of the table of rules has a journal, and each rule of the world has commands that break it.
 rules() {
-    local name row
-    for row in $(seq -w 1 "$(sed -n '/^| Rule /,/^$/p' docs/SAFETY.md | tail -n +3 | grep -c '^|')"); do
-        row=$(printf '%02d' "$((10#$row))")
-        compgen -G "examples/rules/${row}_*.journal" > /dev/null || wrong "row $row of the rules has no journal"
+    local rows names row name
+    rows=$(sed -n '/^| Rule /,/^$/p' docs/SAFETY.md | grep -c '^| [A-Z].*`')
+    names=$(sed -n '/^## The rules in the simulated world/,/^## /s/^| `\([A-Za-z]*\)` |.*/\1/p' docs/SAFETY.md)
+    [ "$rows" -gt 0 ] && [ -n "$names" ] || wrong "docs/SAFETY.md has no tables of rules"
+    for row in $(seq "$rows"); do
+        compgen -G "examples/rules/$(printf %02d "$row")_*.journal" > /dev/null || wrong "row $row of the rules has no journal"
     done
-    for name in $(sed -n '/^| Name | Broken where/,/^$/s/^| `\([A-Za-z]*\)`.*/\1/p' docs/SAFETY.md); do
+    for name in $names; do
         grep -qx "$name" "$work/names" || wrong "no commands break $name"
     done
 }
