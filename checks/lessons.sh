@@ -63,9 +63,9 @@ exercise() {
     local folder=$1 number=${1##*/}
     number=${number%%_*}
     tried=$((tried + 1))
-    timeout 60 examples/exercises/check.py "$number" "$folder"/start.* > "$work/start"
+    timeout 300 examples/exercises/check.py "$number" "$folder"/start.* > "$work/start"
     [ $? = 1 ] && grep -q "^exercise $number: not yet: " "$work/start" || wrong "the starting file of $folder is taken: $(cat "$work/start")"
-    timeout 60 examples/exercises/check.py "$number" "$folder"/solution/solved.* > "$work/solved" || wrong "$folder: $(cat "$work/solved")"
+    timeout 300 examples/exercises/check.py "$number" "$folder"/solution/solved.* > "$work/solved" || wrong "$folder: $(cat "$work/solved")"
 }
 
 exercises() {
@@ -88,7 +88,7 @@ floor_plan() {
 results() {
     local line
     command -v python3 > /dev/null || return
-    timeout 60 examples/results.py --quick > "$work/results" || wrong "examples/results.py fails"
+    timeout 300 examples/results.py --quick > "$work/results" || wrong "examples/results.py fails"
     while IFS= read -r line; do
         grep -qFx "$line" docs/RESULTS.md || wrong "docs/RESULTS.md hasn't the row $line"
     done < <(grep '^|' "$work/results")
