@@ -46,12 +46,14 @@ commands() {
 
 # Each row of the table of rules has a journal, and each rule of the world has commands that break it.
 rules() {
-    local name row
-    for row in $(seq -w 1 "$(sed -n '/^| Rule /,/^$/p' docs/SAFETY.md | tail -n +3 | grep -c '^|')"); do
-        row=$(printf '%02d' "$((10#$row))")
-        compgen -G "examples/rules/${row}_*.journal" > /dev/null || wrong "row $row of the rules has no journal"
+    local rows names row name
+    rows=$(sed -n '/^| Rule /,/^$/p' docs/SAFETY.md | grep -c '^| [A-Z].*`')
+    names=$(sed -n '/^## The rules in the simulated world/,/^## /s/^| `\([A-Za-z]*\)` |.*/\1/p' docs/SAFETY.md)
+    [ "$rows" -gt 0 ] && [ -n "$names" ] || wrong "docs/SAFETY.md has no tables of rules"
+    for row in $(seq "$rows"); do
+        compgen -G "examples/rules/$(printf %02d "$row")_*.journal" > /dev/null || wrong "row $row of the rules has no journal"
     done
-    for name in $(sed -n '/^| Name | Broken where/,/^$/s/^| `\([A-Za-z]*\)`.*/\1/p' docs/SAFETY.md); do
+    for name in $names; do
         grep -qx "$name" "$work/names" || wrong "no commands break $name"
     done
 }
@@ -61,9 +63,9 @@ exercise() {
     local folder=$1 number=${1##*/}
     number=${number%%_*}
     tried=$((tried + 1))
-    timeout 60 examples/exercises/check.py "$number" "$folder"/start.* > "$work/start"
+    timeout 300 examples/exercises/check.py "$number" "$folder"/start.* > "$work/start"
     [ $? = 1 ] && grep -q "^exercise $number: not yet: " "$work/start" || wrong "the starting file of $folder is taken: $(cat "$work/start")"
-    timeout 60 examples/exercises/check.py "$number" "$folder"/solution/solved.* > "$work/solved" || wrong "$folder: $(cat "$work/solved")"
+    timeout 300 examples/exercises/check.py "$number" "$folder"/solution/solved.* > "$work/solved" || wrong "$folder: $(cat "$work/solved")"
 }
 
 exercises() {
@@ -86,7 +88,7 @@ floor_plan() {
 results() {
     local line
     command -v python3 > /dev/null || return
-    timeout 60 examples/results.py --quick > "$work/results" || wrong "examples/results.py fails"
+    timeout 300 examples/results.py --quick > "$work/results" || wrong "examples/results.py fails"
     while IFS= read -r line; do
         grep -qFx "$line" docs/RESULTS.md || wrong "docs/RESULTS.md hasn't the row $line"
     done < <(grep '^|' "$work/results")
