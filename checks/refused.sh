@@ -264,6 +264,16 @@ refuse_shown() {
     refuse_words answer_is_right "measure --csv" measure --csv "$examples/whole.journal"
 }
 
+# The search over every order of events: no plate, and the shortest journal of one to a stuck state.
+refuse_explored() {
+    : > "$folder/input"
+    refuse_words answer_is_right "explore" explore 0
+    # (of some thousand allocations each 101st is refused)
+    step=101
+    refuse_words answer_is_right "explore --journal" explore --fail robot --journal 1
+    step=1
+}
+
 refuse_program() {
     local short=("$folder/short.toml" "$folder/short.faults" "$folder/short.operator")
     local none=$examples/no_faults.faults
@@ -286,6 +296,7 @@ refuse_program() {
     sed -i '1s/^profile,2/profile,1/' "$folder/input"
     refuse_words answer_is_right "migrate" migrate
     refuse_shown
+    refuse_explored
     refuse_words ending_is_right "sim --explain" sim --explain "${stalled[@]}"
     refuse_words ending_is_right "run --explain" run --explain "${run[0]}" "$folder/unreached.faults" "${run[2]}"
     refuse_words answer_is_right "run" run "${run[@]}"
