@@ -231,6 +231,7 @@ impl Registers {
 #[tactic(auto, using(crate::proofs::Appended::first_true_append))]
 impl Registers {
     /// The tests of an entry by its kind.
+    #[inline(always)]
     fn kind_tests(&self, limits: BookLimits, entry: Entry) -> Option<Refusal>
         ensures { result ≡ first_true (kind_tests limits (recorded self.now) entry) }
     {

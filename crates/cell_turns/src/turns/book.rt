@@ -49,6 +49,7 @@ pub fn make_room(entries: &mut Vec<Entry>, entry: &Option<Entry>) -> Result<(), 
 }
 
 /// Books an entry, if there is one, and lists it.
+#[inline(always)]
 pub fn book_entry<R: Run>(
     kept: &mut Kept<R>,
     shares: &mut Shares<R>,

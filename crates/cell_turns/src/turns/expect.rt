@@ -39,6 +39,7 @@ fn motion_of_axis(book: &Book, plan: &Plan, machine: Machine, i: usize) -> Optio
 }
 
 /// The motion of the machine's axis that moves, if one does.
+#[inline(always)]
 pub fn motion_of_machine(book: &Book, plan: &Plan, machine: Machine) -> Option<Motion>
     ensures { result ≡ motion_of_machine book.now.entries plan.now machine }
 {
