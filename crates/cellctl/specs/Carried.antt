@@ -235,8 +235,7 @@ Explores q limit journal old new written = IfOk written (TellsSearch q limit jou
 -- line among the errors says so, and nothing is printed
 abbrev pub ExploresWords : Exploring → Option (List ℕ) → Option (List ℕ) → Option (List ℕ) → Option (List ℕ) → Result ℕ WriteFault → Type 0
 ExploresWords exploring old new old_errors new_errors written =
-    ((question : Question) × (limit : ℕ) × Asks exploring question limit × Explores question limit exploring.journal old new written
-    × (new_errors ≡ old_errors))
+    ((question : Question) × (limit : ℕ) × Asks exploring question limit × Explores question limit exploring.journal old new written)
     ⊎ (AsksNothing exploring × ((status : ℕ) × (written ≡ Ok status) × IsWrong old new old_errors new_errors status))
 
 -- what is written for the audit of a text

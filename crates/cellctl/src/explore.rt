@@ -6,17 +6,19 @@ use crate::asked::{limit_of, named, number_in, stranger};
 use crate::failure::Failure;
 use crate::wrong::wrong;
 use cell_command::{Escaped, Exploring};
-use cell_explore::{MOST_PLATES, Question, explore_lines};
+use cell_explore::{MOST_PLATES, ProgressLine, Question, explore_lines};
 use cell_lines::WriteFault;
 use std::alloc::Global;
 use std::io::Write;
 
-/// Looks at every order of events that the words of the command line ask for.
+/// Looks at every order of events that the words of the command line ask for. With `progress` the errors tell how many states
+/// were looked at.
 pub(crate) fn explore_words<'a, W: Write, E: Write>(
     alloc: Global,
     output: &mut W,
     errors: &mut E,
     exploring: &Exploring<'a>,
+    progress: bool,
 ) -> Result<Result<u8, WriteFault>, Failure<'a>>
     ensures { IfOk result (ExploresWords exploring.now (W.contents output.old) (W.contents output.new) (E.contents errors.old) (E.contents errors.new)) }
 {
@@ -39,5 +41,13 @@ pub(crate) fn explore_words<'a, W: Write, E: Write>(
         may_fail: named(failing),
         repairs: exploring.repairs,
     };
-    Ok(explore_lines(alloc, &question, limit, exploring.journal, output))
+    let mut line = ProgressLine::new(errors, progress);
+    Ok(explore_lines(
+        alloc,
+        &question,
+        limit,
+        exploring.journal,
+        output,
+        &mut line,
+    ))
 }

@@ -357,7 +357,7 @@ pub(crate) fn carry_out<
             Ok(without_ending(sweep_words(rt, output, errors, sweeping, progress)?))
         }
         Order::Explore(exploring) => {
-            Ok(without_ending(explore_words(rt.alloc(), output, errors, &exploring)?))
+            Ok(without_ending(explore_words(rt.alloc(), output, errors, &exploring, progress)?))
         }
         Order::Drive(driving) => Ok(without_ending(drive_files(
             rt, input, output, errors, driving,

@@ -1,5 +1,6 @@
 //! How many states there are, as the same steps in another language count them.
 use cell_explore::{Question, search};
+use state_search::NoProgress;
 use std::alloc::Global;
 use std::process::Abort;
 
@@ -27,7 +28,7 @@ fn check_counts(
         may_fail,
         repairs,
     };
-    let Ok(found) = search(alloc, &asked, 100_000) else {
+    let Ok(found) = search(alloc, &asked, 100_000, &mut NoProgress) else {
         panic!(rt; "there is memory");
     };
     assert!(rt; found.is_complete, "all are seen");
@@ -72,7 +73,7 @@ fn stops_past_the_limit(rt: HostRuntime) {
         may_fail: NONE_FAILS,
         repairs: false,
     };
-    let Ok(found) = search(rt.alloc(), &asked, 1630) else {
+    let Ok(found) = search(rt.alloc(), &asked, 1630, &mut NoProgress) else {
         panic!(rt; "there is memory");
     };
     assert!(rt; !found.is_complete, "there is one state more");
