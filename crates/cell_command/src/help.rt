@@ -436,6 +436,8 @@ Or says that there are more than STATES states, 1 to 4294967295, by default
 With --journal prints in their place the shortest journal to a stuck state,
 or, if there is none, to the end.
 
+On a terminal standard error tells how many states were looked at.
+
 Exit status: 0 nothing is stuck, 1 something is, or there are more states,
 2 wrong arguments, 3 a write failed, 4 out of memory.";
 
