@@ -256,7 +256,7 @@ const checkFollowing = async () => {
 // A step is drawn at once where less motion is asked for, else it is at its end after half a second.
 const checkMotion = async () => {
   const place = () => ask(`[...document.querySelectorAll("#cell .plate:not(.off)"), document.getElementById("arms"), document.getElementById("arm-0"),
-    ...document.querySelectorAll("#cell .bead, #cell .pointer")].map((node) => [node.getAttribute("transform"), node.getAttribute("x2")].join(" ")).join("; ")`);
+    ...document.querySelectorAll("#cell .bead:not(.off), #cell .pointer:not(.off)")].map((node) => [node.getAttribute("transform"), node.getAttribute("x2")].join(" ")).join("; ")`);
   const steps = Array.from({ length: Math.min(last, 40) }, (_, k) => k + 1);
   for (const reduce of [true, false]) {
     await tell("Emulation.setEmulatedMedia", { features: [{ name: "prefers-reduced-motion", value: reduce ? "reduce" : "no-preference" }] });
