@@ -268,7 +268,7 @@ refuse_shown() {
 refuse_explored() {
     : > "$folder/input"
     refuse_words answer_is_right "explore" explore 0
-    # (of some thousand allocations each 101st is refused)
+    # (some 7,000 allocations, of which each 101st is refused)
     step=101
     refuse_words answer_is_right "explore --journal" explore --fail robot --journal 1
     step=1
