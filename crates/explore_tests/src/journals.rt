@@ -73,14 +73,8 @@ fn prints_that_there_are_more(rt: HostRuntime) {
     let mut text = Vec::new(rt.alloc());
     let mut errors = Vec::new(rt.alloc());
     let mut progress = ProgressLine::new(&mut errors, false);
-    let Ok(status) = explore_lines(
-        rt.alloc(),
-        &ONE_PLATE,
-        100,
-        true,
-        &mut text,
-        &mut progress,
-    ) else {
+    let Ok(status) = explore_lines(rt.alloc(), &ONE_PLATE, 100, true, &mut text, &mut progress)
+    else {
         panic!(rt; "a list takes all");
     };
     let wanted = b"more than 100 states\n".as_slice();
@@ -97,13 +91,17 @@ fn check_line(rt: &impl Abort, alloc: Global, is_wanted: bool, shown: &[u8], cle
     progress.note(20_000, 30_000);
     progress.clear();
     progress.clear();
-    assert!(rt; errors.as_slice() == cleared, "the line is taken away, once");
+    assert!(rt;
+        errors.as_slice() == cleared,
+        "the line is taken away, once"
+    );
 }
 
 #[test]
 fn tells_how_far_it_is(rt: HostRuntime) {
     let line = b"looked at 20000 of 30000 states seen so far\r".as_slice();
-    let twice = b"looked at 20000 of 30000 states seen so far\rlooked at 20000 of 30000 states seen so far\r                                                            \r".as_slice();
+    let twice =
+        b"looked at 20000 of 30000 states seen so far\rlooked at 20000 of 30000 states seen so far\r                                                            \r".as_slice();
     check_line(&rt, rt.alloc(), true, line, twice);
 }
 
