@@ -62,6 +62,7 @@ pub fn list_delivered(delivered: &mut Vec<PlateId>, limit: u32, entry: &Entry)
 }
 
 /// Lists the plate that the operator took out, and no longer one that is laid back.
+#[inline(always)]
 pub fn list_cleared(
     quarantine: &mut IndexMap<PlateId, Station>,
     entry: &Entry,

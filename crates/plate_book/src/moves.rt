@@ -136,6 +136,7 @@ impl Registers {
         }
     }
 
+    #[inline(always)]
     pub fn started_tests(&self, axis: Axis, to: Pose) -> Option<Refusal>
         ensures { result ≡ first_true (started_tests (recorded self.now) axis to) }
     {
