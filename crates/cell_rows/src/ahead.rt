@@ -111,6 +111,7 @@ impl<R: TellsFault> ReadAhead<R> {
 
     /// Takes the next line, if it is plain, over as many reads as it takes. It reads no more of a line that is plain so far
     /// and none of a record that fits.
+    #[inline(always)]
     pub(crate) fn advance(&mut self) -> Result<bool, RowError>
         requires { InSight self.old }
         ensures sight { OnOk result (InSight self.new) }
@@ -121,17 +122,16 @@ impl<R: TellsFault> ReadAhead<R> {
         ensures fault { IsErrOf result RowError.ReadFault → R.failed self.new.source ≡ true }
     {
         for _ in 0..u64::MAX {
-            self.skip_blank();
             match self.take_line() {
                 Ok(()) => return Ok(true),
                 Err(Stop::Unfit) => return Err(RowError::Unfit),
+                Err(Stop::Odd) if self.begins_blank() => self.skip_blank(),
                 Err(Stop::Odd) => return Ok(false),
-                Err(Stop::Cut) => {}
-            }
-            match self.refill() {
-                Ok(true) => {}
-                Ok(false) => return Ok(false),
-                Err(_) => return Err(RowError::ReadFault),
+                Err(Stop::Cut) => match self.refill() {
+                    Ok(true) => {}
+                    Ok(false) => return Ok(false),
+                    Err(_) => return Err(RowError::ReadFault),
+                },
             }
         }
         Ok(false)

@@ -165,6 +165,7 @@ impl<R: TellsFault> RowReader<R> {
     ///
     /// A line that is plain up to its fourth comma, or to the 21st byte of a field of it, is `Unfit`: no end of it is looked
     /// for. After an error the reader may stand inside a record, and is open no more.
+    #[inline(always)]
     pub fn advance(&mut self) -> Result<bool, RowError>
         requires { IsOpen self.old }
         ensures open { OnOk result (IsOpen self.new) }

@@ -3,7 +3,7 @@ use Rattle.std.specs.Prelude.{slice_range}
 use Rattle.csv.specs.declared.parser.State.TheVariants as st
 use Rattle.cell_rows.specs.Texts.{Row}
 use Rattle.cell_rows.proofs.Unfit.{spoiled_by_comma, spoiled_by_length, spoiled_later, spoiled_line}
-use Rattle.cell_rows.proofs.scan.places_of.Goals as goal
+use Rattle.cell_rows.proofs.scan.places_in.Goals as goal
 
 pub returns-in_err-first-clause-unfit : goal.returns-in_err-first-clause-unfit
 returns-in_err-first-clause-unfit c =
