@@ -1,6 +1,6 @@
 #!/bin/sh
 # Times the audit of a long legal journal against reading the same bytes alone, and, where rustc is there, against an audit
-# in plain Rust, audit_peer.rs. Where valgrind is there, it also counts the instructions that an entry takes, which don't
+# in plain Rust, audit_peer.rs, which cuts the text by std's lines and split, or byte by byte. Where valgrind is there, it also counts the instructions that an entry takes, which don't
 # depend on what else the machine does, and whose they are.
 # Usage: bench/run.sh [PLATES]     13,000 plates by default, which are 987,986 entries (22 MB)
 # CELLCTL=PROGRAM in the environment names another program than the one that was built.
@@ -41,18 +41,25 @@ count_instructions() {
 read_time=
 audit_time=
 peer_time=
+lines_time=
 for _ in 1 2 3 4 5 6 7 8 9; do
     run_once read_time cat
     run_once audit_time "$cellctl" audit
-    if [ -n "$peer" ]; then run_once peer_time "$peer"; fi
+    if [ -n "$peer" ]; then
+        run_once peer_time "$peer"
+        run_once lines_time "$peer" lines
+    fi
 done
 echo "reading the bytes alone: $((read_time / 1000)) microseconds"
 echo "cellctl audit: $((audit_time / 1000)) microseconds, $((entries * 1000000000 / audit_time)) entries a second"
 "$cellctl" audit < "$journal" | tee "$work/told"
 if [ -n "$peer" ]; then
-    echo "plain Rust: $((peer_time / 1000)) microseconds"
-    awk -v audit="$audit_time" -v peer="$peer_time" 'BEGIN { printf "cellctl audit takes %.2f times its time\n", audit / peer }'
-    "$peer" < "$journal" | cmp -s - "$work/told" || { echo "plain Rust prints something else"; exit 1; }
+    echo "plain Rust by lines and split: $((lines_time / 1000)) microseconds; byte by byte: $((peer_time / 1000))"
+    awk -v audit="$audit_time" -v peer="$peer_time" -v lines="$lines_time" \
+        'BEGIN { printf "cellctl audit takes %.2f and %.2f times their times\n", audit / lines, audit / peer }'
+    for word in "" lines; do
+        "$peer" $word < "$journal" | cmp -s - "$work/told" || { echo "plain Rust prints something else"; exit 1; }
+    done
 else
     echo "plain Rust: not timed, since there is no rustc that builds it"
 fi
