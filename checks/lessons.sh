@@ -47,7 +47,7 @@ commands() {
 # Each row of the table of rules has a journal, and each rule of the world has commands that break it.
 rules() {
     local rows names row name
-    rows=$(sed -n '/^| Rule /,/^$/p' docs/SAFETY.md | grep -c '^| [A-Z].*`')
+    rows=$(sed -n '/^| Rule /,/^$/p' docs/SAFETY.md | grep -c '^| [0-9]* | [A-Z].*`')
     names=$(sed -n '/^## The rules in the simulated world/,/^## /s/^| `\([A-Za-z]*\)` |.*/\1/p' docs/SAFETY.md)
     [ "$rows" -gt 0 ] && [ -n "$names" ] || wrong "docs/SAFETY.md has no tables of rules"
     for row in $(seq "$rows"); do

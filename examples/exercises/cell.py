@@ -119,10 +119,11 @@ def propose(programs, answers):
 
 def control(**programs):
     """Controls the cell by the programs of the machines that are named, and by those above. What the cell tells at the end is
-    copied to standard error."""
+    copied to standard error; below it stands what was refused in the last round, if the run isn't finished. What can't be read
+    as an entry is told there at once."""
     global wanted
     programs = {"feed": feed(), "table": table(), **programs, "deposit": deposit()}
-    answers, idle = {}, 0
+    entries, told, answers, idle = {}, {}, {}, 0
     for line in sys.stdin:
         word, first, second, third = line.rstrip("\n").split(",")
         if word == "drive":
@@ -134,7 +135,14 @@ def control(**programs):
         elif word == "round":
             entries = propose(programs, answers)
             print(*entries.values(), "done,,," if idle < PATIENCE else "quit,,,", sep="\n", flush=True)
-            answers = {machine: next(sys.stdin).split(",")[0] for machine in entries}
+            told = {machine: next(sys.stdin).rstrip("\n").split(",") for machine in entries}
+            answers = {machine: answer[0] for machine, answer in told.items()}
             idle = 0 if {"ok", "failed"} & set(answers.values()) else idle + 1
+            for machine in entries:
+                if answers[machine] == "unreadable":
+                    sys.stderr.write(f"{machine} proposes {entries[machine]} which is no record of a machine's entry\n")
         elif word == "end":
             sys.stderr.write(line + sys.stdin.read())
+            for machine, (answer, name, what, _) in told.items():
+                if first != "finished" and answer == "refused":
+                    sys.stderr.write(f"{machine} asks for {entries[machine]} and is refused: {name} {what}\n")

@@ -21,6 +21,7 @@ sys.path.insert(0, str(HERE.parent / "methods"))
 import compare  # noqa: E402
 
 EDITS = 6       # so many lines of the journal may be written anew
+ENDS = ["finished", "turn limit", "full", "quit", "too many lines", "memory"]     # of a run that a method drives
 
 
 class Missing(Exception):
@@ -39,25 +40,29 @@ def told(*words):
 
 def repair(folder, file, asked):
     answer = told("audit", file)
-    need(answer[0].startswith("legal"), f"{answer[0]}; {told('explain', file)[0]}")
-    need({"forged 2", "delivered 2"} <= set(answer), f"two plates have to be forged and delivered: {', '.join(answer)}")
+    need(answer[0].startswith("legal"), told("explain", file)[0])
+    need({"forged 2", "delivered 2"} <= set(answer), f"two plates have to be forged and delivered, and there are: {', '.join(answer)}")
     changes = difflib.unified_diff(Path(folder, "start.journal").read_text().splitlines(), file.read_text().splitlines(), n=0)
     lines = [line[0] for line in changes if line[:3] not in ("---", "+++", "@@ ")]
-    need(max(lines.count("+"), lines.count("-")) <= EDITS, f"more than {EDITS} lines are another than in start.journal")
+    need(max(lines.count("+"), lines.count("-")) <= EDITS, f"more than {EDITS} lines differ from start.journal")
 
 
 def serve(folder, file, asked):
-    answer = told("sim", folder / "cell.toml", folder / "given.faults", file)
-    need(answer[0] == "finished", f"the run ends with {answer[0]}")
-    need("delivered 4" in answer, f"four plates have to be delivered: {', '.join(answer)}")
+    files = map(str, [folder / "cell.toml", folder / "given.faults", file])
+    run = subprocess.run([CELLCTL, "sim", "--explain", *files], stdout=subprocess.PIPE, stderr=subprocess.PIPE, text=True)
+    answer = run.stdout.splitlines()
+    need(not answer[0].startswith("operator "), f"the script can't be read: {told('explain', '--operator', file)[0]}")
+    need(answer[0] == "finished", f"the run ends with {answer[0]}, and sim --explain says:\n{run.stderr.rstrip()}")
+    need("delivered 4" in answer, f"four plates have to be delivered, and there are: {', '.join(answer)}")
 
 
 def find(folder, file, asked):
-    need(len(file.read_text().split()) == 1, "the script has to have one line")
+    need(sum(not line.isspace() for line in file.read_text().splitlines(True)) == 1, "the script has to have one line")
     given = Path(folder, "given.journal").read_text().splitlines()
     mine = told("sim", "--journal", folder / "cell.toml", file, "/dev/null")
-    for number, (wanted, have) in enumerate(zip([*given, "nothing"], [*mine, "nothing"]), 1):
-        need(wanted == have, f"line {number} of the journal is {wanted}, and by this script {have}")
+    need(not mine[0].startswith("faults "), f"the script can't be read: {told('explain', '--faults', file)[0]}")
+    for number, (wanted, have) in enumerate(zip([*given, "the end"], [*mine, "the end"]), 1):
+        need(wanted == have, f'line {number} of given.journal is "{wanted}", and by this script it is "{have}"')
 
 
 def drive(folder, method, faults="/dev/null"):
@@ -65,15 +70,22 @@ def drive(folder, method, faults="/dev/null"):
     return compare.run(str(method), (str(folder / "cell.toml"), str(faults), "/dev/null"))
 
 
+def need_told(run, when):
+    """The method was there when the run ended: it copied what the cell told then. Else there is what it said first."""
+    said = f'first it said "{run["end"].strip()}", and the commands of TASK.md show the rest' if "end" in run else "it said nothing"
+    need(run.get("end") in ENDS, f"{when} the method broke off before the run's end: {said}")
+
+
 def need_true(run, when):
     """Nothing untrue was booked in a run, and no safety rule was broken."""
     for word in ("untrue", "broken"):
-        need(run.get(word) == 0, f"{when}: {word} {run.get(word)}")
+        need(run[word] == 0, f"{when}: {word} {run[word]}, and it has to be 0; drive --explain says where")
 
 
 def need_finished(run, plates):
-    need(run.get("end") == "finished", f"without a fault the run ends with {run.get('end')}, delivered {run.get('delivered')}")
-    need(run.get("delivered") == plates, f"delivered {run.get('delivered')} of {plates} plates")
+    need_told(run, "without a fault")
+    need(run["end"] == "finished", f"without a fault the run ends with {run['end']}, and {run['delivered']} plates are delivered")
+    need(run["delivered"] == plates, f"{run['delivered']} of {plates} plates are delivered")
     need_true(run, "without a fault")
 
 
@@ -103,8 +115,9 @@ def need_five(folder, method, script):
         faults.write(script)
         faults.flush()
         run = drive(folder, method, faults.name)
-    when = f"with the fault {script.strip()}"
-    need(run.get("delivered", 0) >= 5, f"{when}: delivered {run.get('delivered')} of 6 plates, and 5 have to be")
+    when = f'with the fault "{script.strip()}"'
+    need_told(run, when)
+    need(run["delivered"] >= 5, f"{when} {run['delivered']} of 6 plates are delivered, and five have to be at least")
     need_true(run, when)
 
 
@@ -134,7 +147,8 @@ def main():
     start = next(folder.glob("start.*"))
     file = Path(asked.file).resolve() if asked.file else start.with_name("mine" + start.suffix)
     try:
-        need(file.is_file(), f"there is no file {os.path.relpath(file)}")
+        need(file.is_file(), f"there is no file {os.path.relpath(file)}" + ("" if asked.file else f"; copy {start.name} to it"))
+        need(start.suffix != ".py" or os.access(file, os.X_OK), f"{file.name} can't be run: chmod +x makes it a program")
         EXERCISES[asked.number - 1](folder, file, asked)
     except Missing as missing:
         print(f"exercise {asked.number}: not yet: {missing}")
