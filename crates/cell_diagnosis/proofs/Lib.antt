@@ -2,3 +2,4 @@ pub mod EndLaws
 pub mod VerdictLaws
 pub mod AxisLaws
 pub mod RestLaws
+pub mod RestAgrees

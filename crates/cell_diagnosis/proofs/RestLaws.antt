@@ -1,6 +1,6 @@
 -- What a rest watch keeps is what the rules ask of the readings before
 use Rattle.std.specs.Prelude.{Option, Some, None, IfSome}
-use Rattle.std.proofs.Common.{◌≡◌, ℕ, Bool, true, false, ◌&&◌, ◌||◌, not, List, [], ◌∷◌, ◌++◌, sym, refl, ◌∙◌, ap, if◌then◌else◌}
+use Rattle.std.proofs.Common.{◌≡◌, ℕ, Bool, true, false, ◌&&◌, not, List, [], ◌∷◌, ◌++◌, sym, refl, ◌∙◌, ap, if◌then◌else◌}
 use Rattle.cell_types.specs.declared.words.Cause.TheVariants as cause
 use Rattle.cell_diagnosis.specs.declared.verdict.Verdict.{Verdict}
 use Rattle.cell_diagnosis.specs.declared.verdict.Verdict.TheVariants.{Pending, Arrived, Fault}
@@ -13,6 +13,7 @@ use Rattle.cell_diagnosis.specs.Verdicts.{then_verdict}
 use Rattle.cell_diagnosis.specs.RestFacts.{Noted, noted, is_unread, agrees, disagrees, shows_several_at, is_lost, is_strange, rest_facts_of}
 use Rattle.cell_diagnosis.specs.RestRules.{is_silent_at_rest, axis_fault, is_plate_lost, is_plate_strange, plate_fault, judged_at_rest, rest}
 use Rattle.cell_diagnosis.specs.RestWatches.{last_rest_facts, noted_by, plate_ruling, rest_ruling, RestFits}
+use Rattle.cell_diagnosis.proofs.RestAgrees.{agreeing_facts}
 use Rattle.cell_diagnosis.proofs.EndLaws.{one_snoc, two_snoc, three_snoc}
 use Rattle.cell_diagnosis.proofs.VerdictLaws.{after_snoc}
 
@@ -98,38 +99,21 @@ agreeing_is_there n f e agreed = ap (λ (facts : RestFacts). facts.missing) e �
     by false b h = refl
     by true b h = cc
 
+and_false : (b : Bool) → (b && false) ≡ false
+and_false true = refl
+and_false false = refl
+
+agreed_at : (f g : RestFacts) → f ≡ g → f.agrees ≡ true → g.agrees ≡ true
+agreed_at f g e h = sym (ap (λ (facts : RestFacts). facts.agrees) e) ∙ h
+
 -- a reading in which nothing disagrees is no fault, whatever came before
-pub agreeing_is_no_fault : (both : Bool) (n : Noted) → agrees n ≡ true → Pending ≡ rest_ruling both (rest_facts_of n) (rest_facts_of n)
-unfolding agrees
-agreeing_is_no_fault both n agreed =
-    by both (is_unread n) (disagrees 0 n) (disagrees 1 n) (disagrees 2 n) (shows_several_at 0 n) (shows_several_at 1 n) (shows_several_at 2 n) (is_lost 0 n) (is_lost 1 n) (is_lost 2 n) (is_strange 0 n) (is_strange 1 n) (is_strange 2 n) agreed
-  where
-    by : (t u a b c p q r l m o x y z : Bool) → (not u && (not (a || (b || c)) && (not (l || (m || o)) && not (x || (y || z))))) ≡ true
-        → Pending ≡ (if t && u then Fault cause.Silent
-        else then_verdict (if a && a then (if p && p then Fault cause.Contradictory else Fault cause.LostPosition) else Pending)
-        (then_verdict (if b && b then (if q && q then Fault cause.Contradictory else Fault cause.LostPosition) else Pending)
-        (then_verdict (if c && c then (if r && r then Fault cause.Contradictory else Fault cause.LostPosition) else Pending)
-        (if (l && l) || ((m && m) || (o && o)) then Fault cause.PlateLost else if (x && x) || ((y && y) || (z && z)) then Fault cause.StrangePlate else Pending))))
-    by t true a b c p q r l m o x y z h = cc
-    by t false true b c p q r l m o x y z h = cc
-    by t false false true c p q r l m o x y z h = cc
-    by t false false false true p q r l m o x y z h = cc
-    by t false false false false p q r true m o x y z h = cc
-    by t false false false false p q r false true o x y z h = cc
-    by t false false false false p q r false false true x y z h = cc
-    by t false false false false p q r false false false true y z h = cc
-    by t false false false false p q r false false false false true z h = cc
-    by t false false false false p q r false false false false false true h = cc
-    by true false false false false p q r false false false false false false h = refl
-    by false false false false false p q r false false false false false false h = refl
+pub agreeing_is_no_fault : (both : Bool) (last next : RestFacts) (n : Noted) → next ≡ rest_facts_of n → next.agrees ≡ true → Pending ≡ rest_ruling both last next
+agreeing_is_no_fault both last next n e h = rw (e ∙ sym (agreeing_facts n (agreed_at next (rest_facts_of n) e h))) (simp and_false refl)
 
 then_pending : (v : Verdict) → v ≡ then_verdict v Pending
 then_pending Pending = refl
 then_pending Arrived = refl
 then_pending (Fault cause) = refl
-
-agreed_at : (f g : RestFacts) → f ≡ g → f.agrees ≡ true → g.agrees ≡ true
-agreed_at f g e h = sym (ap (λ (facts : RestFacts). facts.agrees) e) ∙ h
 
 -- a reading that repeats one that agreed, with the same Expect, changes nothing
 pub repeated : (w : RestWatch) (L : List Noted) (e : Expect) (r : Option Reading) → w.last.agrees ≡ true → r ≡ Some w.reading → e ≡ w.expect
@@ -138,9 +122,7 @@ repeated w L e r agreed same_reading same_expect f =
     let n : Noted = noted_by w w.expect (Some w.reading) in
     let is : w.last ≡ rest_facts_of n = f.kept agreed in
     let there : w.last.missing ≡ false = agreeing_is_there n w.last is agreed in
-    let none : Pending ≡ rest_ruling w.two_missing w.last w.last =
-    agreeing_is_no_fault w.two_missing n (agreed_at w.last (rest_facts_of n) is agreed)
-    ∙ ap (λ (facts : RestFacts). rest_ruling w.two_missing facts facts) (sym is) in
+    let none : Pending ≡ rest_ruling w.two_missing w.last w.last = agreeing_is_no_fault w.two_missing w.last w.last n is agreed in
     rw (same_reading, same_expect) (record {
       last = last_note L n w.last is;
       two_missing = missing_note w L n w.last w.two_missing is (f.present agreed ∙ sym (ap (λ (b : Bool). b && b) there)) f;
@@ -157,8 +139,4 @@ kept_note w e (Some x) new next is same h = rw same is
 kept_note w e None new next is same h = let never : false ≡ true = agreed_at next (rest_facts_of (noted_by w e None)) is h in cc
 
 pub present_note : (w : RestWatch) (n : Noted) (next : RestFacts) → next ≡ rest_facts_of n → next.agrees ≡ true → (w.last.missing && next.missing) ≡ false
-present_note w n next is h = rw (agreeing_is_there n next is h) (by w.last.missing)
-  where
-    by : (b : Bool) → (b && false) ≡ false
-    by true = refl
-    by false = refl
+present_note w n next is h = rw (agreeing_is_there n next is h) (and_false w.last.missing)

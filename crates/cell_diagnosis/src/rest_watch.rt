@@ -98,7 +98,7 @@ impl RestWatch {
         ensures stays { rest_answer_of self.old ≢ Pending → result ≡ rest_answer_of self.old }
     {
         let next = rest_facts_of(self.machine, expect, reading);
-        let ruling = rest_rule(self.two_missing, &self.last, &next);
+        let ruling = ruling_of(self.two_missing, &self.last, &next);
         let verdict = then_verdict(self.verdict, ruling);
         *self = RestWatch {
             machine: self.machine,
@@ -223,4 +223,17 @@ fn rest_rule(two_missing: bool, last: &RestFacts, next: &RestFacts) -> Verdict
     let third = axis_fault(2, last, next);
     let plates = plate_fault(last, next);
     then_verdict(first, then_verdict(second, then_verdict(third, plates)))
+}
+
+/// What the first rule says that applies; none does where no part of the next reading disagrees, as in nearly all.
+#[inline(always)]
+fn ruling_of(two_missing: bool, last: &RestFacts, next: &RestFacts) -> Verdict
+    requires { next.now.agrees ≡ true → Pending ≡ rest_ruling two_missing last.now next.now }
+    ensures { result ≡ rest_ruling two_missing last.now next.now }
+{
+    if next.agrees {
+        Verdict::Pending
+    } else {
+        rest_rule(two_missing, last, next)
+    }
 }

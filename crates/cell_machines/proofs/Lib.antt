@@ -2,3 +2,4 @@ pub mod Handings
 pub mod Complete
 pub mod Unloading
 pub mod Own
+pub mod Needs

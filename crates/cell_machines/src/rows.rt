@@ -1,18 +1,54 @@
 //! The first entry of a list that is wanted and bookable.
-ghost use Rattle.std.specs.Prelude.{◌≡◌, Bool, is_some};
+ghost use Rattle.std.specs.Prelude.{◌≡◌, Bool, true, false, is_some};
 ghost use Rattle.std.specs.List.{list_any};
 ghost use Rattle.cell_views.specs.Situations.{situation_of};
-ghost use Rattle.cell_machines.specs.Room.{is_bookable};
+ghost use Rattle.cell_machines.specs.Room.{is_bookable, lacks_its_need};
 ghost use Rattle.cell_machines.specs.Candidates.{first_bookable};
 
-use cell_types::{Axis, Entry};
+use cell_policy::{is_held_by, is_occupied};
+use cell_types::{Axis, Entry, Pose, Station};
 use plate_book::{Book, Refusal};
+
+/// Whether one look at the book refuses an entry: the zone that is given up isn't held, the light has that colour already, or
+/// the feed belt has no plate to carry.
+#[inline(always)]
+fn lacks_its_need(book: &Book, entry: &Entry) -> bool
+    ensures { result ≡ lacks_its_need (situation_of book.now.entries) entry.now }
+{
+    match *entry {
+        Entry::Yielded { machine, zone } => !is_held_by(book, machine, zone),
+        Entry::Lamp { belt, colour } => book.lamp(belt) == colour,
+        Entry::Started {
+            axis: Axis::FeedBelt,
+            to: Pose::ToEnd,
+        } => !is_occupied(book, Station::FeedIn),
+        Entry::Started {
+            axis: Axis::FeedBelt,
+            to: Pose::ToTable,
+        } => !is_occupied(book, Station::FeedEnd),
+        _ => false,
+    }
+}
+
+/// Whether one look at the book tells that an entry isn't bookable, which spares most calls of `allows`. At a full journal it
+/// never is, since every entry is then refused for the room alone.
+#[tactic(auto, using(crate::proofs::Needs::needs_law))]
+#[inline(always)]
+fn is_out_of_question(book: &Book, entry: &Entry) -> bool
+    ensures { result ≡ true → is_bookable book.now.limits (situation_of book.now.entries) entry.now ≡ false }
+{
+    lacks_its_need(book, entry) && !book.journal().is_full_for(entry)
+}
 
 /// Whether an entry is allowed, or only the journal's room is lacking.
 #[tactic(auto, unfolding(crate::specs::Room::is_bookable))]
+#[inline(always)]
 fn is_bookable(book: &Book, entry: Entry) -> bool
     ensures { result ≡ is_bookable book.now.limits (situation_of book.now.entries) entry }
 {
+    if is_out_of_question(book, &entry) {
+        return false;
+    }
     match book.allows(entry) {
         Ok(()) => true,
         Err(Refusal::JournalFull) => true,
