@@ -13,6 +13,7 @@ use cell_types::{Entry, Machine, PRESS1, PRESS2};
 use plate_book::Book;
 
 #[tactic(auto, unfolding(crate::specs::Candidates::rows, crate::specs::Candidates::candidates, crate::specs::Presses::press_rows))]
+#[inline(always)]
 fn first_of_all(machine: Machine, book: &Book, plan: u32) -> Option<Entry>
     ensures { result ≡ first_bookable book.now.limits (situation_of book.now.entries) (rows book.now.limits (situation_of book.now.entries) plan machine) }
 {
@@ -28,6 +29,7 @@ fn first_of_all(machine: Machine, book: &Book, plan: u32) -> Option<Entry>
 
 /// What a machine prefers to all else: the robot, to unload a press.
 #[tactic(auto, using(crate::proofs::Unloading::unloading_law))]
+#[inline(always)]
 fn preferred(machine: Machine, book: &Book) -> Option<Entry>
     ensures { (plan : ℕ) → IfSome result (λ e. is_useful book.now.limits book.now.entries plan machine e ≡ true) }
 {
@@ -41,6 +43,7 @@ fn preferred(machine: Machine, book: &Book) -> Option<Entry>
 /// now, by this project's profile, and None only where no entry is. Useful are the machine's own entries that its tasks
 /// want and that the book allows; that the journal is full doesn't count against an entry.
 #[tactic(auto, using(crate::proofs::Complete::some_useful, crate::proofs::Complete::none_useful))]
+#[inline(always)]
 pub fn propose(machine: Machine, book: &Book, plan: u32) -> Option<Entry>
     ensures some { IfSome result (λ e. is_useful book.now.limits book.now.entries plan machine e ≡ true) }
     ensures none { IfNone result ((e : Entry) → is_useful book.now.limits book.now.entries plan machine e ≡ false) }

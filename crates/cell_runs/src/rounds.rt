@@ -42,6 +42,7 @@ pub(crate) struct Progress<R: Run> {
 }
 
 /// One step. It answers whether the operator booked an entry in it, or the end that the step sets.
+#[inline(always)]
 pub(crate) fn take_step<P: Port, O: OperatorPort, R: Run>(
     step: Step,
     ports: &mut Ports<P>,

@@ -46,6 +46,7 @@ impl AxisInWorld {
     }
 
     /// Whether a motion of it is under way.
+    #[inline(always)]
     pub(crate) fn is_moving(self) -> bool {
         match self.motion {
             Some(motion) => !motion.stopped && motion.phase != Phase::Arrived,

@@ -365,13 +365,27 @@ impl World {
 /// What readings do and show.
 impl World {
     /// What a machine shows; `None` where the reading is missing. Before each reading, also a missing one, a plate is laid
-    /// or taken where the machine's light is green.
+    /// or taken where the machine's light is green. Each machine is told apart here, so that its reading is compiled by itself.
     pub(crate) fn read(&mut self, machine: Machine) -> Option<Reading> {
         match machine {
-            Machine::Feed => self.lay_plate(),
-            Machine::Deposit => self.take_plate(),
-            _ => {}
+            Machine::Feed => {
+                self.lay_plate();
+                self.reading_of(Machine::Feed)
+            }
+            Machine::Table => self.reading_of(Machine::Table),
+            Machine::Robot => self.reading_of(Machine::Robot),
+            Machine::Press1 => self.reading_of(Machine::Press1),
+            Machine::Press2 => self.reading_of(Machine::Press2),
+            Machine::Deposit => {
+                self.take_plate();
+                self.reading_of(Machine::Deposit)
+            }
         }
+    }
+
+    // What a machine that is a constant at each call shows.
+    #[inline(always)]
+    fn reading_of(&mut self, machine: Machine) -> Option<Reading> {
         if self.is_missing(machine) {
             return None;
         }
@@ -426,6 +440,7 @@ impl World {
     }
 
     // Whether a machine's reading is missing: one of its motions is silent still. Its motions then don't go on.
+    #[inline(always)]
     fn is_missing(&mut self, machine: Machine) -> bool {
         let mut is_missing = false;
         for axis in axes_of(machine) {
@@ -436,6 +451,7 @@ impl World {
         is_missing
     }
 
+    #[inline(always)]
     fn skip_reading(&mut self, axis: Axis) -> bool {
         let Some(motion) = self.axis(axis).motion else {
             return false;
@@ -451,6 +467,7 @@ impl World {
         true
     }
 
+    #[inline(always)]
     fn advance_machine(&mut self, machine: Machine) {
         for axis in axes_of(machine) {
             self.advance(*axis);
@@ -458,13 +475,18 @@ impl World {
     }
 
     // The motion of an axis goes on by one reading, unless it has arrived or was stopped.
+    #[inline(always)]
     fn advance(&mut self, axis: Axis) {
+        if self.axis(axis).is_moving() {
+            self.advance_motion(axis);
+        }
+    }
+
+    #[inline(never)]
+    fn advance_motion(&mut self, axis: Axis) {
         let Some(motion) = self.axis(axis).motion else {
             return;
         };
-        if !self.axis(axis).is_moving() {
-            return;
-        }
         let phase = motion.next_phase();
         self.set_motion(axis, Some(Motion { phase, ..motion }));
         match (motion.phase, phase) {
@@ -537,6 +559,7 @@ impl World {
         }
     }
 
+    #[inline(always)]
     fn switches(&self, machine: Machine) -> [u8; 3] {
         match machine {
             Machine::Feed | Machine::Deposit => [0, 0, 0],
@@ -559,6 +582,7 @@ impl World {
         self.axis(axis).switches(axis)
     }
 
+    #[inline(always)]
     fn presence(&self, machine: Machine) -> u8 {
         match machine {
             Machine::Feed => {

@@ -21,7 +21,6 @@ use Rattle.cell_diagnosis.specs.declared.motion.Motion.{Motion}
 use Rattle.cell_diagnosis.specs.declared.reading.Reading.{Reading}
 use Rattle.cell_diagnosis.specs.declared.verdict.Verdict.{Verdict}
 use Rattle.cell_diagnosis.specs.declared.verdict.Verdict.TheVariants.{Pending, Arrived, Fault}
-use Rattle.cell_diagnosis.specs.RestRules.{rest}
 use Rattle.cell_machines.specs.Room.{is_bookable}
 use Rattle.cell_machines.specs.Useful.{wants, is_useful_now, is_useful}
 use Rattle.cell_turns.specs.declared.plan.Plan.{Plan}

@@ -1,15 +1,12 @@
 -- Schedules, one after another
-use Rattle.std.proofs.Common.{◌≡◌, ℕ, ◌+◌, List, [], ◌∷◌, ◌++◌, Bool, true, refl, sym, ap, subst, ◌∙◌, append_assoc, append-nil, add-zero, add_assoc}
+use Rattle.std.proofs.Common.{ℕ, ◌+◌, List, [], ◌∷◌, ◌++◌, ap, subst, ◌∙◌, append_assoc, append-nil, add-zero, add_assoc}
 use Rattle.plate_book.specs.declared.limits.BookLimits.{BookLimits}
-use Rattle.plate_book.specs.Rules.History.{History}
 use Rattle.cell_turns.specs.declared.plan.Plan.{Plan}
 use Rattle.cell_turns.specs.declared.schedule.Step.{Step}
 use Rattle.cell_turns.specs.declared.schedule.Step.TheVariants.{Turn, Hand}
 use Rattle.cell_turns.specs.declared.six.Six.{Six}
 use Rattle.cell_turns.specs.declared.watch.Watch.{Watch}
-use Rattle.cell_turns.specs.Minds.{Mind}
-use Rattle.cell_turns.specs.Logs.{ActLog}
-use Rattle.cell_turns.specs.Schedules.{Now, now, Leads, FitAll, Led, Scheduled}
+use Rattle.cell_turns.specs.Schedules.{Now, now, Leads, Led}
 use Rattle.cell_turns.specs.Schedules.Leads.{stays, turns, refuses, hands, spares, fails}
 use Rattle.cell_turns.specs.Joined.{LeadsJoin, ScheduledJoin}
 

@@ -102,6 +102,7 @@ fn take_turn<P: Port, R: Run>(
 }
 
 /// One step of a schedule. Its clauses tell of the step after any steps that led to this state.
+#[inline(always)]
 fn take_step<P: Port, O: OperatorPort, R: Run>(
     step: &Step,
     ran: &mut Ran,
@@ -201,6 +202,7 @@ pub fn run_schedule<P: Port, O: OperatorPort, R: Run>(
 
 /// Takes one step, as `run_schedule` takes a list of one. What it did is told in `ran`, whose lists the caller keeps from
 /// step to step; what they had before is dropped, and their places stay, so that a step that books nothing takes no memory.
+#[inline(always)]
 pub fn run_step<P: Port, O: OperatorPort, R: Run>(
     step: &Step,
     ran: &mut Ran,

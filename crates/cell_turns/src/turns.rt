@@ -39,9 +39,9 @@ pub enum TurnError {
     Refused(Refusal),
 }
 
-/// One turn of a machine: it notes the reading and books at most one entry, which it answers. Where it answers an error,
-/// nothing has changed.
-pub fn book_turn<R: Run>(
+// One turn of a machine that is a constant at each call.
+#[inline(always)]
+fn turn_of<R: Run>(
     machine: Machine,
     kept: &mut Kept<R>,
     shares: &mut Shares<R>,
@@ -69,10 +69,10 @@ pub fn book_turn<R: Run>(
     useful_is_own();
     useful_is_bookable();
     let book = kept.book();
-    let observed = observe::notice(watch, book, reading, plan);
-    let anew = remember::begins_anew(book, watch.machine, &watch.memory);
-    let ruling = decide::decide(book, watch.machine, &watch.memory, &observed.findings);
-    let entry = match book::entry_of(ruling, watch.machine, book, plan) {
+    let observed = observe::notice(machine, watch, book, reading, plan);
+    let anew = remember::begins_anew(machine, book, watch);
+    let ruling = decide::decide(machine, book, watch, &observed.findings);
+    let entry = match book::entry_of(ruling, machine, watch, book, plan) {
         Ok(entry) => entry,
         Err(refusal) => {
             if entries.reserve(1).is_err() {
@@ -88,8 +88,52 @@ pub fn book_turn<R: Run>(
     if let Err(refusal) = book::book_entry(kept, shares, entries, entry) {
         return Err(TurnError::Refused(refusal));
     }
-    *watch = remember::after(watch, kept.book(), &observed, anew, &booked);
+    *watch = remember::after(machine, watch, kept.book(), &observed, anew, &booked);
     Ok(booked)
+}
+
+/// One turn of a machine: it notes the reading and books at most one entry, which it answers. Where it answers an error,
+/// nothing has changed. Each machine is told apart here and nowhere below, so that a turn of each is compiled by itself.
+pub fn book_turn<R: Run>(
+    machine: Machine,
+    kept: &mut Kept<R>,
+    shares: &mut Shares<R>,
+    watch: &mut Watch,
+    reading: Option<Reading>,
+    entries: &mut Vec<Entry>,
+    plan: &Plan,
+) -> Result<Option<Entry>, TurnError>
+    requires { machine_of_watch watch.old ≡ machine }
+    ensures entries { IfOk result (λ e. entries.new.items ≡ entries.old.items ++ option_to_list e) }
+    ensures kept { IfOk result (λ e. kept.new ≡ record { limits = kept.old.limits; entries = kept.old.entries ++ option_to_list e }) }
+    ensures shares { IfOk result (λ e. shares.new ≡ held shares.old.parts (plus shares.old.counts (count_of (option_to_list e)))) }
+    ensures allowed { IfOk result (λ e. IfSome e (λ x. first_of kept.old.limits kept.old.entries x ≡ None)) }
+    ensures actor { IfOk result (λ e. IfSome e (λ x. actor_of x ≡ actors.Machine machine)) }
+    ensures decided { IfOk result (λ e. (s : Mind) → FitsMind watch.old s → IsDecided kept.old.limits kept.old.entries machine plan.now s reading e) }
+    ensures fits { IfOk result (λ e. (s : Mind) → FitsMind watch.old s → FitsMind watch.new (mind_after kept.old.entries machine plan.now s reading e)) }
+    ensures fault { IfOk result (λ e. IfSome e (λ x. is_command_fault x ≡ has_failed_command watch.old)) }
+    ensures flag { IfOk result (λ e. has_failed_command watch.new ≡ (is_none e && has_failed_command watch.old)) }
+    ensures machine { machine_of_watch watch.new ≡ machine }
+    ensures excused { IfErr result (λ e. IsExcused kept.old.limits kept.old.entries machine plan.now reading watch.old e) }
+    ensures memory { result ≡ Err TurnError.OutOfMemory → vec_capacity entries.old ≡ vec_len entries.old }
+    ensures unchanged { OnErr result ((entries.new.items ≡ entries.old.items) × (kept.new ≡ kept.old) × (shares.new ≡ shares.old) × (watch.new ≡ watch.old)) }
+{
+    match machine {
+        Machine::Feed => turn_of(Machine::Feed, kept, shares, watch, reading, entries, plan),
+        Machine::Table => turn_of(Machine::Table, kept, shares, watch, reading, entries, plan),
+        Machine::Robot => turn_of(Machine::Robot, kept, shares, watch, reading, entries, plan),
+        Machine::Press1 => turn_of(Machine::Press1, kept, shares, watch, reading, entries, plan),
+        Machine::Press2 => turn_of(Machine::Press2, kept, shares, watch, reading, entries, plan),
+        Machine::Deposit => turn_of(
+            Machine::Deposit,
+            kept,
+            shares,
+            watch,
+            reading,
+            entries,
+            plan,
+        ),
+    }
 }
 
 /// One turn of a machine under the book's lock. It notes the reading in the machine's watches and books at most one entry,

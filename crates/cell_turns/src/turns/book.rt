@@ -7,22 +7,25 @@ ghost use Rattle.cell_ledger.specs.Held.{held};
 ghost use Rattle.cell_turns.specs.Turns.{IsRuled, IsUnbooked};
 ghost use Rattle.cell_turns.specs.declared.turns.decide.Ruling.TheVariants.{PastLast};
 
-use crate::Plan;
 use crate::schedule::OutOfMemory;
 use crate::turns::decide::Ruling;
+use crate::{Plan, Watch};
 use cell_ledger::{Kept, Run, Shares};
 use cell_machines::propose;
 use cell_types::{Entry, Machine};
 use plate_book::{Book, Refusal};
 
 /// The entry of a turn by what was decided; `PlateLimit` past plate 100,000.
+#[inline(always)]
 pub fn entry_of(
     ruling: Ruling,
     machine: Machine,
+    watch: &Watch,
     book: &Book,
     plan: &Plan,
 ) -> Result<Option<Entry>, Refusal>
-    ensures ok { IfOk result (λ e. IsRuled book.now.limits book.now.entries machine plan.now.plates ruling e) }
+    requires { watch.now.machine ≡ machine }
+    ensures ok { IfOk result (λ e. IsRuled book.now.limits book.now.entries watch.now.machine plan.now.plates ruling e) }
     ensures err { IfErr result (λ why. (ruling ≡ PastLast) × (why ≡ Refusal.PlateLimit)) }
 {
     match ruling {

@@ -3,7 +3,7 @@ ghost use Rattle.std.specs.Prelude.{◌≡◌, ◌+◌};
 ghost use Rattle.cell_types.specs.Same.{same_pose};
 ghost use Rattle.cell_turns.specs.Rulings.{forged, conveyed, arrived, ending, next_plate, laid_in, books, signed, declares, ruling_by};
 
-use crate::watch::Memory;
+use crate::watch::{Memory, Watch};
 use cell_diagnosis::{Motion, Verdict};
 use cell_types::{
     Axis, BeltMotion, Cause, Entry, MAX_PLATES, Machine, PlateId, Pose, Press, Station, home,
@@ -112,6 +112,7 @@ fn laid_in(expected: Option<PlateId>, admitted: u32) -> Ruling
     }
 }
 
+#[inline(always)]
 fn books(entry: Option<Entry>) -> Ruling
     ensures { result ≡ books entry }
 {
@@ -122,6 +123,7 @@ fn books(entry: Option<Entry>) -> Ruling
 }
 
 /// What is booked where a sign was seen.
+#[inline(always)]
 fn signed(book: &Book, machine: Machine) -> Ruling
     ensures { result ≡ signed book.now.entries machine }
 {
@@ -135,6 +137,7 @@ fn signed(book: &Book, machine: Machine) -> Ruling
     }
 }
 
+#[inline(always)]
 fn declares(machine: Machine, cause: Cause) -> Ruling
     ensures { result ≡ declares machine cause }
 {
@@ -152,7 +155,8 @@ fn declares(machine: Machine, cause: Cause) -> Ruling
 /// 8. This reading and the last one show a sign: `Reinstated` of the plate that is expected or, where none is, `Admitted`
 ///    with the next number; or `Delivered` of the plate at DepEnd.
 /// 9. An entry is proposed.
-pub(crate) fn decide(book: &Book, machine: Machine, kept: &Memory, found: &Findings) -> Ruling
+#[inline(always)]
+fn ruling_by(book: &Book, machine: Machine, kept: &Memory, found: &Findings) -> Ruling
     ensures { result ≡ ruling_by book.now.entries machine kept.now found.now }
 {
     if book.failed(machine) {
@@ -180,4 +184,13 @@ pub(crate) fn decide(book: &Book, machine: Machine, kept: &Memory, found: &Findi
         return signed(book, machine);
     }
     Ruling::Proposes
+}
+
+/// What a turn of a watch's machine decides.
+#[inline(always)]
+pub(crate) fn decide(machine: Machine, book: &Book, watch: &Watch, found: &Findings) -> Ruling
+    requires { watch.now.machine ≡ machine }
+    ensures { result ≡ ruling_by book.now.entries watch.now.machine watch.now.memory found.now }
+{
+    ruling_by(book, machine, &watch.memory, found)
 }

@@ -16,6 +16,7 @@ use cell_diagnosis::{Expect, Motion};
 use cell_types::{Axis, Belt, Colour, Machine, Pose, Zone, axes_of, stations_of, visitor};
 use plate_book::Book;
 
+#[inline(always)]
 fn motion_on(book: &Book, plan: &Plan, axis: Axis) -> Option<Motion>
     ensures { result ≡ motion_on book.now.entries plan.now axis }
 {
@@ -31,6 +32,7 @@ fn motion_on(book: &Book, plan: &Plan, axis: Axis) -> Option<Motion>
     }
 }
 
+#[inline(always)]
 fn motion_of_axis(book: &Book, plan: &Plan, machine: Machine, i: usize) -> Option<Motion>
     ensures { result ≡ motion_of_axis book.now.entries plan.now machine i }
 {
@@ -49,6 +51,7 @@ pub fn motion_of_machine(book: &Book, plan: &Plan, machine: Machine) -> Option<M
 }
 
 #[tactic(auto, unfolding(cell_types::specs::After::is_machine))]
+#[inline(always)]
 fn is_held_by_visitor(book: &Book, zone: Zone) -> bool
     ensures { result ≡ is_machine (visitor zone) (holder_of book.now.entries zone) }
 {
@@ -59,6 +62,7 @@ fn is_held_by_visitor(book: &Book, zone: Zone) -> bool
 }
 
 /// Whether a visitor holds a zone of the machine.
+#[inline(always)]
 pub(crate) fn is_visited(book: &Book, machine: Machine) -> bool
     ensures { result ≡ is_visited book.now.entries machine }
 {
@@ -74,6 +78,7 @@ pub(crate) fn is_visited(book: &Book, machine: Machine) -> bool
 }
 
 /// Whether a visitor claimed a zone of the machine at place `i` of the journal or later.
+#[inline(always)]
 pub(crate) fn was_claimed(book: &Book, machine: Machine, i: u32) -> bool
     ensures { result ≡ was_claimed book.now.entries machine i }
 {
@@ -87,6 +92,7 @@ pub(crate) fn was_claimed(book: &Book, machine: Machine, i: u32) -> bool
 }
 
 /// Whether no visitor holds a zone of the machine, none held one at its last turn, and none claimed one since.
+#[inline(always)]
 pub(crate) fn is_unvisited(book: &Book, machine: Machine, kept: &Memory) -> bool
     ensures { result ≡ is_unvisited book.now.entries machine kept.now }
 {
@@ -95,6 +101,7 @@ pub(crate) fn is_unvisited(book: &Book, machine: Machine, kept: &Memory) -> bool
     !visited && (!kept.visited && !claimed)
 }
 
+#[inline(always)]
 fn pose_at_rest(book: &Book, axis: Axis) -> Option<Pose>
     ensures { result ≡ pose_at_rest book.now.entries axis }
 {
@@ -105,6 +112,7 @@ fn pose_at_rest(book: &Book, axis: Axis) -> Option<Pose>
     }
 }
 
+#[inline(always)]
 fn pose_of_axis(book: &Book, machine: Machine, i: usize) -> Option<Pose>
     ensures { result ≡ pose_of_axis book.now.entries machine i }
 {
@@ -112,6 +120,7 @@ fn pose_of_axis(book: &Book, machine: Machine, i: usize) -> Option<Pose>
     pose_at_rest(book, *axis)
 }
 
+#[inline(always)]
 fn poses_at_rest(book: &Book, machine: Machine) -> [Option<Pose>; 3]
     ensures { result ≡ poses_at_rest book.now.entries machine }
 {
@@ -129,6 +138,7 @@ fn bit_where(test: bool, value: u8) -> u8
     if test { value } else { 0 }
 }
 
+#[inline(always)]
 fn is_booked_at(book: &Book, machine: Machine, i: usize) -> bool
     ensures { result ≡ is_booked_at book.now.entries machine i }
 {
@@ -138,6 +148,7 @@ fn is_booked_at(book: &Book, machine: Machine, i: usize) -> bool
     }
 }
 
+#[inline(always)]
 fn booked_plates(book: &Book, machine: Machine) -> u8
     ensures { result ≡ booked_plates book.now.entries machine }
 {
@@ -151,6 +162,7 @@ pub(crate) fn is_green(book: &Book, belt: Belt) -> bool
     book.lamp(belt) == Colour::Green
 }
 
+#[inline(always)]
 fn belt_bits(book: &Book, axis: Axis, belt: Belt, lit: u8) -> u8
     requires { lit ≤ 2 }
     ensures value { result ≡ belt_bits book.now.entries axis belt lit }
@@ -163,6 +175,7 @@ fn belt_bits(book: &Book, axis: Axis, belt: Belt, lit: u8) -> u8
     }
 }
 
+#[inline(always)]
 fn unwatched_plates(book: &Book, machine: Machine) -> u8
     ensures { result ≡ unwatched_plates book.now.entries machine }
 {
@@ -174,6 +187,7 @@ fn unwatched_plates(book: &Book, machine: Machine) -> u8
 }
 
 /// What the machine's axes at rest and its stations have to show; presence is looked at where no visitor may be there.
+#[inline(always)]
 pub(crate) fn expected_of(book: &Book, machine: Machine, unvisited: bool) -> Expect
     ensures { result ≡ expected_of book.now.entries machine unvisited }
 {

@@ -54,6 +54,7 @@ fn start(motion: Motion) -> AxisWatch
 }
 
 /// The watch of the motion that the book shows: the one that follows it already, or a new one.
+#[inline(always)]
 fn followed(axis: Option<AxisWatch>, motion: Option<Motion>) -> Option<AxisWatch>
     ensures { (f : Option Following) → FitsAxis axis f → FitsAxis result (followed f motion) }
 {
@@ -71,6 +72,7 @@ fn followed(axis: Option<AxisWatch>, motion: Option<Motion>) -> Option<AxisWatch
 }
 
 /// Notes a reading, where a motion is followed.
+#[inline(always)]
 fn note_axis(axis: Option<AxisWatch>, reading: Option<Reading>) -> (Option<AxisWatch>, Verdict)
     ensures fits { (f : Option Following) → FitsAxis axis f → FitsAxis result.0 (option_map (with_reading reading) f) }
     ensures verdict { (f : Option Following) → FitsAxis axis f → result.1 ≡ axis_verdict (option_map (with_reading reading) f) }
@@ -83,6 +85,7 @@ fn note_axis(axis: Option<AxisWatch>, reading: Option<Reading>) -> (Option<AxisW
     (Some(watch), verdict)
 }
 
+#[inline(always)]
 fn note_motion(
     watch: &Watch,
     motion: Option<Motion>,
@@ -96,6 +99,7 @@ fn note_motion(
 
 /// Whether a reading is present and shows that a plate lies at FeedIn under a green light, or that none is left at DepEnd
 /// under one.
+#[inline(always)]
 fn shows_sign(book: &Book, machine: Machine, reading: Option<Reading>) -> bool
     ensures { result ≡ shows_sign book.now.entries machine reading }
 {
@@ -110,7 +114,15 @@ fn shows_sign(book: &Book, machine: Machine, reading: Option<Reading>) -> bool
 }
 
 /// Notes a reading in both watches of a machine.
-pub fn notice(watch: &Watch, book: &Book, reading: Option<Reading>, plan: &Plan) -> Observed
+#[inline(always)]
+pub fn notice(
+    machine: Machine,
+    watch: &Watch,
+    book: &Book,
+    reading: Option<Reading>,
+    plan: &Plan,
+) -> Observed
+    requires { watch.now.machine ≡ machine }
     ensures axis { (f : Option Following) → FitsAxis watch.now.axis f → FitsAxis result.axis (axis_noted book.now.entries watch.now.machine plan.now f reading) }
     ensures at_axis { (f : Option Following) → FitsAxis watch.now.axis f → result.findings.at_axis ≡ axis_verdict (axis_noted book.now.entries watch.now.machine plan.now f reading) }
     ensures rest { (L : List Noted) → RestFits watch.now.rest L → RestFits result.rest (rest_noted book.now.entries watch.now.machine watch.now.memory L reading) }
@@ -120,7 +132,6 @@ pub fn notice(watch: &Watch, book: &Book, reading: Option<Reading>, plan: &Plan)
     ensures motion { result.findings.motion ≡ motion_of_machine book.now.entries plan.now watch.now.machine }
     ensures sign { result.findings.sign ≡ shows_sign book.now.entries watch.now.machine reading }
 {
-    let machine = watch.machine;
     let motion = motion_of_machine(book, plan, machine);
     let shown = motion;
     let (axis, at_axis) = note_motion(watch, shown, reading);

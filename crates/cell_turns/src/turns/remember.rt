@@ -15,6 +15,7 @@ use cell_types::{Entry, Machine};
 use plate_book::Book;
 
 /// What is kept of a turn after which the book is this.
+#[inline(always)]
 pub fn remembered(book: &Book, machine: Machine, command_failed: bool, sign: bool) -> Memory
     ensures { result ≡ remembered book.now.entries machine command_failed sign }
 {
@@ -27,6 +28,7 @@ pub fn remembered(book: &Book, machine: Machine, command_failed: bool, sign: boo
     }
 }
 
+#[inline(always)]
 fn ends_motion(entry: &Option<Entry>) -> bool
     ensures { result ≡ ends_motion entry.now }
 {
@@ -37,7 +39,8 @@ fn ends_motion(entry: &Option<Entry>) -> bool
 }
 
 /// Whether the machine was booked failed at its last turn, is so no more, and has nothing to declare.
-pub fn begins_anew(book: &Book, machine: Machine, kept: &Memory) -> bool
+#[inline(always)]
+fn is_mended(book: &Book, machine: Machine, kept: &Memory) -> bool
     ensures { result ≡ begins_anew book.now.entries machine kept.now }
 {
     let failed = book.failed(machine);
@@ -45,6 +48,16 @@ pub fn begins_anew(book: &Book, machine: Machine, kept: &Memory) -> bool
     kept.failed && (!failed && (!kept.command_failed && !asked))
 }
 
+/// Whether the watches of a watch's machine begin anew.
+#[inline(always)]
+pub fn begins_anew(machine: Machine, book: &Book, watch: &Watch) -> bool
+    requires { watch.now.machine ≡ machine }
+    ensures { result ≡ begins_anew book.now.entries watch.now.machine watch.now.memory }
+{
+    is_mended(book, machine, &watch.memory)
+}
+
+#[inline(always)]
 fn axis_after(observed: &Observed, anew: bool, booked: &Option<Entry>) -> Option<AxisWatch>
     ensures { (f : Option Following) → FitsAxis observed.now.axis f → FitsAxis result (if anew || ends_motion booked.now then None else f) }
 {
@@ -55,6 +68,7 @@ fn axis_after(observed: &Observed, anew: bool, booked: &Option<Entry>) -> Option
     }
 }
 
+#[inline(always)]
 fn rest_after(machine: Machine, observed: &Observed, anew: bool) -> RestWatch
     requires { machine_of observed.now.rest ≡ machine }
     ensures fits { (L : List NotedValue) → RestFits observed.now.rest L → RestFits result (if anew then [] else L) }
@@ -68,13 +82,16 @@ fn rest_after(machine: Machine, observed: &Observed, anew: bool) -> RestWatch
 }
 
 /// The watch after a turn that left the book like this.
+#[inline(always)]
 pub fn after(
+    machine: Machine,
     watch: &Watch,
     book: &Book,
     observed: &Observed,
     anew: bool,
     booked: &Option<Entry>,
 ) -> Watch
+    requires same { watch.now.machine ≡ machine }
     requires machine { machine_of observed.now.rest ≡ watch.now.machine }
     requires fitted { ∥ IsFitted observed.now.axis observed.now.rest ∥₁ }
     ensures axis { (f : Option Following) → FitsAxis observed.now.axis f → FitsAxis result.axis (if anew || ends_motion booked.now then None else f) }
@@ -82,7 +99,6 @@ pub fn after(
     ensures memory { result.memory ≡ remembered book.now.entries watch.now.machine (is_none booked.now && watch.now.memory.command_failed) (not anew && (not watch.now.memory.sign && observed.now.findings.sign)) }
     ensures machine { result.machine ≡ watch.now.machine }
 {
-    let machine = watch.machine;
     let kept = &watch.memory;
     let command_failed = booked.is_none() && kept.command_failed;
     let sign = !anew && (!kept.sign && observed.findings.sign);

@@ -3,7 +3,7 @@ use Rattle.plate_book.specs.Rules.History.{History}
 use Rattle.cell_turns.proofs.Minds.{ruling_is, decided, fits_turned}
 use Rattle.cell_turns.proofs.Declared.{fault_booked}
 use Rattle.cell_turns.proofs.Rooms.{own_actor, own_turn, excused, past_last}
-use Rattle.cell_turns.proofs.turns.book_turn.Goals as goal
+use Rattle.cell_turns.proofs.turns.turn_of.Goals as goal
 
 pub returns-clause-decided : goal.returns-clause-decided
 returns-clause-decided g c = λ s fit.
