@@ -49,5 +49,5 @@ needs_law l c (Yielded machine.Press1 z) h f = room _ _ f (or _ _ _ refl (or _ _
 needs_law l c (Yielded machine.Press2 z) h f = room _ _ f (or _ _ _ refl (or _ _ _ refl (at _ _ _ refl h)))
 needs_law l c (Yielded machine.Deposit z) h f = room _ _ f (or _ _ _ refl (or _ _ _ refl (at _ _ _ refl h)))
 needs_law l c (Started axis.FeedBelt pose.ToEnd) h f = room _ _ f (or _ _ _ refl (or _ _ _ refl (at _ _ _ refl h)))
-needs_law l c (Started axis.FeedBelt pose.ToTable) h f = room _ _ f (or _ _ _ refl (or _ _ _ refl (or _ _ _ refl (or _ _ _ refl (or _ _ _ refl (or _ _ _ refl (at _ _ _ refl h)))))))
+needs_law l c (Started axis.FeedBelt pose.ToTable) h f = room _ _ f (or _ _ _ refl (or _ _ _ refl (or _ _ _ refl (or _ _ _ refl (or _ _ _ refl (at _ _ _ refl h))))))
 needs_law l c _ h f = cc

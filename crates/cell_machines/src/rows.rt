@@ -6,11 +6,11 @@ ghost use Rattle.cell_machines.specs.Room.{is_bookable, lacks_its_need};
 ghost use Rattle.cell_machines.specs.Candidates.{first_bookable};
 
 use cell_policy::{is_held_by, is_occupied};
-use cell_types::{Axis, Entry, Pose, Station};
+use cell_types::{Axis, Entry, Machine, Pose, Station, Zone};
 use plate_book::{Book, Refusal};
 
 /// Whether one look at the book refuses an entry: the zone that is given up isn't held, the light has that colour already, or
-/// the feed belt has no plate to carry.
+/// the feed belt has no plate to carry on, or may not carry it to the table.
 #[inline(always)]
 fn lacks_its_need(book: &Book, entry: &Entry) -> bool
     ensures { result ≡ lacks_its_need (situation_of book.now.entries) entry.now }
@@ -25,15 +25,16 @@ fn lacks_its_need(book: &Book, entry: &Entry) -> bool
         Entry::Started {
             axis: Axis::FeedBelt,
             to: Pose::ToTable,
-        } => !is_occupied(book, Station::FeedEnd),
+        } => !is_held_by(book, Machine::Feed, Zone::Z1),
         _ => false,
     }
 }
 
-/// Whether one look at the book tells that an entry isn't bookable, which spares most calls of `allows`. At a full journal it
-/// never is, since every entry is then refused for the room alone.
+/// Whether one look at the book tells that an entry isn't bookable, which spares most calls of `allows`. At a full journal none
+/// is out of question, since every entry is then refused for the room alone.
 #[tactic(auto, using(crate::proofs::Needs::needs_law))]
-#[inline(always)]
+// A call of its own, so that the loops over rows stay small and are unrolled where the rows stand.
+#[inline(never)]
 fn is_out_of_question(book: &Book, entry: &Entry) -> bool
     ensures { result ≡ true → is_bookable book.now.limits (situation_of book.now.entries) entry.now ≡ false }
 {
