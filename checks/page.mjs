@@ -304,6 +304,7 @@ const checkWithoutScripts = async () => {
   await sleep(1000);
   await tell("Emulation.setScriptExecutionDisabled", { value: false });
   const words = await ask("document.body.innerText");
+  check("without scripts the picture of the last state is shown", await ask("document.querySelector('.still svg')?.getClientRects().length"), 1);
   const without = await ask("['last', 'cell', 'controls', 'jumps', 'strip', 'lanes', 'legend', 'facts'].filter((id) => document.getElementById(id).getClientRects().length > 0)");
   check("without scripts nothing is shown that scripts fill", without, []);
   await picture("without-scripts");

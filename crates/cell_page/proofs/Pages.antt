@@ -63,21 +63,22 @@ pub chart_written : (chart : Bor (List ℕ)) (c0 c1 c2 c3 : Option (List ℕ)) �
 chart_written chart c0 c1 c2 c3 h0 h1 h2 = Appends-trans c0 c1 c3 _ _ h0 (Appends-trans c1 c2 c3 _ _ h1 h2)
 
 -- a page, piece by piece
-pub page_whole : (J : List Entry) (answer : Option AuditError) (chart : Option (Bor (List ℕ))) (c0 c1 c2 c3 c4 c5 c6 c7 c8 c9 c10 c11 c12 : Option (List ℕ)) (head drawing lists middle script more : List ℕ)
-    → Appends c0 c1 head → Appends c1 c2 (no_scripts_text J) → Appends c2 c3 drawing → Appends c3 c4 (answer_line answer) → Appends c4 c5 lists
+pub page_whole : (J : List Entry) (answer : Option AuditError) (chart : Option (Bor (List ℕ))) (c0 c1 c2 still c3 c4 c5 c6 c7 c8 c9 c10 c11 c12 : Option (List ℕ)) (head parts lists middle script more : List ℕ)
+    → Appends c0 c1 head → Appends c1 c2 (no_scripts_text J) → AppendsSome c2 still → Appends still c3 parts → Appends c3 c4 (answer_line answer) → Appends c4 c5 lists
     → Appends c5 c6 (chart_section chart) → Appends c6 c7 middle
     → AppendsSome c7 c8 → Appends c8 c9 (codes "\"rows\":[\n") → Appends c9 c10 (rows_text J) → Appends c10 c11 script → Appends c11 c12 more
     → WritesPage c0 c12 J answer chart
-page_whole J answer chart c0 c1 c2 c3 c4 c5 c6 c7 c8 c9 c10 c11 c12 head drawing lists middle script more h0 h1 h2 h3 h4 h5 h6 some h8 h9 h10 h11 =
+page_whole J answer chart c0 c1 c2 still c3 c4 c5 c6 c7 c8 c9 c10 c11 c12 head parts lists middle script more h0 h1 picture h2 h3 h4 h5 h6 some h8 h9 h10 h11 =
+    let drawing = some_more c2 still c3 parts picture h2 in
     record {
       head = head;
-      drawing = drawing;
+      drawing = drawing.text;
       lists = lists;
       middle = middle;
       words = some.text;
       scripts = script ++ more;
       whole =
-          Appends-trans c0 c1 c12 _ _ h0 (Appends-trans c1 c2 c12 _ _ h1 (Appends-trans c2 c3 c12 _ _ h2 (Appends-trans c3 c4 c12 _ _ h3
+          Appends-trans c0 c1 c12 _ _ h0 (Appends-trans c1 c2 c12 _ _ h1 (Appends-trans c2 c3 c12 _ _ drawing.whole (Appends-trans c3 c4 c12 _ _ h3
           (Appends-trans c4 c5 c12 _ _ h4 (Appends-trans c5 c6 c12 _ _ h5 (Appends-trans c6 c7 c12 _ _ h6 (Appends-trans c7 c8 c12 _ _ some.whole
           (Appends-trans c8 c9 c12 _ _ h8 (Appends-trans c9 c10 c12 _ _ h9 (Appends-trans c10 c11 c12 _ _ h10 h11))))))))));
     }

@@ -5,6 +5,7 @@ mod error;
 mod page;
 mod parts;
 mod rows;
+mod still;
 mod words;
 
 pub use error::PageError;

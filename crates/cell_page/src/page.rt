@@ -7,6 +7,7 @@ ghost use Rattle.cell_page.specs.Page.{ShowsChart, WritesPage, answer_line, char
 use crate::PageError;
 use crate::parts::{CONTROL_SCRIPT, DRAWING, DRAWING_SCRIPT, HEAD, LISTS, MIDDLE};
 use crate::rows::Row;
+use crate::still::write_still;
 use crate::words::write_words;
 use cell_audit::AuditError;
 use cell_picture::{AnswerLine, facts_after};
@@ -113,6 +114,7 @@ fn write_parts<W: Write>(
 {
     writer.write_all(HEAD.as_bytes())?;
     write_for_no_scripts(writer, book)?;
+    write_still(writer, book)?;
     writer.write_all(DRAWING.as_bytes())?;
     write_answer(writer, answer)?;
     writer.write_all(LISTS.as_bytes())?;

@@ -1,7 +1,9 @@
 //! The page of a journal of a few entries, the pages that are refused, and a writer that fails.
+use crate::states::{drawn, drawn_after, largest, longest};
 use cell_audit::AuditError;
 use cell_page::{MAX_PAGE_ENTRIES, PageError, write_page};
-use cell_samples::{begun, book_all};
+use cell_samples::{ONE_PLATE, begun, book_all};
+use cell_show::Form;
 use cell_types::Belt;
 use plate_book::{Book, Refusal};
 use std::alloc::Global;
@@ -72,6 +74,25 @@ fn writes_a_row_for_each_state_and_the_answer(rt: HostRuntime) {
         None,
         "refused 5 LampRed feed",
     );
+}
+
+// What is shown where no scripts run has the picture of the last state.
+#[test]
+fn has_the_picture_of_the_last_state(rt: HostRuntime) {
+    let page = first_page(&rt, rt.alloc(), None, None);
+    let start = "<noscript><figure class=\"still\">\n";
+    let (_, rest) = page.as_str().split_once(start).unwrap_or(("", ""));
+    let picture = drawn_after(&rt, rt.alloc(), &ONE_PLATE[..4], None, Form::Picture);
+    let after = rest.strip_prefix(picture.as_str()).unwrap_or("");
+    assert!(rt; after.starts_with("</figure></noscript>\n<div id=\"last\""));
+}
+
+// The picture with the longest words and the largest numbers has fewer bytes than the page has room for.
+#[test]
+fn has_room_for_the_longest_picture(rt: HostRuntime) {
+    let facts = largest();
+    let picture = drawn(&rt, rt.alloc(), &longest(&facts), Form::Picture);
+    assert!(rt; picture.len() < 10_000, "{}", picture.len());
 }
 
 // The section of a chart.

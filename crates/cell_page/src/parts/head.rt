@@ -126,7 +126,7 @@ figure { margin: 0; }
 .back-row .soft, .back-row #facts { font-size: 1.15rem; }
 .back-row #moving-line { font-size: 1.5rem; }
 </style>
-<noscript><style>#last, #picture, #controls, #jumps, #strip, #lanes, #lanes ~ *:not(.chart):not(script) { display: none; } h2 { display: none; } .chart h2 { display: block; }</style></noscript>
+<noscript><style>#last, #picture, #controls, #jumps, #strip, #lanes, #lanes ~ *:not(.chart):not(script) { display: none; } h2 { display: none; } .chart h2 { display: block; } .still { overflow-x: auto; } .still svg { display: block; width: 100%; min-width: 34rem; max-width: 60rem; height: auto; }</style></noscript>
 </head>
 <body>
 <main>
