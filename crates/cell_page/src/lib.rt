@@ -4,6 +4,7 @@
 mod error;
 mod page;
 mod parts;
+mod refused;
 mod rows;
 mod still;
 mod words;

@@ -1,5 +1,5 @@
 -- An answer on memory, and the good entries of a text.
-use Rattle.std.proofs.Common.{◌≡◌, ◌≤◌, ℕ, List, length, Option, Some, None, Result, Err, inl, inr, refl, ap, arith, ◌⊎◌}
+use Rattle.std.proofs.Common.{◌≡◌, ◌≢◌, ◌<◌, ◌≤◌, ℕ, List, length, Option, Some, None, Result, Err, inl, inr, refl, ap, arith, ◌⊎◌}
 use Rattle.std.specs.Prelude.{IfSome, unwrap_or}
 use Rattle.std.specs.Result.{result_err}
 use Rattle.cell_rows.specs.Rows.{Row}
@@ -10,7 +10,9 @@ use Rattle.cell_audit.specs.Reading.{IsBefore, SpellsFirst}
 use Rattle.cell_audit.specs.declared.error.AuditError.{AuditError}
 use Rattle.cell_audit.specs.declared.error.AuditError.TheVariants as error
 use Rattle.cell_lines.specs.Lines.{status_of}
-use Rattle.cell_show.specs.Shown.{AreGood, HasEntry, IsPage, ShowsPage}
+use Rattle.cell_show.specs.Shown.{AreGood, HasEntry, IsPage, ShowsPage, TellsEntries}
+use Rattle.cell_show.specs.declared.error.ShowError.{ShowError}
+use Rattle.cell_show.specs.declared.error.ShowError.TheVariants as shown
 use Rattle.cell_show.specs.declared.show.Form.{Form}
 
 pub wants-memory : (rows : Option (List Row)) → IfSome rows (λ known. IsFault (Err error.OutOfMemory) ⊎ Due known (Err error.OutOfMemory))
@@ -48,3 +50,11 @@ pub has : (rows : Option (List Row)) (entry : Option ℕ) (n : ℕ) (J : List En
     → IfSome rows (AreGood J) → length J ≡ n → unwrap_or entry n ≤ n → IfSome rows (HasEntry entry)
 has None entry n J are size most = tt
 has (Some known) entry n J are size most = (J, are, rw size (within entry n most))
+
+-- what is told where nothing is drawn: too many entries, and never one that isn't there
+pub told_of : (rows : Option (List Row)) (J : List Entry) (why : ShowError) → IfSome rows (AreGood J) → ((n : ℕ) → why ≢ shown.NoSuchEntry n)
+    → (why ≡ shown.TooManyEntries → 20000 < length J) → IfSome rows (TellsEntries why)
+told_of None J why good there long = tt
+told_of (Some known) J (shown.NoSuchEntry n) good there long = absurd (there n refl)
+told_of (Some known) J shown.TooManyEntries good there long = (J, good, long refl)
+told_of (Some known) J shown.WriteFault good there long = tt

@@ -213,6 +213,33 @@ fn a_page_has_a_chart_of_all_entries(rt: HostRuntime) {
     }
 }
 
+// The page of a text, and the status.
+fn page_of(rt: &impl Abort, alloc: Global, text: &str, wanted: u8) -> String {
+    let mut written = Vec::new(alloc);
+    let answered = show_journal(alloc, text.as_bytes(), Form::Page, None, &mut written);
+    assert!(rt; answered == Ok(wanted), "{text}");
+    String::from_utf8(written).ok().expect(rt, "text")
+}
+
+// The page of a text that isn't legal has its refused entry, or says that the record can't be read.
+#[test]
+fn a_page_has_the_record_that_is_not_booked(rt: HostRuntime) {
+    let refused = page_of(&rt, rt.alloc(), REFUSED, 1);
+    assert!(rt;
+        refused.as_str().contains(
+            "\n\"refused\":[2,\"LampAlready feed: the feed light has that colour already\",\"lamp-0\",0,\"lamp,feed,green,\",\"feed belt: its light turns green\"],\n"
+        )
+    );
+    let unreadable = page_of(&rt, rt.alloc(), UNREADABLE, 1);
+    assert!(rt;
+        unreadable.as_str().contains(
+            "\n\"refused\":[2,\"the record can't be read\",\"\",-1,\"\",\"\"],\n"
+        )
+    );
+    let legal = page_of(&rt, rt.alloc(), LEGAL, 0);
+    assert!(rt; legal.as_str().contains("\n\"refused\":null,\n"));
+}
+
 #[test]
 fn shows_nothing_where_the_reader_fails(rt: HostRuntime) {
     for left in [0, 1, 20, LEGAL.len()] {
