@@ -8,6 +8,7 @@ use Rattle.std.proofs.lemmas.List.{length-take, take_all}
 use Rattle.cell_types.specs.declared.words.Entry.{Entry}
 use Rattle.cell_audit.specs.declared.error.AuditError.{AuditError}
 use Rattle.cell_picture.specs.Told.{last_of}
+use Rattle.cell_page.specs.Beside.{WritesBeside, escaped}
 use Rattle.cell_page.specs.Refused.{refused_line}
 use Rattle.cell_page.specs.Page.{AppendsSome, ShowsChart, WritesPage, answer_line, chart_section, chart_start, last_text, no_scripts_text, row_of, rows_text, rows_upto}
 
@@ -101,3 +102,15 @@ pub chart_on : {X E : Type 0} (r : Result X E) (J : List Entry) (answer : Option
     → OnOk r (WritesPage old new J answer refused chart) → OnOk r (ShowsChart old new chart)
 chart_on (Ok x) J answer refused chart old new page = shows_chart J answer refused chart old new page
 chart_on (Err e) J answer refused chart old new page = tt
+
+-- two pages in one, piece by piece
+pub beside_whole : (first second : List ℕ) (c0 c1 c2 c3 c4 c5 : Option (List ℕ)) (head middle end : List ℕ)
+    → Appends c0 c1 head → Appends c1 c2 (escaped first) → Appends c2 c3 middle → Appends c3 c4 (escaped second) → Appends c4 c5 end
+    → WritesBeside c0 c5 first second
+beside_whole first second c0 c1 c2 c3 c4 c5 head middle end h0 h1 h2 h3 h4 =
+    record {
+      head = head;
+      middle = middle;
+      end = end;
+      whole = Appends-trans c0 c1 c5 _ _ h0 (Appends-trans c1 c2 c5 _ _ h1 (Appends-trans c2 c3 c5 _ _ h2 (Appends-trans c3 c4 c5 _ _ h3 h4)));
+    }

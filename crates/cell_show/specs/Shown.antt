@@ -1,5 +1,5 @@
 -- What is told of a journal's text beside the picture
-use Rattle.std.specs.Prelude.{◌≡◌, ◌==◌, ◌⊎◌, ◌<◌, ◌≤◌, ℕ, List, ◌++◌, length, Option, None, Some, Result, IfSome, ⊤, codes, decimal, if◌then◌else◌}
+use Rattle.std.specs.Prelude.{◌≡◌, ◌==◌, ◌⊎◌, ◌<◌, ◌≤◌, ℕ, List, [], ◌++◌, length, Option, None, Some, Result, IfSome, ⊤, codes, decimal, if◌then◌else◌}
 use Rattle.std.specs.Borrow.{Bor}
 use Rattle.std.specs.Result.{result_err}
 use Rattle.cell_rows.specs.Rows.{Row}
@@ -13,6 +13,7 @@ use Rattle.cell_lines.specs.Lines.{status_of}
 use Rattle.plate_book.specs.declared.limits.BookLimits.{BookLimits}
 use Rattle.plate_book.specs.declared.refusal.Refusal.{Refusal}
 use Rattle.plate_book.specs.Rules.Legal.{first_of}
+use Rattle.cell_page.specs.Beside.{WritesBeside}
 use Rattle.cell_page.specs.Page.{WritesPage}
 use Rattle.cell_page.specs.declared.error.PageError.{PageError}
 use Rattle.cell_page.specs.declared.error.PageError.TheVariants as page
@@ -74,6 +75,15 @@ abbrev pub ShowsPage : Form → Option (List ℕ) → Option (List ℕ) → List
 ShowsPage form old new rows =
     (J : List Entry) × (answer : Result (ℕ × Totals) AuditError) × Due rows answer × IsBefore answer J × SpellsFirst J rows
     × IsPage form J (result_err answer) old new
+
+-- the page of another journal: that of its good entries, or a line in its place where they are too many
+abbrev pub IsOther : Form → List ℕ → List Row → Type 0
+IsOther form page rows = ShowsPage form (Some []) (Some page) rows ⊎ TellsEntries error.TooManyEntries rows
+
+-- two pages were written into one: that of a text's good entries, and that of another text
+abbrev pub ShowsBeside : Form → List Row → Option (List ℕ) → Option (List ℕ) → List Row → Type 0
+ShowsBeside form others old new rows =
+    (first : List ℕ) × (second : List ℕ) × WritesBeside old new first second × ShowsPage form (Some []) (Some first) rows × IsOther form second others
 
 -- a form that shows only so many entries
 abbrev pub HasBound : Form → Type 0

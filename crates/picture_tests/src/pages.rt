@@ -1,7 +1,7 @@
 //! The page of a journal of a few entries, the pages that are refused, and a writer that fails.
 use crate::states::{drawn, drawn_after, largest, longest};
 use cell_audit::AuditError;
-use cell_page::{MAX_PAGE_ENTRIES, PageError, write_page};
+use cell_page::{MAX_PAGE_ENTRIES, PageError, write_beside, write_page};
 use cell_samples::{ONE_PLATE, begun, book_all, entry_of};
 use cell_show::Form;
 use cell_types::{Axis, Belt, Machine, Station, Zone};
@@ -155,6 +155,27 @@ fn has_a_step_for_the_record_that_is_not_booked(rt: HostRuntime) {
         let (step, _) = rest.split_once(",\n\"rows\":[\n").unwrap_or(("", ""));
         assert!(rt; step == line, "{step}");
     }
+}
+
+// Two pages stand in one, with their quotes and ampersands as entities.
+#[test]
+fn writes_two_pages_in_one(rt: HostRuntime) {
+    let mut written = Vec::new(rt.alloc());
+    let first = b"<p class=\"a\">one &amp; two</p>".as_slice();
+    let second = b"\"&\"".as_slice();
+    assert!(rt; write_beside(&mut written, first, second) == Ok(()));
+    let page = String::from_utf8(written)
+        .ok()
+        .expect(&rt, "the page is UTF-8");
+    let (head, rest) = page
+        .as_str()
+        .split_once("srcdoc=\"<p class=&quot;a&quot;>one &amp;amp; two</p>\"></iframe>\n")
+        .unwrap_or(("", ""));
+    assert!(rt; head.starts_with("<!DOCTYPE html>\n<html lang=\"en\">\n"));
+    assert!(rt; head.ends_with("<iframe title=\"The first journal\" "));
+    let end =
+        "<iframe title=\"The second journal\" srcdoc=\"&quot;&amp;&quot;\"></iframe>\n</main>\n</body>\n</html>\n";
+    assert!(rt; rest == end);
 }
 
 // The section of a chart.

@@ -2,7 +2,7 @@
 use crate::texts::OPENING;
 use cell_measures::Durations;
 use cell_samples::{FailingReader, FailingWriter};
-use cell_show::{Form, ShowError, show_journal};
+use cell_show::{Form, ShowError, show_beside, show_journal};
 use cell_types::{Axis, Pose};
 use std::alloc::Global;
 use std::process::Abort;
@@ -238,6 +238,38 @@ fn a_page_has_the_record_that_is_not_booked(rt: HostRuntime) {
     );
     let legal = page_of(&rt, rt.alloc(), LEGAL, 0);
     assert!(rt; legal.as_str().contains("\n\"refused\":null,\n"));
+}
+
+// A page as it stands within the quotes of an attribute.
+fn quoted(rt: &impl Abort, alloc: Global, page: &str) -> String {
+    let page = page.replace(alloc, "&", "&amp;").expect(rt, "memory");
+    page.as_str()
+        .replace(alloc, "\"", "&quot;")
+        .expect(rt, "memory")
+}
+
+// Two journals stand side by side, each with its page, and the status is the first one's.
+#[test]
+fn shows_two_journals_side_by_side(rt: HostRuntime) {
+    let legal = page_of(&rt, rt.alloc(), LEGAL, 0);
+    let refused = page_of(&rt, rt.alloc(), REFUSED, 1);
+    let mut written = Vec::new(rt.alloc());
+    let other = REFUSED.as_bytes();
+    let answered = show_beside(
+        rt.alloc(),
+        LEGAL.as_bytes(),
+        other,
+        Form::Page,
+        None,
+        &mut written,
+    );
+    assert!(rt; answered == Ok(0));
+    let both = String::from_utf8(written).ok().expect(&rt, "text");
+    let first = quoted(&rt, rt.alloc(), legal.as_str());
+    let second = quoted(&rt, rt.alloc(), refused.as_str());
+    let (_, rest) = both.as_str().split_once(first.as_str()).unwrap_or(("", ""));
+    let (_, rest) = rest.split_once(second.as_str()).unwrap_or(("", ""));
+    assert!(rt; rest == "\"></iframe>\n</main>\n</body>\n</html>\n");
 }
 
 #[test]

@@ -114,7 +114,7 @@ pub(crate) const CONTROL_SCRIPT: &str =
   };
 
   let current = -1;
-  const show = (wanted) => {
+  const show = (wanted, isAsked = false) => {
     const i = Math.min(last, Math.max(0, Math.trunc(Number(wanted)) || 0));
     if (i === current) return;
     const before = current;
@@ -139,6 +139,7 @@ pub(crate) const CONTROL_SCRIPT: &str =
     el("first").disabled = el("back").disabled = i === 0;
     el("end").disabled = el("forward").disabled = i === last;
     if (timer === null) keepAddress();
+    around?.postMessage({ entry: i, last, isAsked }, "*");
   };
   // How many milliseconds a step may take to be drawn.
   const smoothly = () => {
@@ -146,7 +147,17 @@ pub(crate) const CONTROL_SCRIPT: &str =
     const pause = timer === null ? 500 : Number(el("speed").value);
     return pause < 80 ? 0 : Math.min(400, 0.8 * pause);
   };
-  const keepAddress = () => history.replaceState(null, "", "#entry=" + current);
+  const keepAddress = () => {
+    if (around === null) history.replaceState(null, "", "#entry=" + current);
+  };
+
+  // The page around this one, where two stand side by side: it is told each step, and says where to go.
+  const around = location.protocol === "about:" ? window.parent : null;
+  const onMessage = ({ source, data }) => {
+    if (around === null || source !== around) return;
+    if (timer !== null) pause();
+    show(data.entry, true);
+  };
 
   let timer = null;
   const pause = () => {
@@ -268,6 +279,7 @@ pub(crate) const CONTROL_SCRIPT: &str =
   el("whole").addEventListener("click", onStrip);
   document.addEventListener("keydown", onKey);
   window.addEventListener("hashchange", () => goTo(entryInAddress()));
+  window.addEventListener("message", onMessage);
   window.addEventListener("resize", redraw);
   window.matchMedia("(prefers-color-scheme: dark)").addEventListener("change", redraw);
   root.add("ready");
