@@ -1,5 +1,5 @@
 -- The last step of a page whose text isn't that of a legal journal: a line of the page's data
-use Rattle.std.specs.Prelude.{ℕ, Option, Some, None, List, [], ◌∷◌, ◌++◌, codes, decimal}
+use Rattle.std.specs.Prelude.{ℕ, Option, Some, List, [], ◌∷◌, ◌++◌, codes, decimal}
 use Rattle.cell_types.specs.declared.words.Entry.{Entry}
 use Rattle.cell_types.specs.Same.{axis_number, belt_number, machine_number, station_number, zone_number}
 use Rattle.plate_book.specs.declared.refusal.Refusal.{Refusal}

@@ -1,4 +1,3 @@
-use Rattle.std.specs.Io.KnownBytes.{Appends}
 use Rattle.cell_page.proofs.Pages.{some_more}
 use Rattle.cell_page.proofs.still.write_still.Goals as goal
 
