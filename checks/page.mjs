@@ -8,7 +8,10 @@ const [page, pictures] = process.argv.slice(2);
 const address = pathToFileURL(page).href;
 const text = readFileSync(page, "utf8");
 const journal = JSON.parse(text.split('<script type="application/json" id="journal">')[1].split("</script>")[0]);
-const { machines, stations, parts, poses, ways, zones, rows } = journal;
+const { machines, stations, parts, poses, ways, zones, rows, refused } = journal;
+// A step more where a record is refused or can't be read.
+const good = rows.length - 1;
+if (refused !== null) rows.push([...rows[good].slice(0, 11), ...refused.slice(3)]);
 const last = rows.length - 1;
 
 const browser = spawn(
@@ -104,12 +107,15 @@ const drawn = () => ask(`(() => {
     moving: [...document.querySelectorAll("#cell [data-going]")].filter(shown).map((node) => node.dataset.axis + node.dataset.going),
     standing: [...document.querySelectorAll("#cell [data-at]")].filter(shown).map((node) => node.dataset.axis + node.dataset.at),
     counts: ["admitted-count", "forged-count", "delivered-count", "quarantine-count", "expected-plate"].map(words),
-    sentence: words("sentence"), place: words("count"), totals: words("fact-totals"), described: words("fact-plates"),
+    sentence: words("sentence"), place: words("count"), why: words("why"),
+    named: [...document.querySelectorAll("#cell .in-the-way")].map((node) => node.id), totals: words("fact-totals"), described: words("fact-plates"),
     slider: document.getElementById("slider").value, number: document.getElementById("number").value, hash: location.hash,
     marked: [...document.querySelectorAll("#lanes .current")].map((node) => node.dataset.entry),
   };
 })()`);
 
+// The machine of each axis, whose frame is marked with it.
+const machineOf = Object.fromEntries([0, 1, 1, 2, 2, 2, 3, 4, 5].map((machine, axis) => ["axis-" + axis, "machine-" + machine]));
 // What a row of the data says.
 const wanted = (i) => {
   const [plates, forged, at, going, holders, failedOnes, asked, lamps, expected, quarantine, totals, , record, sentence] = rows[i];
@@ -132,8 +138,10 @@ const wanted = (i) => {
     moving: inOrder(drawnGoing, lettered(going)),
     standing: inOrder(drawnAt, lettered(at)),
     counts: [String(totals[1]), String(totals[2]), String(totals[4]), String(quarantine), expected === 0 ? "none" : "plate " + expected],
-    sentence: i === 0 ? "The opening: nothing is booked." : sentence,
-    place: `Entry ${i} of ${last}` + (i === 0 ? "" : ` · ${record}`),
+    sentence: i === 0 ? "The opening: nothing is booked." : i <= good ? sentence : sentence === "" ? "Here the journal stops." : "Refused: " + sentence,
+    place: (i <= good ? `Entry ${i} of ${good}` : `Record ${refused[0]}; the good entries end at ${good}`) + (record === "" ? "" : ` · ${record}`),
+    why: i <= good ? "" : refused[1],
+    named: i <= good || refused[2] === "" ? [] : refused[2].startsWith("axis-") ? [machineOf[refused[2]], refused[2]] : [refused[2]],
     totals: `${totals[0]} entries; ${totals[1]} admitted, ${totals[2]} forged, ${totals[3]} quarantined, ${totals[4]} delivered, ${totals[5]} laid back`,
     described: stations.map((name, s) => [plates[s], `${plates[s]}${forged[s] === "1" ? " (forged)" : ""} at ${name}`])
       .filter(([plate]) => plate !== 0).map(([, words]) => words).join(", ") || "none",
@@ -197,9 +205,9 @@ const checkControls = async () => {
   console.log("keys, buttons, slider, number box, marks, play and pause were tried");
 };
 // The entries that name a plate, or a zone, or after which it is elsewhere or has another holder.
-const ofPlate = (plate) => rows.map((_, i) => i).filter((i) => i > 0
+const ofPlate = (plate) => rows.map((_, i) => i).filter((i) => i > 0 && i <= good
   && (` ${rows[i][13]} `.replaceAll(",", " ").includes(` plate ${plate} `) || rows[i][0].indexOf(plate) !== rows[i - 1][0].indexOf(plate)));
-const ofZone = (zone) => rows.map((_, i) => i).filter((i) => i > 0
+const ofZone = (zone) => rows.map((_, i) => i).filter((i) => i > 0 && i <= good
   && (rows[i][13].endsWith(zones[zone]) || rows[i][4][zone] !== rows[i - 1][4][zone]));
 const walk = async (what, letter, list) => {
   await ask("location.hash = '#entry=0'");
@@ -227,7 +235,7 @@ const checkFollowing = async () => {
   await key("PageUp", 33);
   check("page up", await entry(), Math.min(last, 1));
   await ask("document.activeElement.blur()");
-  const failures = rows.map((_, i) => i).filter((i) => rows[i][12].startsWith("declared,"));
+  const failures = rows.map((_, i) => i).filter((i) => i > good || rows[i][12].startsWith("declared,"));
   await choose("plate", 1, "input");
   await walk("plate 1", "p", ofPlate(1));
   const standing = rows.findIndex((row) => row[0].includes(1));
@@ -304,11 +312,12 @@ const checkWithoutScripts = async () => {
   await sleep(1000);
   await tell("Emulation.setScriptExecutionDisabled", { value: false });
   const words = await ask("document.body.innerText");
+  check("without scripts the picture of the last state is shown", await ask("document.querySelector('.still svg')?.getClientRects().length"), 1);
   const without = await ask("['last', 'cell', 'controls', 'jumps', 'strip', 'lanes', 'legend', 'facts'].filter((id) => document.getElementById(id).getClientRects().length > 0)");
   check("without scripts nothing is shown that scripts fill", without, []);
   await picture("without-scripts");
   check("without scripts the page says so", words.includes("needs scripts"), true);
-  check("without scripts the last entry is told", words.includes(last === 0 ? "nothing is booked" : rows[last][13]), true);
+  check("without scripts the last entry is told", words.includes(good === 0 ? "Nothing is booked" : rows[good][13]), true);
 };
 
 const run = async () => {

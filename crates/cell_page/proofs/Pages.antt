@@ -8,6 +8,8 @@ use Rattle.std.proofs.lemmas.List.{length-take, take_all}
 use Rattle.cell_types.specs.declared.words.Entry.{Entry}
 use Rattle.cell_audit.specs.declared.error.AuditError.{AuditError}
 use Rattle.cell_picture.specs.Told.{last_of}
+use Rattle.cell_page.specs.Beside.{WritesBeside, escaped}
+use Rattle.cell_page.specs.Refused.{refused_line}
 use Rattle.cell_page.specs.Page.{AppendsSome, ShowsChart, WritesPage, answer_line, chart_section, chart_start, last_text, no_scripts_text, row_of, rows_text, rows_upto}
 
 get-taken : (J : List Entry) (i : ℕ) → slice_get (take (suc i) J) i ≡ slice_get J i
@@ -63,23 +65,24 @@ pub chart_written : (chart : Bor (List ℕ)) (c0 c1 c2 c3 : Option (List ℕ)) �
 chart_written chart c0 c1 c2 c3 h0 h1 h2 = Appends-trans c0 c1 c3 _ _ h0 (Appends-trans c1 c2 c3 _ _ h1 h2)
 
 -- a page, piece by piece
-pub page_whole : (J : List Entry) (answer : Option AuditError) (chart : Option (Bor (List ℕ))) (c0 c1 c2 c3 c4 c5 c6 c7 c8 c9 c10 c11 c12 : Option (List ℕ)) (head drawing lists middle script more : List ℕ)
-    → Appends c0 c1 head → Appends c1 c2 (no_scripts_text J) → Appends c2 c3 drawing → Appends c3 c4 (answer_line answer) → Appends c4 c5 lists
+pub page_whole : (J : List Entry) (answer : Option AuditError) (refused : Option Entry) (chart : Option (Bor (List ℕ))) (c0 c1 c2 still c3 c4 c5 c6 c7 c8 step c9 c10 c11 c12 : Option (List ℕ)) (head parts lists middle script more : List ℕ)
+    → Appends c0 c1 head → Appends c1 c2 (no_scripts_text J) → AppendsSome c2 still → Appends still c3 parts → Appends c3 c4 (answer_line answer) → Appends c4 c5 lists
     → Appends c5 c6 (chart_section chart) → Appends c6 c7 middle
-    → AppendsSome c7 c8 → Appends c8 c9 (codes "\"rows\":[\n") → Appends c9 c10 (rows_text J) → Appends c10 c11 script → Appends c11 c12 more
-    → WritesPage c0 c12 J answer chart
-page_whole J answer chart c0 c1 c2 c3 c4 c5 c6 c7 c8 c9 c10 c11 c12 head drawing lists middle script more h0 h1 h2 h3 h4 h5 h6 some h8 h9 h10 h11 =
+    → AppendsSome c7 c8 → Appends c8 step (refused_line answer refused) → Appends step c9 (codes "\"rows\":[\n") → Appends c9 c10 (rows_text J) → Appends c10 c11 script → Appends c11 c12 more
+    → WritesPage c0 c12 J answer refused chart
+page_whole J answer refused chart c0 c1 c2 still c3 c4 c5 c6 c7 c8 step c9 c10 c11 c12 head parts lists middle script more h0 h1 picture h2 h3 h4 h5 h6 some h7 h8 h9 h10 h11 =
+    let drawing = some_more c2 still c3 parts picture h2 in
     record {
       head = head;
-      drawing = drawing;
+      drawing = drawing.text;
       lists = lists;
       middle = middle;
       words = some.text;
       scripts = script ++ more;
       whole =
-          Appends-trans c0 c1 c12 _ _ h0 (Appends-trans c1 c2 c12 _ _ h1 (Appends-trans c2 c3 c12 _ _ h2 (Appends-trans c3 c4 c12 _ _ h3
+          Appends-trans c0 c1 c12 _ _ h0 (Appends-trans c1 c2 c12 _ _ h1 (Appends-trans c2 c3 c12 _ _ drawing.whole (Appends-trans c3 c4 c12 _ _ h3
           (Appends-trans c4 c5 c12 _ _ h4 (Appends-trans c5 c6 c12 _ _ h5 (Appends-trans c6 c7 c12 _ _ h6 (Appends-trans c7 c8 c12 _ _ some.whole
-          (Appends-trans c8 c9 c12 _ _ h8 (Appends-trans c9 c10 c12 _ _ h9 (Appends-trans c10 c11 c12 _ _ h10 h11))))))))));
+          (Appends-trans c8 step c12 _ _ h7 (Appends-trans step c9 c12 _ _ h8 (Appends-trans c9 c10 c12 _ _ h9 (Appends-trans c10 c11 c12 _ _ h10 h11)))))))))));
     }
 
 -- a text that stands in the middle of others
@@ -87,15 +90,27 @@ in_the_middle : (a b c d e s text t u : List ℕ) → a ++ (b ++ (c ++ (d ++ (e 
 in_the_middle a b c d e s text t u = simp append_assoc
 
 -- a page's chart stands in it
-shows_chart : (J : List Entry) (answer : Option AuditError) (chart : Option (Bor (List ℕ))) (old new : Option (List ℕ)) → WritesPage old new J answer chart → ShowsChart old new chart
-shows_chart J answer None old new page = tt
-shows_chart J answer (Some chart) old new page =
+shows_chart : (J : List Entry) (answer : Option AuditError) (refused : Option Entry) (chart : Option (Bor (List ℕ))) (old new : Option (List ℕ)) → WritesPage old new J answer refused chart → ShowsChart old new chart
+shows_chart J answer refused None old new page = tt
+shows_chart J answer refused (Some chart) old new page =
     let end = codes "</div>\n</section>\n" in
-    let rest = page.middle ++ (page.words ++ (codes "\"rows\":[\n" ++ (rows_text J ++ page.scripts))) in
+    let rest = page.middle ++ (page.words ++ (refused_line answer refused ++ (codes "\"rows\":[\n" ++ (rows_text J ++ page.scripts)))) in
     let moved = in_the_middle page.head (no_scripts_text J) page.drawing (answer_line answer) page.lists chart_start chart.now end rest in
     record { before = _; after = _; whole = subst (Appends old new) moved page.whole }
 
-pub chart_on : {X E : Type 0} (r : Result X E) (J : List Entry) (answer : Option AuditError) (chart : Option (Bor (List ℕ))) (old new : Option (List ℕ))
-    → OnOk r (WritesPage old new J answer chart) → OnOk r (ShowsChart old new chart)
-chart_on (Ok x) J answer chart old new page = shows_chart J answer chart old new page
-chart_on (Err e) J answer chart old new page = tt
+pub chart_on : {X E : Type 0} (r : Result X E) (J : List Entry) (answer : Option AuditError) (refused : Option Entry) (chart : Option (Bor (List ℕ))) (old new : Option (List ℕ))
+    → OnOk r (WritesPage old new J answer refused chart) → OnOk r (ShowsChart old new chart)
+chart_on (Ok x) J answer refused chart old new page = shows_chart J answer refused chart old new page
+chart_on (Err e) J answer refused chart old new page = tt
+
+-- two pages in one, piece by piece
+pub beside_whole : (first second : List ℕ) (c0 c1 c2 c3 c4 c5 : Option (List ℕ)) (head middle end : List ℕ)
+    → Appends c0 c1 head → Appends c1 c2 (escaped first) → Appends c2 c3 middle → Appends c3 c4 (escaped second) → Appends c4 c5 end
+    → WritesBeside c0 c5 first second
+beside_whole first second c0 c1 c2 c3 c4 c5 head middle end h0 h1 h2 h3 h4 =
+    record {
+      head = head;
+      middle = middle;
+      end = end;
+      whole = Appends-trans c0 c1 c5 _ _ h0 (Appends-trans c1 c2 c5 _ _ h1 (Appends-trans c2 c3 c5 _ _ h2 (Appends-trans c3 c4 c5 _ _ h3 h4)));
+    }

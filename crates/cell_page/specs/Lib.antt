@@ -1,2 +1,4 @@
 pub mod Rows
+pub mod Refused
 pub mod Page
+pub mod Beside

@@ -6,7 +6,9 @@ ghost use Rattle.cell_page.specs.Page.{ShowsChart, WritesPage, answer_line, char
 
 use crate::PageError;
 use crate::parts::{CONTROL_SCRIPT, DRAWING, DRAWING_SCRIPT, HEAD, LISTS, MIDDLE};
+use crate::refused::write_refused;
 use crate::rows::Row;
+use crate::still::write_still;
 use crate::words::write_words;
 use cell_audit::AuditError;
 use cell_picture::{AnswerLine, facts_after};
@@ -106,19 +108,22 @@ fn write_parts<W: Write>(
     writer: &mut W,
     book: &Book,
     answer: Option<AuditError>,
+    refused: Option<Entry>,
     chart: Option<&[u8]>,
 ) -> Result<(), PageError>
     ensures fault { result ≡ Err PageError.TooManyEntries → ⊥ }
-    ensures page { OnOk result (WritesPage (W.contents writer.old) (W.contents writer.new) book.now.entries answer chart.entry) }
+    ensures page { OnOk result (WritesPage (W.contents writer.old) (W.contents writer.new) book.now.entries answer refused chart.entry) }
 {
     writer.write_all(HEAD.as_bytes())?;
     write_for_no_scripts(writer, book)?;
+    write_still(writer, book)?;
     writer.write_all(DRAWING.as_bytes())?;
     write_answer(writer, answer)?;
     writer.write_all(LISTS.as_bytes())?;
     write_chart(writer, chart)?;
     writer.write_all(MIDDLE.as_bytes())?;
     write_words(writer)?;
+    write_refused(writer, answer, refused)?;
     writer.write_all(b"\"rows\":[\n")?;
     write_rows(writer, book)?;
     writer.write_all(DRAWING_SCRIPT.as_bytes())?;
@@ -127,7 +132,8 @@ fn write_parts<W: Write>(
 }
 
 /// Writes one page with all states of a book's journal, with the line of an answer where its text isn't legal, and below the
-/// states with a chart, an SVG text, where one is given.
+/// states with a chart, an SVG text, where one is given. An answer that names a record gives the page a last step, with the
+/// refused entry where one is given and the part of the cell that the refusal names.
 ///
 /// `TooManyEntries` comes where the journal has more than 20,000 entries, and then nothing was written. `WriteFault` is meant
 /// for a writer that failed; no clause says so. It takes no memory.
@@ -135,11 +141,12 @@ pub fn write_page<W: Write>(
     writer: &mut W,
     book: &Book,
     answer: Option<AuditError>,
+    refused: Option<Entry>,
     chart: Option<&[u8]>,
 ) -> Result<(), PageError>
     ensures refused { (result ≡ Err PageError.TooManyEntries) ↔ (20000 < length book.now.entries) }
-    // Its rows are those of the states after each number of the journal's entries, in order.
-    ensures page { OnOk result (WritesPage (W.contents writer.old) (W.contents writer.new) book.now.entries answer chart.entry) }
+    // Its rows are those of the states after each number of the journal's entries, in order, and its last step is the answer's.
+    ensures page { OnOk result (WritesPage (W.contents writer.old) (W.contents writer.new) book.now.entries answer refused chart.entry) }
     // The chart's text stands in the page as it was given.
     ensures chart { OnOk result (ShowsChart (W.contents writer.old) (W.contents writer.new) chart.entry) }
     ensures nothing { result ≡ Err PageError.TooManyEntries → writer.new ≡ writer.old }
@@ -147,5 +154,5 @@ pub fn write_page<W: Write>(
     if book.journal().len() > MAX_PAGE_ENTRIES {
         return Err(PageError::TooManyEntries);
     }
-    write_parts(writer, book, answer, chart)
+    write_parts(writer, book, answer, refused, chart)
 }

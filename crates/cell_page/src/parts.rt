@@ -1,4 +1,5 @@
 //! The parts of the page that are the same for every journal.
+mod beside;
 mod control_script;
 mod drawing;
 mod drawing_script;
@@ -6,6 +7,7 @@ mod head;
 mod lists;
 mod middle;
 
+pub(crate) use beside::{BESIDE_END, BESIDE_HEAD, BESIDE_MIDDLE};
 pub(crate) use control_script::CONTROL_SCRIPT;
 pub(crate) use drawing::DRAWING;
 pub(crate) use drawing_script::DRAWING_SCRIPT;

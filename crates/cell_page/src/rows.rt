@@ -402,9 +402,9 @@ impl<'a> fmt::Display for Numbers<'a> {
     }
 }
 
-// The last entry: its actor, its record and its sentence.
+/// Of an entry its actor, its record and its sentence.
 #[derive(Clone, Copy)]
-struct Last(Option<Entry>);
+pub(crate) struct Last(pub(crate) Option<Entry>);
 
 impl fmt::Display for Last {
     ghost use Rattle.std.specs.Prelude.{Some};

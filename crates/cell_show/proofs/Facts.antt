@@ -1,5 +1,5 @@
 -- An answer on memory, and the good entries of a text.
-use Rattle.std.proofs.Common.{◌≡◌, ◌≤◌, ℕ, List, length, Option, Some, None, Result, Err, inl, inr, refl, ap, arith, ◌⊎◌}
+use Rattle.std.proofs.Common.{◌≡◌, ◌≢◌, ◌<◌, ◌≤◌, ℕ, List, [], length, Option, Some, None, Result, Err, inl, inr, refl, ap, arith, ◌⊎◌}
 use Rattle.std.specs.Prelude.{IfSome, unwrap_or}
 use Rattle.std.specs.Result.{result_err}
 use Rattle.cell_rows.specs.Rows.{Row}
@@ -10,7 +10,10 @@ use Rattle.cell_audit.specs.Reading.{IsBefore, SpellsFirst}
 use Rattle.cell_audit.specs.declared.error.AuditError.{AuditError}
 use Rattle.cell_audit.specs.declared.error.AuditError.TheVariants as error
 use Rattle.cell_lines.specs.Lines.{status_of}
-use Rattle.cell_show.specs.Shown.{AreGood, HasEntry, IsPage, ShowsPage}
+use Rattle.cell_page.specs.Beside.{WritesBeside}
+use Rattle.cell_show.specs.Shown.{AreGood, HasEntry, IsOther, IsPage, ShowsBeside, ShowsPage, TellsEntries}
+use Rattle.cell_show.specs.declared.error.ShowError.{ShowError}
+use Rattle.cell_show.specs.declared.error.ShowError.TheVariants as shown
 use Rattle.cell_show.specs.declared.show.Form.{Form}
 
 pub wants-memory : (rows : Option (List Row)) → IfSome rows (λ known. IsFault (Err error.OutOfMemory) ⊎ Due known (Err error.OutOfMemory))
@@ -48,3 +51,18 @@ pub has : (rows : Option (List Row)) (entry : Option ℕ) (n : ℕ) (J : List En
     → IfSome rows (AreGood J) → length J ≡ n → unwrap_or entry n ≤ n → IfSome rows (HasEntry entry)
 has None entry n J are size most = tt
 has (Some known) entry n J are size most = (J, are, rw size (within entry n most))
+
+-- the page of a text's good entries and that of another text stand in one
+pub both_shown : (rows : Option (List Row)) (form : Form) (others : List Row) (old new : Option (List ℕ)) (first second : List ℕ)
+    → IfSome rows (ShowsPage form (Some []) (Some first)) → WritesBeside old new first second → IsOther form second others
+    → IfSome rows (ShowsBeside form others old new)
+both_shown None form others old new first second page both other = tt
+both_shown (Some known) form others old new first second page both other = (first, second, both, page, other)
+
+-- what is told where nothing is drawn: too many entries, and never one that isn't there
+pub told_of : (rows : Option (List Row)) (J : List Entry) (why : ShowError) → IfSome rows (AreGood J) → ((n : ℕ) → why ≢ shown.NoSuchEntry n)
+    → (why ≡ shown.TooManyEntries → 20000 < length J) → IfSome rows (TellsEntries why)
+told_of None J why good there long = tt
+told_of (Some known) J (shown.NoSuchEntry n) good there long = absurd (there n refl)
+told_of (Some known) J shown.TooManyEntries good there long = (J, good, long refl)
+told_of (Some known) J shown.WriteFault good there long = tt

@@ -1,5 +1,5 @@
 -- What is told of a journal's text beside the picture
-use Rattle.std.specs.Prelude.{◌≡◌, ◌==◌, ◌⊎◌, ◌<◌, ◌≤◌, ℕ, List, ◌++◌, length, Option, None, Some, Result, IfSome, ⊤, codes, decimal, if◌then◌else◌}
+use Rattle.std.specs.Prelude.{◌≡◌, ◌==◌, ◌⊎◌, ◌<◌, ◌≤◌, ℕ, List, [], ◌++◌, length, Option, None, Some, Result, IfSome, ⊤, codes, decimal, if◌then◌else◌}
 use Rattle.std.specs.Borrow.{Bor}
 use Rattle.std.specs.Result.{result_err}
 use Rattle.cell_rows.specs.Rows.{Row}
@@ -8,7 +8,12 @@ use Rattle.cell_types.specs.declared.words.Totals.{Totals}
 use Rattle.cell_audit.specs.Meaning.{Due, IsFault}
 use Rattle.cell_audit.specs.Reading.{IsBefore, SpellsFirst}
 use Rattle.cell_audit.specs.declared.error.AuditError.{AuditError}
+use Rattle.cell_audit.specs.declared.error.AuditError.TheVariants as audit
 use Rattle.cell_lines.specs.Lines.{status_of}
+use Rattle.plate_book.specs.declared.limits.BookLimits.{BookLimits}
+use Rattle.plate_book.specs.declared.refusal.Refusal.{Refusal}
+use Rattle.plate_book.specs.Rules.Legal.{first_of}
+use Rattle.cell_page.specs.Beside.{WritesBeside}
 use Rattle.cell_page.specs.Page.{WritesPage}
 use Rattle.cell_page.specs.declared.error.PageError.{PageError}
 use Rattle.cell_page.specs.declared.error.PageError.TheVariants as page
@@ -48,10 +53,21 @@ TellsEntries error.WriteFault rows = ⊤
 abbrev pub HasEntry : Option ℕ → List Row → Type 0
 HasEntry entry rows = (J : List Entry) × AreGood J rows × IfSome entry (λ k. k ≤ length J)
 
--- a page of some entries is written, with some chart where the form has one; of another form nothing is said
+-- an entry, where there is one, is refused after those of a journal, for something and in a book of some limits
+abbrev pub IsBarred : List Entry → Option Entry → Type 0
+IsBarred J refused = IfSome refused (λ e. (limits : BookLimits) × (why : Refusal) × (first_of limits J e ≡ Some why))
+
+-- only where the answer is that an entry is refused there may be one, and that is refused after those of the journal
+abbrev pub IsRefused : List Entry → Option AuditError → Option Entry → Type 0
+IsRefused J (Some (audit.Refused place why)) refused = IsBarred J refused
+IsRefused J _ refused = refused ≡ None
+
+-- a page of some entries is written, whose last step has the entry that is refused, where there is one, with some chart where the
+-- form has one; of another form nothing is said
 abbrev pub IsPage : Form → List Entry → Option AuditError → Option (List ℕ) → Option (List ℕ) → Type 0
-IsPage form.Page J answer old new = WritesPage old new J answer None
-IsPage (form.TimedPage durations) J answer old new = (chart : Bor (List ℕ)) × WritesPage old new J answer (Some chart)
+IsPage form.Page J answer old new = (refused : Option Entry) × IsRefused J answer refused × WritesPage old new J answer refused None
+IsPage (form.TimedPage durations) J answer old new =
+    (refused : Option Entry) × IsRefused J answer refused × (chart : Bor (List ℕ)) × WritesPage old new J answer refused (Some chart)
 IsPage _ J answer old new = ⊤
 
 -- a page is that of a text's good entries, with the answer's line where the text isn't legal
@@ -59,6 +75,15 @@ abbrev pub ShowsPage : Form → Option (List ℕ) → Option (List ℕ) → List
 ShowsPage form old new rows =
     (J : List Entry) × (answer : Result (ℕ × Totals) AuditError) × Due rows answer × IsBefore answer J × SpellsFirst J rows
     × IsPage form J (result_err answer) old new
+
+-- the page of another journal: that of its good entries, or a line in its place where they are too many
+abbrev pub IsOther : Form → List ℕ → List Row → Type 0
+IsOther form page rows = ShowsPage form (Some []) (Some page) rows ⊎ TellsEntries error.TooManyEntries rows
+
+-- two pages were written into one: that of a text's good entries, and that of another text
+abbrev pub ShowsBeside : Form → List Row → Option (List ℕ) → Option (List ℕ) → List Row → Type 0
+ShowsBeside form others old new rows =
+    (first : List ℕ) × (second : List ℕ) × WritesBeside old new first second × ShowsPage form (Some []) (Some first) rows × IsOther form second others
 
 -- a form that shows only so many entries
 abbrev pub HasBound : Form → Type 0

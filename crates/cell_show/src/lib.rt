@@ -1,8 +1,10 @@
 //! The command that shows the cell: what is written for a journal's text, as its first entries left the cell.
 #![tactic(auto)]
 
+mod beside;
 mod error;
 mod show;
 
+pub use beside::show_beside;
 pub use error::ShowError;
 pub use show::{Form, show_journal, show_rows};

@@ -1,9 +1,10 @@
 //! Showing the cell as the first entries of a journal left it.
 ghost use Rattle.std.specs.Prelude.{◌≡◌, ◌≢◌, ◌≤◌, ◌<◌, ℕ, IfErr, IfOk, IfSome, Ok, false, length, true};
-ghost use Rattle.cell_rows.specs.Rows.{IsOpen, device_failed, rows_left};
+ghost use Rattle.cell_rows.specs.Rows.{IsOpen, current_row, device_failed, rows_left};
+ghost use Rattle.cell_types.specs.Records.{read_row};
 ghost use Rattle.cell_audit.specs.Migrated.{rows_in};
 ghost use Rattle.cell_lines.specs.Lines.{status_of};
-ghost use Rattle.cell_show.specs.Shown.{TellsStatus, AsksPast, TellsEntries, HasBound, HasEntry, IsPage, ShowsPage};
+ghost use Rattle.cell_show.specs.Shown.{TellsStatus, AsksPast, TellsEntries, HasBound, HasEntry, IsPage, IsBarred, IsRefused, ShowsPage};
 
 use crate::ShowError;
 use cell_audit::{AuditError, read_rows};
@@ -13,7 +14,7 @@ use cell_measures::Durations;
 use cell_page::write_page;
 use cell_picture::{Scene, draw_picture, draw_text, facts_after};
 use cell_rows::{RowReader, TellsFault, Watched};
-use cell_types::Totals;
+use cell_types::{Entry, Totals, read_fields};
 use plate_book::Book;
 use std::alloc::Global;
 use std::io::{Read, Write};
@@ -90,11 +91,45 @@ fn chart_of(
     }
 }
 
+// The entry of the record that was read last, if it is one's.
+fn entry_of<R: TellsFault>(rows: &RowReader<R>) -> Option<Entry>
+    ensures { result ≡ read_row (current_row rows.now) }
+{
+    match rows.four() {
+        Some(four) => read_fields(&[four.first, four.second, four.third, four.fourth]),
+        None => None,
+    }
+}
+
+// An entry, where there is one, if a book refuses it.
+fn barred(book: &Book, stopped: Option<Entry>) -> Option<Entry>
+    ensures { IsBarred book.now.entries result }
+{
+    let entry = stopped?;
+    let shown = entry;
+    match book.allows(entry) {
+        Err(_) => Some(shown),
+        Ok(()) => None,
+    }
+}
+
+// The entry at which a text stopped, if the answer is that it is refused and its book refuses it.
+fn refused_entry(book: &Book, answer: Option<AuditError>, stopped: Option<Entry>) -> Option<Entry>
+    ensures { IsRefused book.now.entries answer result }
+{
+    match answer {
+        Some(AuditError::Refused(_, _)) => barred(book, stopped),
+        Some(AuditError::Unreadable(_)) | Some(AuditError::ReadFault) => None,
+        Some(AuditError::OutOfMemory) | None => None,
+    }
+}
+
 // Writes the page of a book.
 fn draw_page<W: Write>(
     writer: &mut W,
     book: &Book,
     answer: Option<AuditError>,
+    stopped: Option<Entry>,
 ) -> Result<bool, ShowError>
     ensures entry { (n : ℕ) → result ≢ Err (ShowError.NoSuchEntry n) }
     ensures long { result ≡ Err ShowError.TooManyEntries → 20000 < length book.now.entries }
@@ -102,7 +137,8 @@ fn draw_page<W: Write>(
     ensures nothing { IfErr result (λ e. e ≢ ShowError.WriteFault → writer.new ≡ writer.old) }
     ensures memory { result ≢ Ok false }
 {
-    write_page(writer, book, answer, None)?;
+    let refused = refused_entry(book, answer, stopped);
+    write_page(writer, book, answer, refused, None)?;
     Ok(true)
 }
 
@@ -113,6 +149,7 @@ fn draw_timed_page<W: Write>(
     durations: Durations,
     book: &Book,
     answer: Option<AuditError>,
+    stopped: Option<Entry>,
 ) -> Result<bool, ShowError>
     ensures entry { (n : ℕ) → result ≢ Err (ShowError.NoSuchEntry n) }
     ensures long { result ≡ Err ShowError.TooManyEntries → 20000 < length book.now.entries }
@@ -123,7 +160,8 @@ fn draw_timed_page<W: Write>(
     let Some(chart) = chart_of(alloc, &durations, book, answer)? else {
         return Ok(false);
     };
-    write_page(writer, book, answer, Some(chart.as_slice()))?;
+    let refused = refused_entry(book, answer, stopped);
+    write_page(writer, book, answer, refused, Some(chart.as_slice()))?;
     Ok(true)
 }
 
@@ -135,6 +173,7 @@ fn draw<W: Write>(
     book: &Book,
     entries: u32,
     answer: Option<AuditError>,
+    stopped: Option<Entry>,
 ) -> Result<bool, ShowError>
     requires { entries ≤ length book.now.entries }
     ensures entry { (n : ℕ) → result ≢ Err (ShowError.NoSuchEntry n) }
@@ -155,12 +194,12 @@ fn draw<W: Write>(
         Form::Text => draw_text(writer, &scene, false)?,
         Form::Unicode => draw_text(writer, &scene, true)?,
         Form::Picture => draw_picture(writer, &scene)?,
-        Form::Page => return draw_page(writer, book, answer),
+        Form::Page => return draw_page(writer, book, answer, stopped),
         Form::Chart(durations) => {
             return draw_times(alloc, writer, &durations, book, entries, answer);
         }
         Form::TimedPage(durations) => {
-            return draw_timed_page(alloc, writer, durations, book, answer);
+            return draw_timed_page(alloc, writer, durations, book, answer, stopped);
         }
     }
     Ok(true)
@@ -199,7 +238,8 @@ pub fn show_rows<R: TellsFault, W: Write>(
         return Err(ShowError::NoSuchEntry(entries));
     }
     let answer = reading.answer.err();
-    if draw(alloc, writer, form, &reading.book, shown, answer)? {
+    let stopped = entry_of(rows);
+    if draw(alloc, writer, form, &reading.book, shown, answer, stopped)? {
         Ok(status)
     } else {
         Ok(status::OUT_OF_MEMORY)

@@ -1,8 +1,10 @@
 //! The page of a journal of a few entries, the pages that are refused, and a writer that fails.
+use crate::states::{drawn, drawn_after, largest, longest};
 use cell_audit::AuditError;
-use cell_page::{MAX_PAGE_ENTRIES, PageError, write_page};
-use cell_samples::{begun, book_all};
-use cell_types::Belt;
+use cell_page::{MAX_PAGE_ENTRIES, PageError, write_beside, write_page};
+use cell_samples::{ONE_PLATE, begun, book_all, entry_of};
+use cell_show::Form;
+use cell_types::{Axis, Belt, Machine, Station, Zone};
 use plate_book::{Book, Refusal};
 use std::alloc::Global;
 use std::io::Write;
@@ -25,7 +27,7 @@ fn write_first<W: Write>(
     chart: Option<&[u8]>,
 ) -> Result<(), PageError> {
     let book = begun(alloc, 100, 10, 4).expect(rt, "a book");
-    write_page(writer, &book, answer, chart)
+    write_page(writer, &book, answer, None, chart)
 }
 
 // That page.
@@ -74,6 +76,108 @@ fn writes_a_row_for_each_state_and_the_answer(rt: HostRuntime) {
     );
 }
 
+// What is shown where no scripts run has the picture of the last state.
+#[test]
+fn has_the_picture_of_the_last_state(rt: HostRuntime) {
+    let page = first_page(&rt, rt.alloc(), None, None);
+    let start = "<noscript><figure class=\"still\">\n";
+    let (_, rest) = page.as_str().split_once(start).unwrap_or(("", ""));
+    let picture = drawn_after(&rt, rt.alloc(), &ONE_PLATE[..4], None, Form::Picture);
+    let after = rest.strip_prefix(picture.as_str()).unwrap_or("");
+    assert!(rt; after.starts_with("</figure></noscript>\n<div id=\"last\""));
+}
+
+// The picture with the longest words and the largest numbers has fewer bytes than the page has room for.
+#[test]
+fn has_room_for_the_longest_picture(rt: HostRuntime) {
+    let facts = largest();
+    let picture = drawn(&rt, rt.alloc(), &longest(&facts), Form::Picture);
+    assert!(rt; picture.len() < 10_000, "{}", picture.len());
+}
+
+// Answers at the fifth record, whether the entry that is refused is given, and the line of the page's data.
+const STEPS: [(Option<AuditError>, bool, &str); 9] = [
+    (None, false, "null"),
+    (
+        Some(AuditError::Refused(5, Refusal::LampRed(Belt::Feed))),
+        true,
+        r##"[5,"LampRed feed: the feed light is red","lamp-0",0,"admitted,2,,","feed belt: plate 2 is admitted"]"##,
+    ),
+    (
+        Some(AuditError::Refused(5, Refusal::MachineFailed(Machine::Press2))),
+        false,
+        r##"[5,"MachineFailed press2: press 2 is booked failed","machine-4",-1,"",""]"##,
+    ),
+    (
+        Some(AuditError::Refused(5, Refusal::WrongPose(Axis::RobotTurn))),
+        false,
+        r##"[5,"WrongPose robot_turn: the robot's turn isn't where it has to be, moves, or has no such motion","axis-3",-1,"",""]"##,
+    ),
+    (
+        Some(AuditError::Refused(5, Refusal::NotHolder(Zone::Z4))),
+        false,
+        r##"[5,"NotHolder z4: the machine doesn't hold zone z4","zone-3",-1,"",""]"##,
+    ),
+    (
+        Some(AuditError::Refused(5, Refusal::StationFull(Station::DepIn))),
+        false,
+        r##"[5,"StationFull dep_in: a plate is at the deposit belt's start","plate-7",-1,"",""]"##,
+    ),
+    (
+        Some(AuditError::Refused(5, Refusal::WrongPlate)),
+        false,
+        r##"[5,"WrongPlate: the plate isn't the one that the entry has to name","",-1,"",""]"##,
+    ),
+    (
+        Some(AuditError::Unreadable(5)),
+        false,
+        r##"[5,"the record can't be read","",-1,"",""]"##,
+    ),
+    (Some(AuditError::ReadFault), false, "null"),
+];
+
+// The page has a last step for the record that isn't booked.
+#[test]
+fn has_a_step_for_the_record_that_is_not_booked(rt: HostRuntime) {
+    let book = begun(rt.alloc(), 100, 10, 4).expect(&rt, "a book");
+    for (answer, is_given, line) in STEPS {
+        let refused = if is_given {
+            entry_of("admitted,2,,")
+        } else {
+            None
+        };
+        let mut page = Vec::new(rt.alloc());
+        assert!(rt; write_page(&mut page, &book, answer, refused, None) == Ok(()));
+        let page = String::from_utf8(page)
+            .ok()
+            .expect(&rt, "the page is UTF-8");
+        let (_, rest) = page.as_str().split_once("\"refused\":").unwrap_or(("", ""));
+        let (step, _) = rest.split_once(",\n\"rows\":[\n").unwrap_or(("", ""));
+        assert!(rt; step == line, "{step}");
+    }
+}
+
+// Two pages stand in one, with their quotes and ampersands as entities.
+#[test]
+fn writes_two_pages_in_one(rt: HostRuntime) {
+    let mut written = Vec::new(rt.alloc());
+    let first = b"<p class=\"a\">one &amp; two</p>".as_slice();
+    let second = b"\"&\"".as_slice();
+    assert!(rt; write_beside(&mut written, first, second) == Ok(()));
+    let page = String::from_utf8(written)
+        .ok()
+        .expect(&rt, "the page is UTF-8");
+    let (head, rest) = page
+        .as_str()
+        .split_once("srcdoc=\"<p class=&quot;a&quot;>one &amp;amp; two</p>\"></iframe>\n")
+        .unwrap_or(("", ""));
+    assert!(rt; head.starts_with("<!DOCTYPE html>\n<html lang=\"en\">\n"));
+    assert!(rt; head.ends_with("<iframe title=\"The first journal\" "));
+    let end =
+        "<iframe title=\"The second journal\" srcdoc=\"&quot;&amp;&quot;\"></iframe>\n</main>\n</body>\n</html>\n";
+    assert!(rt; rest == end);
+}
+
 // The section of a chart.
 const SECTION: &str = "<section class=\"chart\">\n<h2>The entries on an axis of time</h2>\n\
     <div tabindex=\"0\" style=\"overflow-x: auto\" onkeydown=\"event.stopPropagation()\">\n\
@@ -108,7 +212,7 @@ fn write_switching(
         };
         assert!(rt; book_all(&mut book, &[record]).is_ok());
     }
-    write_page(page, &book, None, None)
+    write_page(page, &book, None, None, None)
 }
 
 #[test]

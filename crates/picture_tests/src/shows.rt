@@ -2,7 +2,7 @@
 use crate::texts::OPENING;
 use cell_measures::Durations;
 use cell_samples::{FailingReader, FailingWriter};
-use cell_show::{Form, ShowError, show_journal};
+use cell_show::{Form, ShowError, show_beside, show_journal};
 use cell_types::{Axis, Pose};
 use std::alloc::Global;
 use std::process::Abort;
@@ -211,6 +211,65 @@ fn a_page_has_a_chart_of_all_entries(rt: HostRuntime) {
         assert!(rt; page.as_str().ends_with(after) && !after.is_empty());
         assert!(rt; page.as_str().len() == before.len().saturating_add(after.len()));
     }
+}
+
+// The page of a text, and the status.
+fn page_of(rt: &impl Abort, alloc: Global, text: &str, wanted: u8) -> String {
+    let mut written = Vec::new(alloc);
+    let answered = show_journal(alloc, text.as_bytes(), Form::Page, None, &mut written);
+    assert!(rt; answered == Ok(wanted), "{text}");
+    String::from_utf8(written).ok().expect(rt, "text")
+}
+
+// The page of a text that isn't legal has its refused entry, or says that the record can't be read.
+#[test]
+fn a_page_has_the_record_that_is_not_booked(rt: HostRuntime) {
+    let refused = page_of(&rt, rt.alloc(), REFUSED, 1);
+    assert!(rt;
+        refused.as_str().contains(
+            "\n\"refused\":[2,\"LampAlready feed: the feed light has that colour already\",\"lamp-0\",0,\"lamp,feed,green,\",\"feed belt: its light turns green\"],\n"
+        )
+    );
+    let unreadable = page_of(&rt, rt.alloc(), UNREADABLE, 1);
+    assert!(rt;
+        unreadable.as_str().contains(
+            "\n\"refused\":[2,\"the record can't be read\",\"\",-1,\"\",\"\"],\n"
+        )
+    );
+    let legal = page_of(&rt, rt.alloc(), LEGAL, 0);
+    assert!(rt; legal.as_str().contains("\n\"refused\":null,\n"));
+}
+
+// A page as it stands within the quotes of an attribute.
+fn quoted(rt: &impl Abort, alloc: Global, page: &str) -> String {
+    let page = page.replace(alloc, "&", "&amp;").expect(rt, "memory");
+    page.as_str()
+        .replace(alloc, "\"", "&quot;")
+        .expect(rt, "memory")
+}
+
+// Two journals stand side by side, each with its page, and the status is the first one's.
+#[test]
+fn shows_two_journals_side_by_side(rt: HostRuntime) {
+    let legal = page_of(&rt, rt.alloc(), LEGAL, 0);
+    let refused = page_of(&rt, rt.alloc(), REFUSED, 1);
+    let mut written = Vec::new(rt.alloc());
+    let other = REFUSED.as_bytes();
+    let answered = show_beside(
+        rt.alloc(),
+        LEGAL.as_bytes(),
+        other,
+        Form::Page,
+        None,
+        &mut written,
+    );
+    assert!(rt; answered == Ok(0));
+    let both = String::from_utf8(written).ok().expect(&rt, "text");
+    let first = quoted(&rt, rt.alloc(), legal.as_str());
+    let second = quoted(&rt, rt.alloc(), refused.as_str());
+    let (_, rest) = both.as_str().split_once(first.as_str()).unwrap_or(("", ""));
+    let (_, rest) = rest.split_once(second.as_str()).unwrap_or(("", ""));
+    assert!(rt; rest == "\"></iframe>\n</main>\n</body>\n</html>\n");
 }
 
 #[test]

@@ -4,7 +4,7 @@
 pub(crate) const CONTROL_SCRIPT: &str =
     r##"  // What is followed: a plate's number, a zone's place, and the entries of each and of both.
   const followed = { plate: 0, zone: -1, ofPlate: [], ofZone: [], all: [] };
-  const numbered = Array.from({ length: last }, (_, i) => i + 1);
+  const numbered = Array.from({ length: good }, (_, i) => i + 1);
   const isOfPlate = (i, plate) =>
     rows[i][13].split(/[ ,]/).some((word, place, all) => word === String(plate) && all[place - 1] === "plate")
     || rows[i][0].indexOf(plate) !== rows[i - 1][0].indexOf(plate);
@@ -17,6 +17,7 @@ pub(crate) const CONTROL_SCRIPT: &str =
     followed.all = [...followed.ofPlate, ...followed.ofZone].sort((a, b) => a - b);
   };
   const failures = numbered.filter((i) => kindOf(i) === "declared");
+  if (last > good) failures.push(last);
   const nextOf = (list) => list.find((i) => i > current);
   const beforeOf = (list) => list.findLast((i) => i < current);
   const soFar = (list, i) => `${list.length} entries, ${list.filter((k) => k <= i).length} of them so far`;
@@ -46,11 +47,11 @@ pub(crate) const CONTROL_SCRIPT: &str =
   const markOf = (i) => {
     const kind = kindOf(i);
     const y = rows[i][11] * lanes.height;
-    const mark = svg("g", { class: "mark" + (faults.includes(kind) ? " fault" : ""), "data-entry": i });
+    const mark = svg("g", { class: "mark" + (faults.includes(kind) || i > good ? " fault" : ""), "data-entry": i });
     mark.append(
-      svg("title", {}, `${i}: ${rows[i][13]}`),
+      svg("title", {}, `${i}: ${sentenceOf(i)}`),
       svg("rect", { x: laneX(i) + 1, y: y + 3, width: lanes.step - 2, height: lanes.height - 6, rx: 3 }),
-      svg("text", { class: "sign", x: laneX(i) + lanes.step / 2, y: y + lanes.height / 2 }, signs[kind][0]),
+      svg("text", { class: "sign", x: laneX(i) + lanes.step / 2, y: y + lanes.height / 2 }, signOf(i)),
     );
     if (follows(i)) mark.append(svg("rect", { class: "followed", x: laneX(i), y: y + lanes.height - 4, width: lanes.step, height: 4 }));
     return mark;
@@ -100,7 +101,7 @@ pub(crate) const CONTROL_SCRIPT: &str =
     for (let i = 1; i <= last; i += 1) pen.fillRect((i - 1) * wide, rows[i][11] * 6, Math.max(1, wide - 0.5), 5);
     pen.fillStyle = colours.getPropertyValue("--red");
     for (let i = 1; i <= last; i += 1) {
-      if (faults.includes(kindOf(i))) pen.fillRect((i - 1) * wide, rows[i][11] * 6, Math.max(2, wide - 0.5), 5);
+      if (faults.includes(kindOf(i)) || i > good) pen.fillRect((i - 1) * wide, rows[i][11] * 6, Math.max(2, wide - 0.5), 5);
     }
     pen.fillStyle = colours.getPropertyValue("--follow");
     followed.all.forEach((i) => pen.fillRect((i - 1) * wide, 43, Math.max(2, wide - 0.5), 5));
@@ -113,7 +114,7 @@ pub(crate) const CONTROL_SCRIPT: &str =
   };
 
   let current = -1;
-  const show = (wanted) => {
+  const show = (wanted, isAsked = false) => {
     const i = Math.min(last, Math.max(0, Math.trunc(Number(wanted)) || 0));
     if (i === current) return;
     const before = current;
@@ -124,19 +125,21 @@ pub(crate) const CONTROL_SCRIPT: &str =
     moveTo(read(Math.max(0, before)), state, Math.abs(i - before) === 1 && before !== -1 ? smoothly() : 0);
     drawAxes(state);
     drawMachines(state);
+    drawRefusal(i);
     drawCounts(state);
     writeFacts(state);
     drawFollowed(state, i);
     showInLanes(i);
     showInStrip(i);
-    el("sentence").textContent = i === 0 ? "The opening: nothing is booked." : state.sentence;
-    el("count").textContent = `Entry ${i} of ${last}` + (i === 0 ? "" : ` \u00B7 ${state.record}`);
+    el("sentence").textContent = sentenceOf(i);
+    el("count").textContent = placeOf(i);
     el("slider").value = i;
-    el("slider").setAttribute("aria-valuetext", i === 0 ? "0, the opening" : `${i}, ${state.sentence}`);
+    el("slider").setAttribute("aria-valuetext", i === 0 ? "0, the opening" : `${i}, ${sentenceOf(i)}`);
     el("number").value = i;
     el("first").disabled = el("back").disabled = i === 0;
     el("end").disabled = el("forward").disabled = i === last;
     if (timer === null) keepAddress();
+    around?.postMessage({ entry: i, last, isAsked }, "*");
   };
   // How many milliseconds a step may take to be drawn.
   const smoothly = () => {
@@ -144,7 +147,17 @@ pub(crate) const CONTROL_SCRIPT: &str =
     const pause = timer === null ? 500 : Number(el("speed").value);
     return pause < 80 ? 0 : Math.min(400, 0.8 * pause);
   };
-  const keepAddress = () => history.replaceState(null, "", "#entry=" + current);
+  const keepAddress = () => {
+    if (around === null) history.replaceState(null, "", "#entry=" + current);
+  };
+
+  // The page around this one, where two stand side by side: it is told each step, and says where to go.
+  const around = location.protocol === "about:" ? window.parent : null;
+  const onMessage = ({ source, data }) => {
+    if (around === null || source !== around) return;
+    if (timer !== null) pause();
+    show(data.entry, true);
+  };
 
   let timer = null;
   const pause = () => {
@@ -266,6 +279,7 @@ pub(crate) const CONTROL_SCRIPT: &str =
   el("whole").addEventListener("click", onStrip);
   document.addEventListener("keydown", onKey);
   window.addEventListener("hashchange", () => goTo(entryInAddress()));
+  window.addEventListener("message", onMessage);
   window.addEventListener("resize", redraw);
   window.matchMedia("(prefers-color-scheme: dark)").addEventListener("change", redraw);
   root.add("ready");

@@ -2,7 +2,7 @@
 
 /// The line of the entry, and the drawing.
 pub(crate) const DRAWING: &str =
-    r##"<div id="last" role="status" aria-live="polite"><strong id="sentence"></strong><p class="soft" id="count"></p></div>
+    r##"<div id="last" role="status" aria-live="polite"><strong id="sentence"></strong><p id="why"></p><p class="soft" id="count"></p></div>
 <figure id="picture">
 <svg id="cell" viewBox="0 0 880 520" role="img" aria-labelledby="cell-name" aria-describedby="facts">
 <title id="cell-name">The cell from above</title>

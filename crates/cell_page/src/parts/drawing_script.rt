@@ -8,7 +8,11 @@ pub(crate) const DRAWING_SCRIPT: &str = r##"
 "use strict";
 (() => {
   const journal = JSON.parse(document.getElementById("journal").textContent);
-  const { machines, stations, axes, parts, poses, ways, zones, lights, rows } = journal;
+  const { machines, stations, axes, parts, poses, ways, zones, lights, rows, refused } = journal;
+  // The entries are good up to this one. After it comes a step for the record that is refused or can't be read, if there is one: it
+  // leaves what the last good entry left.
+  const good = rows.length - 1;
+  if (refused !== null) rows.push([...rows[good].slice(0, 11), ...refused.slice(3)]);
   const last = rows.length - 1;
   const actors = [...machines, "operator"];
   const el = (id) => document.getElementById(id);
@@ -41,6 +45,16 @@ pub(crate) const DRAWING_SCRIPT: &str = r##"
     return way === null ? "" : " \u2192 " + way;
   };
   const axisText = (state, a) => named(poses, state.at[a]) + goingText(state, a);
+  const signOf = (i) => (signs[kindOf(i)] ?? ["?"])[0];
+  const sentenceOf = (i) => {
+    if (i === 0) return "The opening: nothing is booked.";
+    if (i <= good) return rows[i][13];
+    return rows[i][13] === "" ? "Here the journal stops." : "Refused: " + rows[i][13];
+  };
+  const placeOf = (i) => {
+    const record = rows[i][12] === "" ? "" : ` \u00B7 ${rows[i][12]}`;
+    return (i <= good ? `Entry ${i} of ${good}` : `Record ${refused[0]}; the good entries end at ${good}`) + record;
+  };
   const listed = (texts) => (texts.length === 0 ? "none" : texts.join(", "));
 
   const drawPlates = (state) => {
@@ -188,6 +202,14 @@ pub(crate) const DRAWING_SCRIPT: &str = r##"
       el("lamp-" + b).querySelector(".green").classList.toggle("lit", green);
       el("lamp-word-" + b).textContent = green ? "green" : "red";
     });
+  };
+
+  // Tells why a record isn't booked, and marks what the refusal names.
+  const drawRefusal = (i) => {
+    const part = i > good && refused[2] !== "" ? el(refused[2]) : null;
+    document.querySelectorAll("#cell .in-the-way").forEach((mark) => mark.classList.remove("in-the-way"));
+    [part, part?.closest('[id^="machine-"]')].forEach((mark) => mark?.classList.add("in-the-way"));
+    el("why").textContent = i > good ? refused[1] : "";
   };
 
   const drawCounts = (state) => {

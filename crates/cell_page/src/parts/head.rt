@@ -28,6 +28,7 @@ h2 { font-size: 1rem; margin: 1.25rem 0 0.35rem; }
 #last { margin: 0.25rem 0 0.5rem; min-height: 3.1em; }
 #last strong { font-size: 1.15rem; display: block; overflow-wrap: anywhere; }
 .soft { color: var(--soft); font-size: 0.9rem; margin: 0; }
+#why { color: var(--red); font-weight: 600; margin: 0; }
 .answer { border: 2px solid var(--red); padding: 0.5rem 0.75rem; font-weight: 600; }
 #controls, #jumps { display: flex; flex-wrap: wrap; gap: 0.5rem; align-items: center; margin: 0.5rem 0; }
 #controls input[type=range] { flex: 1 1 100%; min-width: 8rem; margin: 0.25rem 0; accent-color: var(--mark); }
@@ -58,6 +59,10 @@ input[type=number] { width: 6.5rem; }
 #cell .zone text { text-anchor: middle; font-size: 13px; }
 #cell .zone.followed rect { stroke: var(--follow); stroke-width: 5; }
 #cell .zone.followed .name { fill: var(--follow); text-decoration: underline; }
+/* What a refusal names. */
+#cell .in-the-way .body, #cell .in-the-way rect.lens, #cell .zone.in-the-way rect { stroke: var(--red); stroke-width: 6; stroke-dasharray: none; }
+#cell .plate.in-the-way .halo { display: inline; visibility: visible; stroke: var(--red); stroke-width: 5; }
+#cell .in-the-way .name, #cell .axis.in-the-way { fill: var(--red); font-weight: 600; text-decoration: underline; }
 #cell .arm-name { font-weight: 600; font-size: 13px; dominant-baseline: central; }
 #cell .arm { stroke: var(--ink); stroke-width: 9; stroke-linecap: round; }
 #cell .ghost { stroke: var(--mark); stroke-width: 3; stroke-dasharray: 5 6; fill: none; }
@@ -123,10 +128,11 @@ figure { margin: 0; }
 .large #machine-0 .name, .large #machine-1 .name { transform: translateY(6px); }
 .large #sign-2 { text-anchor: middle; transform: translate(-150px, -95px); }
 .back-row #last strong { font-size: 2rem; line-height: 1.25; }
+.back-row #why { font-size: 1.5rem; }
 .back-row .soft, .back-row #facts { font-size: 1.15rem; }
 .back-row #moving-line { font-size: 1.5rem; }
 </style>
-<noscript><style>#last, #picture, #controls, #jumps, #strip, #lanes, #lanes ~ *:not(.chart):not(script) { display: none; } h2 { display: none; } .chart h2 { display: block; }</style></noscript>
+<noscript><style>#last, #picture, #controls, #jumps, #strip, #lanes, #lanes ~ *:not(.chart):not(script) { display: none; } h2 { display: none; } .chart h2 { display: block; } .still { overflow-x: auto; } .still svg { display: block; width: 100%; min-width: 34rem; max-width: 60rem; height: auto; }</style></noscript>
 </head>
 <body>
 <main>

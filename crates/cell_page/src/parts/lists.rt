@@ -45,7 +45,7 @@ pub(crate) const LISTS: &str = r##"<div id="controls" role="group" aria-label="G
 </dl>
 <details><summary>Keys</summary>
 <p class="soft"><kbd>&larr;</kbd> and <kbd>&rarr;</kbd> step back and forward, <kbd>Page Up</kbd> and <kbd>Page Down</kbd> too, as a presenter's remote sends them; <kbd>Home</kbd> and <kbd>End</kbd> go to the start and the end, <kbd>Space</kbd> plays and pauses. A click on a mark or on the rows above it goes to that entry. The page's address keeps the entry.</p>
-<p class="soft">Letters: <kbd>d</kbd> goes to the next entry that declares a machine failed, <kbd>p</kbd> to the next one of the plate that is followed, <kbd>z</kbd> to that of the zone, and with <kbd>Shift</kbd> to the one before; <kbd>w</kbd> makes the words larger.</p>
+<p class="soft">Letters: <kbd>d</kbd> goes to the next entry that declares a machine failed, or that is refused, <kbd>p</kbd> to the next one of the plate that is followed, <kbd>z</kbd> to that of the zone, and with <kbd>Shift</kbd> to the one before; <kbd>w</kbd> makes the words larger.</p>
 <label class="soft"><input type="checkbox" id="letters" checked> Letters are keys</label>
 </details>
 "##;

@@ -1,9 +1,9 @@
-use Rattle.std.proofs.Common.{◌≡◌, ◌≤◌, length, Ok, Err, refl, subst, rules, arith, true}
+use Rattle.std.proofs.Common.{◌≡◌, ◌≤◌, length, Ok, Err, refl, ap, subst, rules, arith, true}
 use Rattle.std.specs.Prelude.{IfSome, unwrap_or}
 use Rattle.cell_audit.specs.declared.error.AuditError.TheVariants as error
 use Rattle.cell_rows.specs.Rows.{rows_left}
 use Rattle.cell_show.specs.Shown.{AreGood, IsPage}
-use Rattle.cell_show.proofs.Facts.{wants-memory, good, has, paged}
+use Rattle.cell_show.proofs.Facts.{wants-memory, good, has, paged, told_of}
 use Rattle.cell_show.proofs.show.show_rows.Goals as goal
 
 pub returns-in_default-clause-status : goal.returns-in_default-clause-status
@@ -39,3 +39,13 @@ returns-then-branch-clause-page g c = λ low.
     let page = subst (λ why. IsPage c.args.form book why old new) c.err-answer.ensures.value (c.draw.ensures.page drawn) in
     paged (rows_left g.R.Read.remaining c.args.rows.now) c.args.form c.in-Ok.reading.answer book old new c.in-Ok.ensures.due c.in-Ok.ensures.before
     c.in-Ok.ensures.first (omega (arith, c.status_of-status.ensures, low)) page
+
+pub returns-in_err-draw-clause-entries : goal.returns-in_err-draw-clause-entries
+returns-in_err-draw-clause-entries g c =
+    let book = c.in-Ok.reading.book.entries in
+    let why = c.in_err-draw.field-0.0 in
+    let is : c.from_residual.result ≡ Err why = search rules in
+    let are : IfSome (rows_left g.R.Read.remaining c.args.rows.now) (AreGood book) =
+    good (rows_left g.R.Read.remaining c.args.rows.now) c.in-Ok.reading.answer book c.in-Ok.ensures.due c.in-Ok.ensures.before c.in-Ok.ensures.first
+    (omega (arith, c.status_of-status.ensures, c.if-status-gt-REFUSED.false)) in
+    rw is (told_of _ book why are (λ n same. c.in_err-draw.ensures.entry n (ap Err same)) (λ same. c.in_err-draw.ensures.long (ap Err same)))

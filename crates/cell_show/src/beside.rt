@@ -1,0 +1,73 @@
+//! Two journals side by side in one page.
+ghost use Rattle.std.specs.Prelude.{◌≡◌, ◌≢◌, ◌≤◌, ◌<◌, IfErr, IfOk, IfSome, length};
+ghost use Rattle.cell_rows.specs.Rows.{rows_of};
+ghost use Rattle.cell_audit.specs.Migrated.{rows_in};
+ghost use Rattle.cell_show.specs.Shown.{AsksPast, HasBound, HasEntry, IsOther, ShowsBeside, TellsEntries, TellsStatus};
+
+use crate::ShowError;
+use crate::show::{Form, show_journal};
+use cell_lines::status;
+use cell_page::write_beside;
+use std::alloc::Global;
+use std::io::{Read, Write};
+
+// What stands in place of a page of more entries than it shows.
+const TOO_LONG: &str =
+    "<!DOCTYPE html>\n<html lang=\"en\">\n<meta charset=\"utf-8\">\n<title>Too many entries</title>\n\
+    <p>TooManyEntries: a page shows at most 20000 entries</p>\n</html>\n";
+
+// The line that stands in place of a page, if there was memory for it.
+fn too_long_page(alloc: Global) -> Option<Vec<u8>> {
+    Vec::from_slice(alloc, TOO_LONG.as_bytes()).ok()
+}
+
+// The page of the journal in a text, or the line in its place, if there was memory for it.
+fn other_page(alloc: Global, text: &[u8], form: Form) -> Option<Vec<u8>>
+    ensures { IfSome result (λ page. IsOther form page.items (rows_of text.now)) }
+{
+    let mut page = Vec::new(alloc);
+    match show_journal(alloc, text, form, None, &mut page) {
+        Ok(status) if status <= status::REFUSED => Some(page),
+        Err(ShowError::TooManyEntries) => too_long_page(alloc),
+        _ => None,
+    }
+}
+
+/// Shows the page of the journal on the reader and beside it that of another one, both in one page by whose controls both are
+/// stepped, and gives the exit status, which is that of the first journal. The form is one of a page.
+///
+/// Each journal is shown as by `show_journal`, the other one with all its entries. Where that has too many for a page its frame
+/// says so. Where memory is refused (status 4) nothing is written.
+pub fn show_beside<R: Read + Drop, W: Write>(
+    alloc: Global,
+    reader: R,
+    other: &[u8],
+    form: Form,
+    entry: Option<u32>,
+    writer: &mut W,
+) -> Result<u8, ShowError>
+    // The status is that of the audit's answer for the journal on the reader.
+    ensures status { IfOk result (TellsStatus (rows_in (R.remaining reader))) }
+    ensures unread { IfOk result (λ status. 1 < status → writer.new ≡ writer.old) }
+    ensures there { IfOk result (λ status. status ≤ 1 → IfSome (rows_in (R.remaining reader)) (HasEntry entry)) }
+    // Both pages stand in what was written.
+    ensures pages { IfOk result (λ status. status ≤ 1 → IfSome (rows_in (R.remaining reader)) (ShowsBeside form (rows_of other.now) (W.contents writer.old) (W.contents writer.new))) }
+    ensures past { IfErr result (AsksPast entry) }
+    ensures entries { IfErr result (λ why. IfSome (rows_in (R.remaining reader)) (TellsEntries why)) }
+    ensures bound { result ≡ Err ShowError.TooManyEntries → HasBound form }
+    ensures nothing { IfErr result (λ e. e ≢ ShowError.WriteFault → writer.new ≡ writer.old) }
+{
+    let mut first = Vec::new(alloc);
+    let status = match show_journal(alloc, reader, form, entry, &mut first) {
+        Ok(status) if status > status::REFUSED => return Ok(status),
+        Ok(status) => status,
+        // A page that is written to memory fails only where that is wanting.
+        Err(ShowError::WriteFault) => return Ok(status::OUT_OF_MEMORY),
+        Err(why) => return Err(why),
+    };
+    let Some(second) = other_page(alloc, other, form) else {
+        return Ok(status::OUT_OF_MEMORY);
+    };
+    write_beside(writer, first.as_slice(), second.as_slice())?;
+    Ok(status)
+}
