@@ -578,6 +578,7 @@ impl World {
         }
     }
 
+    #[inline(always)]
     fn switches_of(&self, axis: Axis) -> u8 {
         self.axis(axis).switches(axis)
     }

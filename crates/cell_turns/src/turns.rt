@@ -1,6 +1,6 @@
 //! One turn of a machine, in its steps:
 //! 1. `expect`: what the book says that the machine has to show;
-//! 2. `observe`: both watches note the reading, and what they say is found;
+//! 2. `observe`: both watches note the reading, and what they say is found; where the turn is refused, they are put back;
 //! 3. `decide`: the first of nine points that applies;
 //! 4. `book`: the entry of what was decided is booked and listed;
 //! 5. `remember`: what the watch keeps of the turn;
@@ -69,12 +69,14 @@ fn turn_of<R: Run>(
     useful_is_own();
     useful_is_bookable();
     let book = kept.book();
-    let observed = observe::notice(machine, watch, book, reading, plan);
-    let anew = remember::begins_anew(machine, book, watch);
-    let ruling = decide::decide(machine, book, watch, &observed.findings);
-    let entry = match book::entry_of(ruling, machine, watch, book, plan) {
+    let before = *watch;
+    let findings = observe::notice(machine, watch, book, reading, plan);
+    let anew = remember::begins_anew(machine, book, &before);
+    let ruling = decide::decide(machine, book, &before, &findings);
+    let entry = match book::entry_of(ruling, machine, &before, book, plan) {
         Ok(entry) => entry,
         Err(refusal) => {
+            *watch = before;
             if entries.reserve(1).is_err() {
                 return Err(TurnError::OutOfMemory);
             }
@@ -82,13 +84,23 @@ fn turn_of<R: Run>(
         }
     };
     if book::make_room(entries, &entry).is_err() {
+        *watch = before;
         return Err(TurnError::OutOfMemory);
     }
     let booked = entry;
     if let Err(refusal) = book::book_entry(kept, shares, entries, entry) {
+        *watch = before;
         return Err(TurnError::Refused(refusal));
     }
-    *watch = remember::after(machine, watch, kept.book(), &observed, anew, &booked);
+    remember::keep(
+        machine,
+        watch,
+        &before,
+        kept.book(),
+        findings.sign,
+        anew,
+        &booked,
+    );
     Ok(booked)
 }
 

@@ -5,27 +5,19 @@ ghost use Rattle.cell_types.specs.Same.{same_axis, same_pose};
 ghost use Rattle.cell_diagnosis.specs.AxisWatches.{motion_of, Fits};
 ghost use Rattle.cell_diagnosis.specs.RestFacts.{Noted};
 ghost use Rattle.cell_diagnosis.specs.RestRules.{rest};
-ghost use Rattle.cell_diagnosis.specs.RestWatches.{machine_of, RestFits};
+ghost use Rattle.cell_diagnosis.specs.RestWatches.{RestFits};
 ghost use Rattle.cell_turns.specs.Moving.{motion_of_machine};
 ghost use Rattle.cell_turns.specs.Signs.{shows_sign};
-ghost use Rattle.cell_turns.specs.Following.{Following, FitsAxis, IsFitted};
+ghost use Rattle.cell_turns.specs.Following.{Following, FitsAxis};
 ghost use Rattle.cell_turns.specs.Observed.{same_motion, followed, with_reading, axis_noted, axis_verdict, rest_noted};
 
 use crate::Plan;
 use crate::turns::decide::Findings;
 use crate::turns::expect::{expected_of, is_green, is_unvisited, motion_of_machine};
 use crate::watch::Watch;
-use cell_diagnosis::{AxisWatch, Motion, Reading, RestWatch, Verdict, bit};
+use cell_diagnosis::{AxisWatch, Motion, Reading, Verdict, bit};
 use cell_types::{Axis, Belt, Machine, Pose};
 use plate_book::Book;
-
-/// What a turn observed: the watches with its reading, and what was found.
-#[derive(Clone, Copy, Debug)]
-pub struct Observed {
-    pub axis: Option<AxisWatch>,
-    pub rest: RestWatch,
-    pub findings: Findings,
-}
 
 fn is_same_axis(some: Axis, other: Axis) -> bool
     ensures { result ≡ same_axis some other }
@@ -53,48 +45,46 @@ fn start(motion: Motion) -> AxisWatch
     AxisWatch::start(motion.axis, motion.from, motion.to, motion.limits)
 }
 
-/// The watch of the motion that the book shows: the one that follows it already, or a new one.
+/// The motion that the book shows is followed: by the watch that follows it already, or by a new one.
 #[inline(always)]
-fn followed(axis: Option<AxisWatch>, motion: Option<Motion>) -> Option<AxisWatch>
-    ensures { (f : Option Following) → FitsAxis axis f → FitsAxis result (followed f motion) }
+fn follow(axis: &mut Option<AxisWatch>, motion: Option<Motion>)
+    ensures { (f : Option Following) → FitsAxis axis.old f → FitsAxis axis.new (followed f motion) }
 {
     let Some(motion) = motion else {
-        return None;
+        *axis = None;
+        return;
     };
-    let Some(watch) = axis else {
-        return Some(start(motion));
-    };
-    if same_motion(&watch.motion(), &motion) {
-        Some(watch)
-    } else {
-        Some(start(motion))
+    if let Some(watch) = &*axis {
+        if same_motion(&watch.motion(), &motion) {
+            return;
+        }
     }
+    *axis = Some(start(motion));
 }
 
 /// Notes a reading, where a motion is followed.
 #[inline(always)]
-fn note_axis(axis: Option<AxisWatch>, reading: Option<Reading>) -> (Option<AxisWatch>, Verdict)
-    ensures fits { (f : Option Following) → FitsAxis axis f → FitsAxis result.0 (option_map (with_reading reading) f) }
-    ensures verdict { (f : Option Following) → FitsAxis axis f → result.1 ≡ axis_verdict (option_map (with_reading reading) f) }
+fn note_axis(axis: &mut Option<AxisWatch>, reading: Option<Reading>) -> Verdict
+    ensures fits { (f : Option Following) → FitsAxis axis.old f → FitsAxis axis.new (option_map (with_reading reading) f) }
+    ensures verdict { (f : Option Following) → FitsAxis axis.old f → result ≡ axis_verdict (option_map (with_reading reading) f) }
 {
-    let Some(watch) = axis else {
-        return (None, Verdict::Pending);
-    };
-    let mut watch = watch;
-    let verdict = watch.note(reading);
-    (Some(watch), verdict)
+    match axis {
+        Some(watch) => watch.note(reading),
+        None => Verdict::Pending,
+    }
 }
 
 #[inline(always)]
 fn note_motion(
-    watch: &Watch,
+    axis: &mut Option<AxisWatch>,
     motion: Option<Motion>,
     reading: Option<Reading>,
-) -> (Option<AxisWatch>, Verdict)
-    ensures fits { (f : Option Following) → FitsAxis watch.now.axis f → FitsAxis result.0 (option_map (with_reading reading) (followed f motion)) }
-    ensures verdict { (f : Option Following) → FitsAxis watch.now.axis f → result.1 ≡ axis_verdict (option_map (with_reading reading) (followed f motion)) }
+) -> Verdict
+    ensures fits { (f : Option Following) → FitsAxis axis.old f → FitsAxis axis.new (option_map (with_reading reading) (followed f motion)) }
+    ensures verdict { (f : Option Following) → FitsAxis axis.old f → result ≡ axis_verdict (option_map (with_reading reading) (followed f motion)) }
 {
-    note_axis(followed(watch.axis, motion), reading)
+    follow(axis, motion);
+    note_axis(axis, reading)
 }
 
 /// Whether a reading is present and shows that a plate lies at FeedIn under a green light, or that none is left at DepEnd
@@ -113,39 +103,33 @@ fn shows_sign(book: &Book, machine: Machine, reading: Option<Reading>) -> bool
     }
 }
 
-/// Notes a reading in both watches of a machine.
+/// Notes a reading in both watches of a machine, and answers what they say of it.
 #[inline(always)]
 pub fn notice(
     machine: Machine,
-    watch: &Watch,
+    watch: &mut Watch,
     book: &Book,
     reading: Option<Reading>,
     plan: &Plan,
-) -> Observed
-    requires { watch.now.machine ≡ machine }
-    ensures axis { (f : Option Following) → FitsAxis watch.now.axis f → FitsAxis result.axis (axis_noted book.now.entries watch.now.machine plan.now f reading) }
-    ensures at_axis { (f : Option Following) → FitsAxis watch.now.axis f → result.findings.at_axis ≡ axis_verdict (axis_noted book.now.entries watch.now.machine plan.now f reading) }
-    ensures rest { (L : List Noted) → RestFits watch.now.rest L → RestFits result.rest (rest_noted book.now.entries watch.now.machine watch.now.memory L reading) }
-    ensures at_rest { (L : List Noted) → RestFits watch.now.rest L → result.findings.at_rest ≡ rest (rest_noted book.now.entries watch.now.machine watch.now.memory L reading) }
-    ensures machine { machine_of result.rest ≡ watch.now.machine }
-    ensures fitted { ∥ IsFitted result.axis result.rest ∥₁ }
-    ensures motion { result.findings.motion ≡ motion_of_machine book.now.entries plan.now watch.now.machine }
-    ensures sign { result.findings.sign ≡ shows_sign book.now.entries watch.now.machine reading }
+) -> Findings
+    requires { watch.old.machine ≡ machine }
+    ensures axis { (f : Option Following) → FitsAxis watch.old.axis f → FitsAxis watch.new.axis (axis_noted book.now.entries watch.old.machine plan.now f reading) }
+    ensures at_axis { (f : Option Following) → FitsAxis watch.old.axis f → result.at_axis ≡ axis_verdict (axis_noted book.now.entries watch.old.machine plan.now f reading) }
+    ensures rest { (L : List Noted) → RestFits watch.old.rest L → RestFits watch.new.rest (rest_noted book.now.entries watch.old.machine watch.old.memory L reading) }
+    ensures at_rest { (L : List Noted) → RestFits watch.old.rest L → result.at_rest ≡ rest (rest_noted book.now.entries watch.old.machine watch.old.memory L reading) }
+    ensures machine { watch.new.machine ≡ watch.old.machine }
+    ensures motion { result.motion ≡ motion_of_machine book.now.entries plan.now watch.old.machine }
+    ensures sign { result.sign ≡ shows_sign book.now.entries watch.old.machine reading }
 {
     let motion = motion_of_machine(book, plan, machine);
     let shown = motion;
-    let (axis, at_axis) = note_motion(watch, shown, reading);
     let expect = expected_of(book, machine, is_unvisited(book, machine, &watch.memory));
-    let mut rest = watch.rest;
-    let at_rest = rest.note(&expect, reading);
-    Observed {
-        axis,
-        rest,
-        findings: Findings {
-            motion,
-            at_axis,
-            at_rest,
-            sign: shows_sign(book, machine, reading),
-        },
+    let at_axis = note_motion(&mut watch.axis, shown, reading);
+    let at_rest = watch.rest.note(&expect, reading);
+    Findings {
+        motion,
+        at_axis,
+        at_rest,
+        sign: shows_sign(book, machine, reading),
     }
 }

@@ -2,13 +2,12 @@
 ghost use Rattle.std.specs.Prelude.{◌≡◌, ◌&&◌, ◌||◌, not, [], None, Option, List, is_none, if◌then◌else◌};
 ghost use Rattle.cell_diagnosis.specs.RestFacts.{Noted as NotedValue};
 ghost use Rattle.cell_diagnosis.specs.RestWatches.{machine_of, RestFits};
-ghost use Rattle.cell_turns.specs.Following.{Following, FitsAxis, IsFitted};
+ghost use Rattle.cell_turns.specs.Following.{Following, FitsAxis};
 ghost use Rattle.cell_turns.specs.Minds.{remembered};
 ghost use Rattle.cell_turns.specs.Turns.{begins_anew, ends_motion};
 
 use crate::Watch;
 use crate::turns::expect::is_visited;
-use crate::turns::observe::Observed;
 use crate::watch::Memory;
 use cell_diagnosis::{AxisWatch, RestWatch};
 use cell_types::{Entry, Machine};
@@ -57,55 +56,49 @@ pub fn begins_anew(machine: Machine, book: &Book, watch: &Watch) -> bool
     is_mended(book, machine, &watch.memory)
 }
 
+/// The watch of a motion ends where the motion has ended, or where the watches begin anew.
 #[inline(always)]
-fn axis_after(observed: &Observed, anew: bool, booked: &Option<Entry>) -> Option<AxisWatch>
-    ensures { (f : Option Following) → FitsAxis observed.now.axis f → FitsAxis result (if anew || ends_motion booked.now then None else f) }
+fn end_axis(axis: &mut Option<AxisWatch>, anew: bool, booked: &Option<Entry>)
+    ensures { (f : Option Following) → FitsAxis axis.old f → FitsAxis axis.new (if anew || ends_motion booked.now then None else f) }
 {
     if anew || ends_motion(booked) {
-        None
-    } else {
-        observed.axis
+        *axis = None;
     }
 }
 
 #[inline(always)]
-fn rest_after(machine: Machine, observed: &Observed, anew: bool) -> RestWatch
-    requires { machine_of observed.now.rest ≡ machine }
-    ensures fits { (L : List NotedValue) → RestFits observed.now.rest L → RestFits result (if anew then [] else L) }
-    ensures machine { machine_of result ≡ machine }
+fn end_rest(machine: Machine, rest: &mut RestWatch, anew: bool)
+    requires { machine_of rest.old ≡ machine }
+    ensures fits { (L : List NotedValue) → RestFits rest.old L → RestFits rest.new (if anew then [] else L) }
+    ensures machine { machine_of rest.new ≡ machine }
 {
     if anew {
-        RestWatch::start(machine)
-    } else {
-        observed.rest
+        *rest = RestWatch::start(machine);
     }
 }
 
-/// The watch after a turn that left the book like this.
+/// What the watch, which was `before` until this turn's reading was noted, keeps of a turn that left the book like this.
 #[inline(always)]
-pub fn after(
+pub fn keep(
     machine: Machine,
-    watch: &Watch,
+    watch: &mut Watch,
+    before: &Watch,
     book: &Book,
-    observed: &Observed,
+    sign: bool,
     anew: bool,
     booked: &Option<Entry>,
-) -> Watch
-    requires same { watch.now.machine ≡ machine }
-    requires machine { machine_of observed.now.rest ≡ watch.now.machine }
-    requires fitted { ∥ IsFitted observed.now.axis observed.now.rest ∥₁ }
-    ensures axis { (f : Option Following) → FitsAxis observed.now.axis f → FitsAxis result.axis (if anew || ends_motion booked.now then None else f) }
-    ensures rest { (L : List NotedValue) → RestFits observed.now.rest L → RestFits result.rest (if anew then [] else L) }
-    ensures memory { result.memory ≡ remembered book.now.entries watch.now.machine (is_none booked.now && watch.now.memory.command_failed) (not anew && (not watch.now.memory.sign && observed.now.findings.sign)) }
-    ensures machine { result.machine ≡ watch.now.machine }
+)
+    requires same { before.now.machine ≡ machine }
+    requires machine { watch.old.machine ≡ machine }
+    ensures axis { (f : Option Following) → FitsAxis watch.old.axis f → FitsAxis watch.new.axis (if anew || ends_motion booked.now then None else f) }
+    ensures rest { (L : List NotedValue) → RestFits watch.old.rest L → RestFits watch.new.rest (if anew then [] else L) }
+    ensures memory { watch.new.memory ≡ remembered book.now.entries before.now.machine (is_none booked.now && before.now.memory.command_failed) (not anew && (not before.now.memory.sign && sign)) }
+    ensures machine { watch.new.machine ≡ watch.old.machine }
 {
-    let kept = &watch.memory;
+    let kept = &before.memory;
     let command_failed = booked.is_none() && kept.command_failed;
-    let sign = !anew && (!kept.sign && observed.findings.sign);
-    Watch {
-        machine,
-        axis: axis_after(observed, anew, booked),
-        rest: rest_after(machine, observed, anew),
-        memory: remembered(book, machine, command_failed, sign),
-    }
+    let sign = !anew && (!kept.sign && sign);
+    end_axis(&mut watch.axis, anew, booked);
+    end_rest(machine, &mut watch.rest, anew);
+    watch.memory = remembered(book, machine, command_failed, sign);
 }
