@@ -8,7 +8,7 @@ abbrev pub for_people : Shape → Shape
 for_people s = record s { subcommand_required = true; arg_required_else_help = true; has_version = true }
 
 -- a word that may be given
-abbrev pub optional_rule : Text → Rule
+unfoldable pub optional_rule : Text → Rule
 optional_rule id = record (new_rule id) { value_names = 1 }
 
 -- a command with the name of a file, which may be given
@@ -22,18 +22,18 @@ abbrev pub migrate : App
 migrate = with_input (new_app (codes "migrate"))
 
 -- a path that has to be given
-abbrev pub path_rule : Text → Rule
+unfoldable pub path_rule : Text → Rule
 path_rule id = record (new_rule id) { required = true; value_names = 1 }
 
 abbrev pub check : App
 check = with_rule (new_app (codes "check")) (path_rule (codes "settings"))
 
 -- a flag
-abbrev pub flag_rule : Text → Rule
+unfoldable pub flag_rule : Text → Rule
 flag_rule id = record (new_rule id) { long = Some id; action = Some SetTrue }
 
 -- an option with a file
-abbrev pub file_rule : Text → Rule
+unfoldable pub file_rule : Text → Rule
 file_rule id = record (new_rule id) { long = Some id; value_names = 1 }
 
 -- the option with the file that has the durations of motions
@@ -41,7 +41,7 @@ abbrev pub times_rule : Rule
 times_rule = file_rule (codes "times")
 
 -- the option with the name of a journal's file, which has a short form, `-f`
-abbrev pub journal_rule : Rule
+unfoldable pub journal_rule : Rule
 journal_rule = record (file_rule (codes "file")) { short = Some 102 }
 
 -- the command that shows the cell, with the flags for a picture and a page
@@ -54,11 +54,11 @@ unfoldable pub show : App
 show = with_rule (with_rule (with_rule (with_rule pictured (flag_rule (codes "unicode"))) times_rule) journal_rule) (optional_rule (codes "entry"))
 
 -- words of which one at least has to be given
-abbrev pub several_rule : Text → Rule
+unfoldable pub several_rule : Text → Rule
 several_rule id = record (new_rule id) { required = true; value_names = 1; action = Some Append }
 
 -- an option that may be given several times
-abbrev pub repeated_rule : Text → Rule
+unfoldable pub repeated_rule : Text → Rule
 repeated_rule id = record (file_rule id) { action = Some Append }
 
 unfoldable pub explain : App

@@ -44,6 +44,7 @@ fn described<'a>(
 }
 
 // Adds a path that has to be given.
+#[tactic(auto, unfolding(crate::specs::Shape::path_rule))]
 fn with_path<'a>(
     alloc: Global,
     command: Command<'a>,
@@ -63,6 +64,7 @@ fn with_path<'a>(
 }
 
 // Adds a flag.
+#[tactic(auto, unfolding(crate::specs::Shape::flag_rule))]
 fn with_flag<'a>(
     alloc: Global,
     command: Command<'a>,
@@ -81,6 +83,7 @@ fn with_flag<'a>(
 }
 
 // Adds an option with a file.
+#[tactic(auto, unfolding(crate::specs::Shape::file_rule))]
 fn with_file<'a>(
     alloc: Global,
     command: Command<'a>,
@@ -96,6 +99,7 @@ fn with_file<'a>(
 }
 
 // Adds a word that may be given.
+#[tactic(auto, unfolding(crate::specs::Shape::optional_rule))]
 fn with_word<'a>(
     alloc: Global,
     command: Command<'a>,
@@ -120,6 +124,7 @@ fn with_journal<'a>(alloc: Global, command: Command<'a>) -> Result<Command<'a>, 
 }
 
 // Adds the option with the name of a journal's file.
+#[tactic(auto, unfolding(crate::specs::Shape::journal_rule, crate::specs::Shape::file_rule))]
 fn with_journal_option<'a>(alloc: Global, command: Command<'a>) -> Result<Command<'a>, AllocError>
     requires local { (out-Command command).has_globals ≡ false }
     ensures app { IfOk result (λ c. app_of c ≡ with_rule (app_of command.entry) journal_rule) }
@@ -164,6 +169,7 @@ fn migrate_command<'a>(alloc: Global) -> Result<Command<'a>, AllocError>
     with_journal(alloc, command)
 }
 
+#[tactic(auto, unfolding(crate::specs::Shape::path_rule))]
 fn check_command<'a>(alloc: Global) -> Result<Command<'a>, AllocError>
     ensures app { IfOk result (λ c. app_of c ≡ check) }
     ensures local { IfOk result (λ c. (out-Command c).has_globals ≡ false) }
@@ -197,7 +203,7 @@ fn show_command<'a>(alloc: Global) -> Result<Command<'a>, AllocError>
     with_word(alloc, file, "entry", "ENTRY", ENTRY_HELP)
 }
 
-#[tactic(auto, unfolding(crate::specs::Shape::explain))]
+#[tactic(auto, unfolding(crate::specs::Shape::explain, crate::specs::Shape::file_rule, crate::specs::Shape::optional_rule))]
 fn explain_command<'a>(alloc: Global) -> Result<Command<'a>, AllocError>
     ensures app { IfOk result (λ c. app_of c ≡ explain) }
     ensures local { IfOk result (λ c. (out-Command c).has_globals ≡ false) }
@@ -217,6 +223,7 @@ fn explain_command<'a>(alloc: Global) -> Result<Command<'a>, AllocError>
 }
 
 // Adds the names of journals' files, of which one at least has to be given.
+#[tactic(auto, unfolding(crate::specs::Shape::several_rule))]
 fn with_journals<'a>(alloc: Global, command: Command<'a>) -> Result<Command<'a>, AllocError>
     requires local { (out-Command command).has_globals ≡ false }
     ensures app { IfOk result (λ c. app_of c ≡ with_rule (app_of command.entry) (several_rule (codes "journals"))) }
@@ -305,7 +312,7 @@ fn with_choices<'a>(alloc: Global, command: Command<'a>) -> Result<Command<'a>, 
 }
 
 // The command that runs the cell once for each fault.
-#[tactic(auto, unfolding(crate::specs::Shape::sweep))]
+#[tactic(auto, unfolding(crate::specs::Shape::sweep, crate::specs::Shape::path_rule))]
 fn sweep_command<'a>(alloc: Global) -> Result<Command<'a>, AllocError>
     ensures app { IfOk result (λ c. app_of c ≡ sweep) }
     ensures local { IfOk result (λ c. (out-Command c).has_globals ≡ false) }
@@ -317,6 +324,7 @@ fn sweep_command<'a>(alloc: Global) -> Result<Command<'a>, AllocError>
 }
 
 // Adds the option with the machines that may fail.
+#[tactic(auto, unfolding(crate::specs::Shape::repeated_rule, crate::specs::Shape::file_rule))]
 fn with_failing<'a>(alloc: Global, command: Command<'a>) -> Result<Command<'a>, AllocError>
     requires local { (out-Command command).has_globals ≡ false }
     ensures app { IfOk result (λ c. app_of c ≡ with_rule (app_of command.entry) (repeated_rule (codes "fail"))) }
