@@ -1,8 +1,8 @@
-// Checks a page of `cellctl show --html` in a headless browser, by the protocol of its developer tools over a pipe.
+// Checks a page of `cellctl show --html` in a headless browser.
 // Usage: node checks/page.mjs PAGE PICTURES     checks/page.sh calls it.
-import { spawn } from "node:child_process";
 import { readFileSync, writeFileSync } from "node:fs";
 import { pathToFileURL } from "node:url";
+import { ask, check, click, finish, key, resize, sleep, tell } from "./browser.mjs";
 
 const [page, pictures] = process.argv.slice(2);
 const address = pathToFileURL(page).href;
@@ -14,53 +14,6 @@ const good = rows.length - 1;
 if (refused !== null) rows.push([...rows[good].slice(0, 11), ...refused.slice(3)]);
 const last = rows.length - 1;
 
-const browser = spawn(
-  process.env.CHROMIUM ?? "chromium",
-  ["--headless=new", "--no-sandbox", "--disable-gpu", "--hide-scrollbars", "--disable-ipc-flooding-protection", "--remote-debugging-pipe", "about:blank"],
-  { stdio: ["ignore", "ignore", "ignore", "pipe", "pipe"] },
-);
-const waiting = new Map();
-const requests = [];
-const faults = [];
-let session;
-let count = 0;
-let rest = "";
-browser.stdio[4].setEncoding("utf8");
-browser.stdio[4].on("data", (data) => {
-  const messages = (rest + data).split("\0");
-  rest = messages.pop();
-  messages.map((message) => JSON.parse(message)).forEach(hear);
-});
-const hear = (message) => {
-  if (message.id !== undefined) {
-    const { resolve, reject } = waiting.get(message.id);
-    waiting.delete(message.id);
-    if (message.error === undefined) resolve(message.result);
-    else reject(new Error(message.error.message));
-  }
-  if (message.method === "Network.requestWillBeSent") requests.push(message.params.request.url);
-  if (message.method === "Runtime.exceptionThrown") faults.push(message.params.exceptionDetails.exception?.description ?? "an exception");
-  if (message.method === "Log.entryAdded") faults.push(message.params.entry.text);
-};
-const tell = (method, params = {}) => new Promise((resolve, reject) => {
-  count += 1;
-  waiting.set(count, { resolve, reject });
-  browser.stdio[3].write(JSON.stringify({ id: count, method, params, sessionId: session }) + "\0");
-});
-const ask = async (expression) => {
-  const { result, exceptionDetails } = await tell("Runtime.evaluate", { expression, returnByValue: true, awaitPromise: true });
-  if (exceptionDetails !== undefined) throw new Error(exceptionDetails.exception?.description ?? exceptionDetails.text);
-  return result.value;
-};
-const sleep = (milliseconds) => new Promise((resolve) => setTimeout(resolve, milliseconds));
-
-let failed = 0;
-const check = (what, found, wanted) => {
-  if (JSON.stringify(found) === JSON.stringify(wanted)) return;
-  failed += 1;
-  console.log(`  ${what}: found ${JSON.stringify(found)}, wanted ${JSON.stringify(wanted)}`);
-};
-
 const open = async (hash) => {
   await tell("Page.navigate", { url: "about:blank" });
   const start = performance.now();
@@ -68,17 +21,6 @@ const open = async (hash) => {
   for (let i = 0; i < 600 && !(await ask("document.documentElement?.classList.contains('ready') === true")); i += 1) await sleep(10);
   await ask("new Promise((drawn) => requestAnimationFrame(() => requestAnimationFrame(drawn)))");
   return Math.round(performance.now() - start);
-};
-const resize = (width, height) => tell("Emulation.setDeviceMetricsOverride", { width, height, deviceScaleFactor: 1, mobile: false });
-const key = async (name, code) => {
-  const press = { key: name, code: name === " " ? "Space" : name, windowsVirtualKeyCode: code };
-  await tell("Input.dispatchKeyEvent", { type: "keyDown", ...press, text: name.length === 1 ? name : undefined });
-  await tell("Input.dispatchKeyEvent", { type: "keyUp", ...press });
-};
-const click = async (x, y) => {
-  const point = { x, y, button: "left", clickCount: 1 };
-  await tell("Input.dispatchMouseEvent", { type: "mousePressed", ...point });
-  await tell("Input.dispatchMouseEvent", { type: "mouseReleased", ...point });
 };
 const middle = (id) => ask(`(() => { const part = document.querySelector(${JSON.stringify(id)}); part.scrollIntoView({ block: "center" });
   const box = part.getBoundingClientRect(); return { x: box.left + box.width / 2, y: box.top + box.height / 2 }; })()`);
@@ -321,10 +263,6 @@ const checkWithoutScripts = async () => {
 };
 
 const run = async () => {
-  const { targetId } = await tell("Target.createTarget", { url: "about:blank" });
-  session = (await tell("Target.attachToTarget", { targetId, flatten: true })).sessionId;
-  for (const part of ["Page", "Runtime", "Network", "Log"]) await tell(part + ".enable");
-  await resize(1200, 1000);
   const took = await open("#entry=0");
   const steps = await ask(`(async () => { const start = performance.now(); const slider = document.getElementById("slider");
     for (let k = 0; k < 50; k += 1) { slider.value = Math.round((${last} * k) / 50); slider.dispatchEvent(new Event("input")); document.body.getBoundingClientRect();
@@ -337,18 +275,5 @@ const run = async () => {
   await checkMotion();
   await checkSizes();
   await checkWithoutScripts();
-  const outside = requests.filter((url) => !url.startsWith(address) && !url.startsWith("data:") && url !== "about:blank");
-  check("requests to elsewhere", outside, []);
-  check("errors that the browser tells", faults, []);
 };
-const end = setTimeout(() => { console.log("  the browser didn't answer in 300 seconds"); browser.kill(); process.exit(1); }, 300000);
-try {
-  await run();
-} catch (error) {
-  failed += 1;
-  console.log("  " + error.stack);
-}
-clearTimeout(end);
-browser.kill();
-console.log(failed === 0 ? "the page is in order" : `${failed} checks failed`);
-process.exit(failed === 0 ? 0 : 1);
+await finish(address, run);

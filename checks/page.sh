@@ -2,7 +2,7 @@
 # Opens the page of a journal in a headless browser: looks whether what is drawn of many entries is what the page's data say,
 # tries slider, keys, buttons and play, looks for requests to elsewhere and for texts that are cut, tells how long the page
 # takes, and takes pictures of it. It fails where something is otherwise. It needs node, and chromium or what CHROMIUM names.
-# Usage: checks/page.sh [PAGE [PICTURES]]     PAGE is a file of `cellctl show --html`; without one the page of
+# Usage: checks/page.sh [PAGE [PICTURES]]     PAGE is a file of `cellctl show --html`, also with `--beside`; without one the page of
 # examples/whole.journal is made. PICTURES is the folder for the pictures; without one they are thrown away. ENTRY is the
 # entry that they show, by default the middle one.
 set -u
@@ -14,4 +14,6 @@ pictures=${2:-$work}
 if [ $# -eq 0 ]; then
     "${CELLCTL:-$here/cellctl}" show --html < "$here/examples/whole.journal" > "$page" || exit 1
 fi
-node "$here/checks/page.mjs" "$page" "$pictures"
+kind=page
+if grep -q "^<iframe title=" "$page"; then kind=beside; fi
+node "$here/checks/$kind.mjs" "$page" "$pictures"

@@ -7,11 +7,11 @@ _cellctl() {
         words='audit migrate show explain measure check sim sweep explore drive run help --help --version'
     else
         case "${COMP_WORDS[1]} $before" in
-            'explain --settings' | 'explain --faults' | 'explain --operator' | 'show --file' | 'show -f' | 'sim --follow' | *' --times' | 'sweep --kinds' | 'sweep --motions' | 'explore --limit') return ;;
+            'explain --settings' | 'explain --faults' | 'explain --operator' | 'show --file' | 'show -f' | 'sim --follow' | *' --times' | 'show --beside' | 'sweep --kinds' | 'sweep --motions' | 'explore --limit') return ;;
             'explore --fail') mapfile -t COMPREPLY < <(compgen -W 'feed table robot press1 press2 deposit' -- "$word"); return ;;
         esac
         case ${COMP_WORDS[1]} in
-            show) words='--svg --html --unicode --times --file --help' ;;
+            show) words='--svg --html --unicode --times --beside --file --help' ;;
             explain) words='--settings --faults --operator --help' ;;
             measure) words='--times --csv --help' ;;
             sim) words='--journal --explain --times --follow --measures --help' ;;

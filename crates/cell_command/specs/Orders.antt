@@ -54,12 +54,13 @@ IsRun rows r = HasFlag rows (codes "journal") r.journal × HasFlag rows (codes "
 abbrev pub IsDriven : List Row → Driving → Type 0
 IsDriven rows d = HasFlag rows (codes "raw") d.raw × IsRun rows d.running
 
--- the flags of a picture, the files of durations and of the journal, and how many entries it takes
+-- the flags of a picture, the files of durations, of the journal beside and of the journal, and how many entries it takes
 abbrev pub IsShown : List Row → Showing → Type 0
 IsShown rows s = HasFlag rows (codes "svg") s.svg
     × HasFlag rows (codes "html") s.html
     × HasFlag rows (codes "unicode") s.unicode
     × HasValue rows (codes "times") s.times
+    × HasValue rows (codes "beside") s.beside
     × HasValue rows (codes "file") s.file
     × HasValue rows (codes "entry") s.entry
 

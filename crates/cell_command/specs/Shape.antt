@@ -48,10 +48,13 @@ journal_rule = record (file_rule (codes "file")) { short = Some 102 }
 unfoldable pub pictured : App
 pictured = with_rule (with_rule (new_app (codes "show")) (flag_rule (codes "svg"))) (flag_rule (codes "html"))
 
--- the same with the flag for other signs, the options for durations and for a file, and how many entries are shown, which may be
--- given
+-- the same with the flag for other signs and the options for durations and for another journal, which is shown beside
+unfoldable pub accompanied : App
+accompanied = with_rule (with_rule (with_rule pictured (flag_rule (codes "unicode"))) times_rule) (file_rule (codes "beside"))
+
+-- the same with the option for a file, and how many entries are shown, which may be given
 unfoldable pub show : App
-show = with_rule (with_rule (with_rule (with_rule pictured (flag_rule (codes "unicode"))) times_rule) journal_rule) (optional_rule (codes "entry"))
+show = with_rule (with_rule accompanied journal_rule) (optional_rule (codes "entry"))
 
 -- words of which one at least has to be given
 unfoldable pub several_rule : Text → Rule

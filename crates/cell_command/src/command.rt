@@ -2,16 +2,16 @@
 ghost use Rattle.std.specs.Prelude.{◌≡◌, IfOk, codes, false};
 ghost use Rattle.clap.specs.Words.{app_of, new_app, with_rule, with_subcommand};
 ghost use Rattle.clap.specs.declared.builder.command.Command.TheViews.{out-Command};
-ghost use Rattle.cell_command.specs.Shape.{audit, cellctl, check, checking, drive, driving, explain, explore, exploring, file_rule, filed, flag_rule, flagged, journal_rule, judging, measure, measuring, migrate, optional_rule, path_rule, pictured, reading, repeated_rule, run, scripted, several_rule, show, showing, sim, simulating, sweep, sweeping, times_rule, with_input};
+ghost use Rattle.cell_command.specs.Shape.{accompanied, audit, cellctl, check, checking, drive, driving, explain, explore, exploring, file_rule, filed, flag_rule, flagged, journal_rule, judging, measure, measuring, migrate, optional_rule, path_rule, pictured, reading, repeated_rule, run, scripted, several_rule, show, showing, sim, simulating, sweep, sweeping, times_rule, with_input};
 
 use crate::help::{
-    ABOUT, AFTER, AUDIT_ABOUT, AUDIT_EXAMPLE, AUDIT_HELP, CHECK_ABOUT, CHECK_EXAMPLE, CHECK_HELP,
-    CSV_HELP, DRIVE_ABOUT, DRIVE_EXAMPLE, DRIVE_HELP, ENTRY_HELP, EXPLAIN_ABOUT, EXPLAIN_EXAMPLE,
-    EXPLAIN_HELP, EXPLAIN_USAGE, EXPLORE_ABOUT, EXPLORE_EXAMPLE, EXPLORE_HELP, FAIL_HELP,
-    FAULTS_HELP, FILE_HELP, FOLLOW_HELP, HTML_HELP, JOURNAL_HELP, JOURNALS_HELP, KINDS_HELP,
-    LEAST_HELP, LIMIT_HELP, MEASURE_ABOUT, MEASURE_EXAMPLE, MEASURE_HELP, MEASURES_HELP,
-    MIGRATE_ABOUT, MIGRATE_EXAMPLE, MIGRATE_HELP, MOTIONS_HELP, OPERATOR_HELP, PLATES_HELP,
-    RAW_HELP, REPAIR_HELP, RUN_ABOUT, RUN_EXAMPLE, RUN_HELP, RUNS_HELP, SERVICE_HELP,
+    ABOUT, AFTER, AUDIT_ABOUT, AUDIT_EXAMPLE, AUDIT_HELP, BESIDE_HELP, CHECK_ABOUT, CHECK_EXAMPLE,
+    CHECK_HELP, CSV_HELP, DRIVE_ABOUT, DRIVE_EXAMPLE, DRIVE_HELP, ENTRY_HELP, EXPLAIN_ABOUT,
+    EXPLAIN_EXAMPLE, EXPLAIN_HELP, EXPLAIN_USAGE, EXPLORE_ABOUT, EXPLORE_EXAMPLE, EXPLORE_HELP,
+    FAIL_HELP, FAULTS_HELP, FILE_HELP, FOLLOW_HELP, HTML_HELP, JOURNAL_HELP, JOURNALS_HELP,
+    KINDS_HELP, LEAST_HELP, LIMIT_HELP, MEASURE_ABOUT, MEASURE_EXAMPLE, MEASURE_HELP,
+    MEASURES_HELP, MIGRATE_ABOUT, MIGRATE_EXAMPLE, MIGRATE_HELP, MOTIONS_HELP, OPERATOR_HELP,
+    PLATES_HELP, RAW_HELP, REPAIR_HELP, RUN_ABOUT, RUN_EXAMPLE, RUN_HELP, RUNS_HELP, SERVICE_HELP,
     SETTINGS_HELP, SHOW_ABOUT, SHOW_EXAMPLE, SHOW_HELP, SHOW_USAGE, SIM_ABOUT, SIM_EXAMPLE,
     SIM_HELP, SVG_HELP, SWEEP_ABOUT, SWEEP_EXAMPLE, SWEEP_HELP, TIMES_HELP, UNICODE_HELP, VERSION,
     WAY_HELP, WHY_HELP,
@@ -191,15 +191,25 @@ fn pictured_command<'a>(alloc: Global) -> Result<Command<'a>, AllocError>
     with_flag(alloc, svg, "html", HTML_HELP)
 }
 
-#[tactic(auto, unfolding(crate::specs::Shape::show))]
-fn show_command<'a>(alloc: Global) -> Result<Command<'a>, AllocError>
-    ensures app { IfOk result (λ c. app_of c ≡ show) }
+// The same with the flag for other signs and the options for durations and for a journal that is shown beside.
+#[tactic(auto, unfolding(crate::specs::Shape::accompanied))]
+fn accompanied_command<'a>(alloc: Global) -> Result<Command<'a>, AllocError>
+    ensures app { IfOk result (λ c. app_of c ≡ accompanied) }
     ensures local { IfOk result (λ c. (out-Command c).has_globals ≡ false) }
 {
     let pictured = pictured_command(alloc)?;
     let unicode = with_flag(alloc, pictured, "unicode", UNICODE_HELP)?;
     let timed = with_times(alloc, unicode)?;
-    let file = with_journal_option(alloc, timed)?;
+    with_file(alloc, timed, "beside", "OTHER", BESIDE_HELP)
+}
+
+#[tactic(auto, unfolding(crate::specs::Shape::show))]
+fn show_command<'a>(alloc: Global) -> Result<Command<'a>, AllocError>
+    ensures app { IfOk result (λ c. app_of c ≡ show) }
+    ensures local { IfOk result (λ c. (out-Command c).has_globals ≡ false) }
+{
+    let accompanied = accompanied_command(alloc)?;
+    let file = with_journal_option(alloc, accompanied)?;
     with_word(alloc, file, "entry", "ENTRY", ENTRY_HELP)
 }
 

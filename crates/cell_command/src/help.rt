@@ -290,7 +290,8 @@ pub(crate) const SHOW_ABOUT: &str = "Draw the cell as a journal's first entries 
 
 pub(crate) const SHOW_USAGE: &str = "\
 cellctl show [--svg | --html | --unicode] [--file FILE] [ENTRY]
-       cellctl show (--svg | --html) --times FILE [--file FILE] [ENTRY]";
+       cellctl show (--svg | --html) --times FILE [--file FILE] [ENTRY]
+       cellctl show --html --beside OTHER [--times FILE] [--file FILE] [ENTRY]";
 
 pub(crate) const SHOW_HELP: &str = "\
 Reads a journal's text from FILE, or on standard input where no file is named,
@@ -307,13 +308,17 @@ other signs; with --svg one picture file; with --html one page for a browser,
 which has the states after all entries, of which it shows at most 20000. With
 --svg --times FILE the picture has at most 20000 entries on an axis of time,
 where motions take what FILE says (see the command measure), and with --html
---times FILE the page has such a picture of all entries below the states.
+--times FILE the page has such a picture of all entries below the states. With
+--html --beside OTHER two such pages stand side by side in one, that of the
+journal and that of the journal in the file OTHER, and are stepped together.
 
 A journal that is refused or can't be read is shown up to its last good entry,
-and below stands the line of the command audit.
+and below stands the line of the command audit. The page has the entry that is
+refused as a last step.
 
 Exit status: 0 legal, 1 refused or unreadable, 2 wrong arguments, no such entry
-or too many entries for a page, 3 a read or a write failed, 4 out of memory.";
+or too many entries for a page, 3 a read or a write failed, 4 out of memory.
+The status is that of the journal, and not of OTHER.";
 
 pub(crate) const SHOW_EXAMPLE: &str = "Example: cellctl show --file examples/whole.journal 20";
 
@@ -356,6 +361,8 @@ pub(crate) const WHY_HELP: &str = "Say on standard error why the run ended so";
 pub(crate) const SVG_HELP: &str = "Print one picture file in SVG";
 
 pub(crate) const HTML_HELP: &str = "Print one page in HTML with all states";
+
+pub(crate) const BESIDE_HELP: &str = "The file with a journal to be shown beside it";
 
 pub(crate) const UNICODE_HELP: &str = "Draw with signs beyond ASCII";
 

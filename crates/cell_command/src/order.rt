@@ -35,14 +35,16 @@ pub struct Driving<'a> {
     pub running: Running<'a>,
 }
 
-/// How a journal is to be shown: which flags are given, the file with the durations of motions, if there is one, the file that has
-/// the journal, if it isn't on standard input, and the number of entries as it is written.
+/// How a journal is to be shown: which flags are given, the file with the durations of motions, if there is one, that of another
+/// journal, which is shown beside it, if there is one, the file that has the journal, if it isn't on standard input, and the number
+/// of entries as it is written.
 #[derive(Clone, Copy, Debug, PartialEq, Eq)]
 pub struct Showing<'a> {
     pub svg: bool,
     pub html: bool,
     pub unicode: bool,
     pub times: Option<&'a str>,
+    pub beside: Option<&'a str>,
     pub file: Option<&'a str>,
     pub entry: Option<&'a str>,
 }
@@ -196,6 +198,7 @@ fn show_words<'a>(matches: &ArgMatches<'a>) -> Showing<'a>
         html: flag(matches, "html"),
         unicode: flag(matches, "unicode"),
         times: value(matches, "times"),
+        beside: value(matches, "beside"),
         file: value(matches, "file"),
         entry: value(matches, "entry"),
     }

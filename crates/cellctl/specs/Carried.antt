@@ -112,6 +112,10 @@ ShowsEntry showing input old new old_errors new_errors status =
 abbrev pub IsLoose : Option (Bor (List ℕ)) → Option Form → Type 0
 IsLoose times asked = IsGiven times × (asked ≢ Some form.Picture) × (asked ≢ Some form.Page)
 
+-- another journal is to be shown beside, and no page is asked for
+abbrev pub IsAlone : Option (Bor (List ℕ)) → Option Form → Type 0
+IsAlone beside asked = IsGiven beside × (asked ≢ Some form.Page)
+
 -- the form with some durations: a chart for a picture, and for a page one with a chart
 abbrev pub HasTimes : Form → Form → Type 0
 HasTimes form.Picture (form.Chart durations) = ⊤
@@ -131,7 +135,8 @@ ShowsWords showing input old new old_errors new_errors status =
     ShowsEntry showing input old new old_errors new_errors status
     ⊎ ((IsGiven showing.times × TellsTimes old new (Ok status))
     ⊎ (IsWrong old new old_errors new_errors status × ((form_of showing.svg showing.html showing.unicode ≡ None)
-    ⊎ IsLoose showing.times (form_of showing.svg showing.html showing.unicode))))
+    ⊎ (IsLoose showing.times (form_of showing.svg showing.html showing.unicode)
+    ⊎ IsAlone showing.beside (form_of showing.svg showing.html showing.unicode)))))
 
 -- that settings are longer than they may be is told by name
 abbrev pub TellsTooLong : Option (List ℕ) → Option (List ℕ) → Result ℕ WriteFault → Type 0

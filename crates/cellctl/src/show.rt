@@ -1,6 +1,8 @@
 //! The command that shows the cell.
-ghost use Rattle.std.specs.Prelude.{◌≡◌, ◌≤◌, ◌^◌, ℕ, IfOk, List, Option, Some};
-ghost use Rattle.cellctl.specs.Carried.{IsAsked, OfText, Shows, ShowsEntry, ShowsWords, IsTimed, form_of};
+ghost use Rattle.std.specs.Prelude.{◌≡◌, ◌≢◌, ◌<◌, ◌≤◌, ◌^◌, ℕ, IfErr, IfOk, IfSome, List, Option, Some, true};
+ghost use Rattle.cell_audit.specs.Migrated.{rows_in};
+ghost use Rattle.cell_show.specs.Shown.{AsksPast, HasEntry, TellsEntries, TellsStatus};
+ghost use Rattle.cellctl.specs.Carried.{IsAlone, IsAsked, OfText, Shows, ShowsEntry, ShowsWords, IsTimed, form_of};
 
 use crate::failure::Failure;
 use crate::texts::journal_in;
@@ -8,7 +10,7 @@ use crate::times::{durations_in, tell_times};
 use crate::wrong::wrong;
 use cell_command::{Count, Escaped, Showing, read_count};
 use cell_lines::{WriteFault, status};
-use cell_show::{Form, ShowError, show_journal};
+use cell_show::{Form, ShowError, show_beside, show_journal};
 use std::alloc::Global;
 use std::io;
 use std::io::{Read, Write};
@@ -27,6 +29,28 @@ fn form_of(showing: &Showing<'_>) -> Option<Form>
     }
 }
 
+// Shows so many entries of a journal's text, or all of them, beside those of another text where one is given.
+fn show_with<I: Read + Drop, W: Write>(
+    alloc: Global,
+    input: I,
+    output: &mut W,
+    form: Form,
+    entry: Option<u32>,
+    other: Option<&[u8]>,
+) -> Result<u8, ShowError>
+    ensures status { IfOk result (TellsStatus (rows_in (I.remaining input))) }
+    ensures unread { IfOk result (λ status. 1 < status → output.new ≡ output.old) }
+    ensures there { IfOk result (λ status. status ≤ 1 → IfSome (rows_in (I.remaining input)) (HasEntry entry)) }
+    ensures past { IfErr result (AsksPast entry) }
+    ensures entries { IfErr result (λ why. IfSome (rows_in (I.remaining input)) (TellsEntries why)) }
+    ensures nothing { IfErr result (λ why. why ≢ ShowError.WriteFault → output.new ≡ output.old) }
+{
+    match other {
+        None => show_journal(alloc, input, form, entry, output),
+        Some(text) => show_beside(alloc, input, text, form, entry, output),
+    }
+}
+
 // Shows so many entries of a journal's text, or all of them. An entry that isn't there, or a page of too many, is told among
 // the errors.
 fn show_entries<I: Read + Drop, W: Write, E: Write>(
@@ -36,10 +60,11 @@ fn show_entries<I: Read + Drop, W: Write, E: Write>(
     errors: &mut E,
     form: Form,
     entry: Option<u32>,
+    other: Option<&[u8]>,
 ) -> io::Result<Result<u8, WriteFault>>
     ensures { IfOk result (λ written. IfOk written (Shows entry (I.remaining input) (W.contents output.old) (W.contents output.new) (E.contents errors.old) (E.contents errors.new))) }
 {
-    match show_journal(alloc, input, form, entry, output) {
+    match show_with(alloc, input, output, form, entry, other) {
         Ok(status) => Ok(Ok(status)),
         Err(ShowError::WriteFault) => Ok(Err(WriteFault)),
         Err(error) => {
@@ -77,19 +102,32 @@ fn show_count<I: Read + Drop, W: Write, E: Write>(
     errors: &mut E,
     form: Form,
     count: Option<Count>,
+    other: Option<&[u8]>,
 ) -> io::Result<Result<u8, WriteFault>>
     ensures { (entry : Option ℕ) → IsAsked count entry → IfOk result (λ written. IfOk written (Shows entry (I.remaining input) (W.contents output.old) (W.contents output.new) (E.contents errors.old) (E.contents errors.new))) }
 {
     match count {
-        None => show_entries(alloc, input, output, errors, form, None),
+        None => show_entries(alloc, input, output, errors, form, None, other),
         Some(Count::Number(entry)) => {
-            show_entries(alloc, input, output, errors, form, Some(entry))
+            show_entries(alloc, input, output, errors, form, Some(entry), other)
         }
         Some(Count::Beyond) => show_beyond(alloc, input, errors, form),
     }
 }
 
-// Shows so many entries of the journal in a file, or of that on the input where no file is named.
+// The journal's text in a file, if one is named.
+fn other_in<'a, R: AllocGlobal + Files>(
+    rt: &R,
+    beside: Option<&'a str>,
+) -> Result<Option<Vec<u8>>, Failure<'a>> {
+    match beside {
+        None => Ok(None),
+        Some(path) => Ok(Some(journal_in(rt, path)?.bytes)),
+    }
+}
+
+// Shows so many entries of the journal in a file, or of that on the input where no file is named, beside that in another file
+// where such a one is named.
 fn show_text<'a, R: AllocGlobal + Files, I: Read + Drop, W: Write, E: Write>(
     rt: &R,
     input: I,
@@ -97,17 +135,19 @@ fn show_text<'a, R: AllocGlobal + Files, I: Read + Drop, W: Write, E: Write>(
     errors: &mut E,
     form: Form,
     count: Option<Count>,
-    file: Option<&'a str>,
+    showing: Showing<'a>,
 ) -> Result<Result<u8, WriteFault>, Failure<'a>>
-    ensures { (entry : Option ℕ) → IsAsked count entry → IfOk result (λ written. IfOk written (λ status. OfText file.entry (I.remaining input)
+    ensures { (entry : Option ℕ) → IsAsked count entry → IfOk result (λ written. IfOk written (λ status. OfText showing.entry.file (I.remaining input)
         (λ text. Shows entry text (W.contents output.old) (W.contents output.new) (E.contents errors.old) (E.contents errors.new) status))) }
 {
     let alloc = rt.alloc();
-    let Some(path) = file else {
-        return Ok(show_count(alloc, input, output, errors, form, count)?);
+    let found = other_in(rt, showing.beside)?;
+    let other = found.as_deref();
+    let Some(path) = showing.file else {
+        return Ok(show_count(alloc, input, output, errors, form, count, other)?);
     };
     let text = journal_in(rt, path)?.bytes;
-    Ok(show_count(alloc, text.as_slice(), output, errors, form, count)?)
+    Ok(show_count(alloc, text.as_slice(), output, errors, form, count, other)?)
 }
 
 // The form that is shown, and whether durations go with it.
@@ -155,14 +195,24 @@ fn show_entry<'a, R: AllocGlobal + Files, I: Read + Drop, W: Write, E: Write>(
     ensures { IfOk result (λ written. IfOk written (ShowsEntry showing.entry (I.remaining input) (W.contents output.old) (W.contents output.new) (E.contents errors.old) (E.contents errors.new))) }
 {
     let Some(word) = showing.entry else {
-        return show_text(rt, input, output, errors, form, None, showing.file);
+        return show_text(rt, input, output, errors, form, None, showing);
     };
     let Some(count) = read_count(word) else {
         let word = Escaped(word);
         writeln!(errors, "error: ENTRY is a whole number, and not '{word}'")?;
         return Ok(Ok(status::WRONG_ARGUMENTS));
     };
-    show_text(rt, input, output, errors, form, Some(count), showing.file)
+    show_text(rt, input, output, errors, form, Some(count), showing)
+}
+
+// Whether another journal is to be shown beside, and no page is asked for.
+fn is_alone(beside: Option<&str>, form: Form) -> bool
+    ensures { result ≡ true → IsAlone beside.entry (Some form) }
+{
+    match form {
+        Form::Page => false,
+        _ => beside.is_some(),
+    }
 }
 
 /// Shows a journal, as the words of the command line ask.
@@ -181,6 +231,9 @@ pub(crate) fn show_words<'a, R: AllocGlobal + Files, I: Read + Drop, W: Write, E
             "of --svg, --html and --unicode one alone can be given",
         )?);
     };
+    if is_alone(showing.beside, form) {
+        return Ok(wrong(errors, "--beside goes with --html")?);
+    }
     match timed_form(rt, form, showing.times)? {
         Timed::Form(form) => show_entry(rt, input, output, errors, form, showing),
         Timed::Refused(line) => Ok(tell_times(output, line.as_str())),

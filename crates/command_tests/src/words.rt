@@ -81,19 +81,21 @@ const RUNS: [&str; 10] = [
         paths: Paths { settings: \"cell.toml\", faults: \"none.faults\", operator: \"none.operator\" } })",
 ];
 
-const SHOWN: [&str; 8] = [
+const SHOWN: [&str; 9] = [
     "cellctl show --svg --times a.toml|\
-        Show(Showing { svg: true, html: false, unicode: false, times: Some(\"a.toml\"), file: None, entry: None })",
-    "cellctl show --svg 20|Show(Showing { svg: true, html: false, unicode: false, times: None, file: None, entry: Some(\"20\") })",
-    "cellctl show|Show(Showing { svg: false, html: false, unicode: false, times: None, file: None, entry: None })",
+        Show(Showing { svg: true, html: false, unicode: false, times: Some(\"a.toml\"), beside: None, file: None, entry: None })",
+    "cellctl show --html --beside b.journal --file a.journal|\
+        Show(Showing { svg: false, html: true, unicode: false, times: None, beside: Some(\"b.journal\"), file: Some(\"a.journal\"), entry: None })",
+    "cellctl show --svg 20|Show(Showing { svg: true, html: false, unicode: false, times: None, beside: None, file: None, entry: Some(\"20\") })",
+    "cellctl show|Show(Showing { svg: false, html: false, unicode: false, times: None, beside: None, file: None, entry: None })",
     "cellctl show whole.journal|\
-        Show(Showing { svg: false, html: false, unicode: false, times: None, file: None, entry: Some(\"whole.journal\") })",
+        Show(Showing { svg: false, html: false, unicode: false, times: None, beside: None, file: None, entry: Some(\"whole.journal\") })",
     "cellctl show --file whole.journal|\
-        Show(Showing { svg: false, html: false, unicode: false, times: None, file: Some(\"whole.journal\"), entry: None })",
-    "cellctl show --html --file=20|Show(Showing { svg: false, html: true, unicode: false, times: None, file: Some(\"20\"), entry: None })",
-    "cellctl show -f 20 30|Show(Showing { svg: false, html: false, unicode: false, times: None, file: Some(\"20\"), entry: Some(\"30\") })",
+        Show(Showing { svg: false, html: false, unicode: false, times: None, beside: None, file: Some(\"whole.journal\"), entry: None })",
+    "cellctl show --html --file=20|Show(Showing { svg: false, html: true, unicode: false, times: None, beside: None, file: Some(\"20\"), entry: None })",
+    "cellctl show -f 20 30|Show(Showing { svg: false, html: false, unicode: false, times: None, beside: None, file: Some(\"20\"), entry: Some(\"30\") })",
     "cellctl show --unicode 30 -f20|\
-        Show(Showing { svg: false, html: false, unicode: true, times: None, file: Some(\"20\"), entry: Some(\"30\") })",
+        Show(Showing { svg: false, html: false, unicode: true, times: None, beside: None, file: Some(\"20\"), entry: Some(\"30\") })",
 ];
 
 const EXPLAINED: [&str; 5] = [

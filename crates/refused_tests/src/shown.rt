@@ -1,10 +1,10 @@
 //! Journals that are read for more than their audit, and shown.
 use crate::same::check_same;
-use crate::texts::{PROFILE_1, QUOTED, clearing};
+use crate::texts::{PLAIN, PROFILE_1, QUOTED, clearing};
 use cell_audit::{AuditError, Reading};
 use cell_measures::Durations;
 use cell_samples::{begun, call_begins, call_ends};
-use cell_show::{Form, ShowError, show_journal};
+use cell_show::{Form, ShowError, show_beside, show_journal};
 use plate_book::Book;
 use std::alloc::Global;
 use std::process::Abort;
@@ -98,4 +98,41 @@ fn show_journal_as_chart(rt: HostRuntime) -> Result<(), Fail> {
 #[test]
 fn show_journal_as_page_with_chart(rt: HostRuntime) -> Result<(), Fail> {
     check_show(&rt, Form::TimedPage(Durations::ONE))
+}
+
+// What is written where a journal is shown beside another text, and the answer. Where the call is marked, memory may be refused
+// to it.
+fn beside(alloc: Global, marked: bool) -> Result<(Vec<u8>, Result<u8, ShowError>), Fail> {
+    let text = clearing(alloc, PROFILE_1, QUOTED)?;
+    let other = clearing(alloc, PROFILE_1, PLAIN)?;
+    let mut written = Vec::with_capacity(alloc, ROOM)?;
+    if marked {
+        call_begins(alloc);
+    }
+    let answer = show_beside(
+        alloc,
+        text.as_slice(),
+        other.as_slice(),
+        Form::Page,
+        None,
+        &mut written,
+    );
+    if marked {
+        call_ends(alloc, answer == Ok(4));
+    }
+    Ok((written, answer))
+}
+
+#[test]
+fn show_journal_beside_another(rt: HostRuntime) -> Result<(), Fail> {
+    let (due, status) = beside(rt.alloc(), false)?;
+    check_same(&rt, &"usually", &status, &Ok(0));
+    let (written, answer) = beside(rt.alloc(), true)?;
+    if answer == Ok(4) {
+        assert!(rt; written.is_empty());
+    } else {
+        check_same(&rt, &"the answer", &answer, &Ok(0));
+        check_same(&rt, &"what was shown", &written.as_slice(), &due.as_slice());
+    }
+    Ok(())
 }

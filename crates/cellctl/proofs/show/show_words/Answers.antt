@@ -11,4 +11,9 @@ returns-in_default g c =
 pub returns-in_ok-wrong-in-Loose : goal.returns-in_ok-wrong-in-Loose
 returns-in_ok-wrong-in-Loose g c =
     wrong-told c.in_ok-wrong-in-Loose.field-0 _ c.in_ok-wrong-in-Loose.ensures.status
-    (inr (inr ((refl, refl, codes "--times goes with --svg or --html", c.in_ok-wrong-in-Loose.ensures.line), inr (search rules))))
+    (inr (inr ((refl, refl, codes "--times goes with --svg or --html", c.in_ok-wrong-in-Loose.ensures.line), inr (inl (search rules)))))
+
+pub returns-then-is_alone : goal.returns-then-is_alone
+returns-then-is_alone g c =
+    wrong-told c.in_ok-wrong-2.field-0 _ c.in_ok-wrong-2.ensures.status
+    (inr (inr ((refl, refl, codes "--beside goes with --html", c.in_ok-wrong-2.ensures.line), inr (inr (search rules)))))

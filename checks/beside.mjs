@@ -1,0 +1,85 @@
+// Checks a page of `cellctl show --html --beside OTHER` in a headless browser.
+// Usage: node checks/beside.mjs PAGE PICTURES     checks/page.sh calls it.
+import { writeFileSync } from "node:fs";
+import { pathToFileURL } from "node:url";
+import { ask, check, finish, key, resize, sleep, tell } from "./browser.mjs";
+
+const [page, pictures] = process.argv.slice(2);
+const address = pathToFileURL(page).href;
+
+// In each frame: a value by a function of its document.
+const each = (read) => ask(`[...document.querySelectorAll("iframe")].map((frame) => (${read})(frame.contentDocument))`);
+const entries = () => each('(inner) => Number(inner.getElementById("number").value)');
+const lasts = () => each('(inner) => Number(inner.getElementById("slider").max)');
+const press = (frame, id) => ask(`document.querySelectorAll("iframe")[${frame}].contentDocument.getElementById("${id}").click()`);
+const open = async (hash) => {
+  await tell("Page.navigate", { url: "about:blank" });
+  await tell("Page.navigate", { url: address + hash });
+  for (let i = 0; i < 600; i += 1) {
+    const ready = await each("(inner) => inner?.documentElement?.classList.contains('ready') === true");
+    if (ready.length === 2 && ready.every((is) => is)) break;
+    await sleep(10);
+  }
+  await sleep(200);
+};
+const picture = async (name) => {
+  const { data } = await tell("Page.captureScreenshot", { format: "png" });
+  writeFileSync(`${pictures}/${name}.png`, Buffer.from(data, "base64"));
+};
+
+let ends = [];
+// Both pages after so many entries, the shorter one at its end.
+const both = (i) => ends.map((end) => Math.min(end, Math.max(0, i)));
+const go = async (what, act, wanted) => { await act(); await sleep(100); check(what, await entries(), wanted); };
+const checkTogether = async () => {
+  await open("#entry=2");
+  check("the address opens both", await entries(), both(2));
+  await go("right", () => key("ArrowRight", 39), both(3));
+  await go("page up", () => key("PageUp", 33), both(2));
+  await go("left", () => key("ArrowLeft", 37), both(1));
+  await go("end", () => key("End", 35), both(Math.max(...ends)));
+  await go("right at the end", () => key("ArrowRight", 39), both(Math.max(...ends)));
+  await go("home", () => key("Home", 36), [0, 0]);
+  for (const [move, i] of [["ArrowRight", 1], ["End", Math.max(...ends)], ["ArrowLeft", Math.max(...ends) - 1], ["Home", 0]]) {
+    await go(`the button ${move}`, () => ask(`document.querySelector("[data-move=${move}]").click()`), both(i));
+  }
+  await go("a step in the first page", () => press(0, "forward"), both(1));
+  await go("a step in the second page", () => press(1, "forward"), both(2));
+  await go("the end of the first page", () => press(0, "end"), both(ends[0]));
+  check("the address tells the entry", await ask("location.hash"), "#entry=" + ends[0]);
+};
+const checkAlone = async () => {
+  await open("");
+  await ask("document.getElementById('together').click()");
+  await go("a step in the first page alone", () => press(0, "forward"), [1, 0]);
+  await go("the end of the second page alone", () => press(1, "end"), [1, ends[1]]);
+};
+const checkSizes = async () => {
+  for (const [name, width, height, dark] of [["wide", 1100, 900, false], ["narrow", 390, 844, false], ["dark", 1100, 900, true]]) {
+    await resize(width, height);
+    await tell("Emulation.setEmulatedMedia", { features: [{ name: "prefers-color-scheme", value: dark ? "dark" : "light" }] });
+    await open("#entry=" + Math.max(...ends));
+    check(`${name}: nothing is wider than the window`, await ask("document.documentElement.scrollWidth <= innerWidth"), true);
+    const inner = await each("(inner) => inner.documentElement.scrollWidth <= inner.defaultView.innerWidth");
+    check(`${name}: nothing is wider than its frame`, inner, [true, true]);
+    await picture("beside-" + name);
+  }
+};
+const checkWithoutScripts = async () => {
+  await tell("Emulation.setScriptExecutionDisabled", { value: true });
+  await tell("Page.navigate", { url: address });
+  await sleep(1000);
+  await tell("Emulation.setScriptExecutionDisabled", { value: false });
+  check("without scripts each frame has its picture", await each("(inner) => inner.querySelector('.still svg').getClientRects().length"), [1, 1]);
+  await picture("beside-without-scripts");
+};
+await finish(address, async () => {
+  await open("");
+  check("there are two pages, which begin at the start", await entries(), [0, 0]);
+  ends = await lasts();
+  await checkTogether();
+  await checkAlone();
+  await checkSizes();
+  await checkWithoutScripts();
+  console.log(`two journals of ${ends.join(" and ")} steps: keys, buttons, the switch, sizes and no scripts were tried`);
+});
