@@ -4,7 +4,8 @@
     examples/exercises/check.py NUMBER [FILE]
 
 FILE is the answer; where none is given it is the file `mine` with the ending of the exercise's starting file, in its folder. The
-status is 0 if it is solved, else 1, and a line says what is missing. The last exercise has 42 runs, or with `--all` 126.
+status is 0 if it is solved, else 1, and a line says what is missing. The last exercise has 42 runs, or with `--all` 126. A method's
+run is ended after a minute.
 """
 import argparse
 import concurrent.futures
@@ -72,6 +73,7 @@ def drive(folder, method, faults="/dev/null"):
 
 def need_told(run, when):
     """The method was there when the run ended: it copied what the cell told then. Else there is what it said first."""
+    need(run.get("end") != compare.LATE, f"{when} the run {compare.LATE}")
     said = f'first it said "{run["end"].strip()}", and the commands of TASK.md show the rest' if "end" in run else "it said nothing"
     need(run.get("end") in ENDS, f"{when} the method broke off before the run's end: {said}")
 
@@ -98,7 +100,8 @@ def journal_of(folder, method):
     pipes = '"$1" drive --journal "$2" /dev/null /dev/null < "$0/lines" 2> "$0/journal" | "$3" > "$0/lines" 2> /dev/null'
     with tempfile.TemporaryDirectory() as work:
         os.mkfifo(f"{work}/lines")
-        subprocess.run(["bash", "-c", pipes, work, CELLCTL, folder / "cell.toml", method], stdout=subprocess.DEVNULL)
+        words = ["timeout", str(compare.SECONDS), "bash", "-c", pipes, work, CELLCTL, folder / "cell.toml", method]
+        subprocess.run(words, stdout=subprocess.DEVNULL)
         return Path(work, "journal").read_text().splitlines()
 
 

@@ -19,6 +19,8 @@ import tempfile
 CELLCTL = os.environ.get("CELLCTL", "./cellctl")
 COUNTS = ["delivered", "lost", "rounds", "broken", "refused"]
 SETTINGS = "plates = 6\nturns = 2000\n"
+SECONDS = 60    # so long a run may take; a method that waits for ever is ended then
+LATE = f"took more than {SECONDS} seconds"
 
 
 def words(text):
@@ -59,8 +61,15 @@ def run(method, texts):
     other = subprocess.Popen([method.removeprefix("raw:")], stdin=to_method, stdout=from_method, stderr=subprocess.PIPE, text=True)
     for end in (to_method, from_cell, to_cell, from_method):
         os.close(end)
-    text = other.communicate()[1]
-    cell.wait()
+    try:
+        text = other.communicate(timeout=SECONDS)[1]
+        cell.wait(SECONDS)
+    except subprocess.TimeoutExpired:
+        for each in (other, cell):
+            each.kill()
+        other.communicate()
+        cell.wait()
+        return {"end": LATE}
     return words(text)
 
 
