@@ -10,9 +10,10 @@ says, so that the prover has to refuse them. Usage: checks/edits.sh [changed | a
 It first proves what isn't proved. Then `rt must-fail` tries the edits of several crates side by side, each crate in a room of
 its own, in which they stand in must-fail/, and where there are fewer crates than processors several edits of each. It says of
 each whether it was refused, and by what. edits/TRIED has a line for each edit that was refused: a digest over the edit, the
-file that it changes, the crate's specs and proofs, and what its other files promise. Imports and hints to inline count for
-nothing in it, since they change no meaning."""
+file that it changes, the crate's specs and proofs, and what its other files promise. Comments, hints to inline, where a line
+ends and in which order names are imported count for nothing in it, since they change no meaning."""
 
+import functools
 import hashlib
 import os
 import re
@@ -36,16 +37,49 @@ def edits_of(crate):
     return [f"{folder}/{it}" for it in names if it.endswith(".edit")]
 
 
+def folded(text):
+    """A text as it would be in one line: outside of quotes blanks and line ends are one blank, or none beside a bracket, a comma
+    or a semicolon, and a bracket isn't closed after a comma or a semicolon."""
+    parts = re.split(r"""('(?:[^'\\]|\\.)'|"(?:[^"\\]|\\.)*")""", text)
+    for i in range(0, len(parts), 2):
+        parts[i] = re.sub(r"\s*([][(){},;])\s*", r"\1", re.sub(r"\s+", " ", parts[i]))
+        parts[i] = re.sub(r"[,;](?=[])}])", "", parts[i])
+    return "".join(parts)
+
+
+@functools.cache
 def plain(text):
     """The text of a source file without its imports, its comments and its hints to inline."""
     text = re.sub(r"^(?:ghost )?use [^;]*;\n", "", text, flags=re.MULTILINE)
     text = re.sub(r"^ *//.*\n", "", text, flags=re.MULTILINE)
-    return re.sub(r"^ *#\[(?:cold|inline(?:\((?:always|never)\))?)\]\n", "", text, flags=re.MULTILINE)
+    return folded(re.sub(r"^ *#\[(?:cold|inline(?:\((?:always|never)\))?)\]\n", "", text, flags=re.MULTILINE))
 
 
+def clause_end(text, start):
+    """Where the bracket that opens at a place of a clause is closed; texts in quotes have none."""
+    depth = 0
+    for sign in re.compile(r'"(?:[^"\\]|\\.)*"|[{}]').finditer(text, start):
+        depth += {"{": 1, "}": -1}.get(sign[0], 0)
+        if depth == 0:
+            return sign.end()
+    return len(text)
+
+
+@functools.cache
 def promises(text):
     """What the functions of a source file promise and require."""
-    return "\n".join(line.strip() for line in text.split("\n") if re.match(r" *(?:ensures|requires) ", line))
+    clauses = re.finditer(r"^ *(?:ensures|requires)\b[^{\n]*(?={)", text, re.MULTILINE)
+    return "\n".join(folded(text[it.start() : clause_end(text, it.end())]).strip() for it in clauses)
+
+
+@functools.cache
+def statements(text):
+    """The text of a file of specs or proofs without its comments, and with its imports as one sorted list of names."""
+    imports = re.compile(r"^((?:pub )?use )([^{\n]*)(?:\{([^}]*)\})?.*\n", re.MULTILINE)
+    names = [f"{it[1]}{it[2]}{name}" for it in imports.finditer(text) for name in re.split(r",\s*", (it[3] or "").strip().rstrip(","))]
+    text = folded(re.sub(r"^ *--.*\n", "", imports.sub("", text), flags=re.MULTILINE))
+    # (the layout puts a bar before the first case of a list of cases that stands in several lines)
+    return "\n".join(sorted(map(folded, names))) + re.sub(r"\[\| ?", "[", text)
 
 
 def read(file):
@@ -66,7 +100,9 @@ def digest_of(edit):
     parts = [read(edit)]
     for file in sorted(f"{at}/{it}" for at, _, names in walks for it in names):
         text = read(file)
-        if file.startswith(f"{crate}/src/"):
+        if not file.startswith(f"{crate}/src/"):
+            text = statements(text)
+        else:
             text = plain(text) if file == changed else promises(text)
         parts.append(f"{os.path.relpath(file, crate)}\n{text}")
     return hashlib.sha256("\n".join(parts).encode()).hexdigest()
