@@ -240,6 +240,7 @@ refuse_shown() {
     refuse_words answer_is_right "show" show
     refuse_words answer_is_right "show --svg" show --svg
     refuse_words answer_is_right "show --html" show --html
+    refuse_words answer_is_right "show --html --beside" show --html --beside "$examples/refused.journal"
     refuse_words answer_is_right "explain (a legal journal)" explain
     cp "$examples/refused.journal" "$folder/input"
     refuse_words answer_is_right "explain (a refused journal)" explain
