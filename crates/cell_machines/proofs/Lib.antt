@@ -3,3 +3,4 @@ pub mod Complete
 pub mod Unloading
 pub mod Own
 pub mod Needs
+pub mod UnderWay

@@ -25,29 +25,37 @@ room true ts e h = cc
 room false ts e h = h
 
 -- the first of the tests refuses, or else a later one
-or : (b : Bool) (r : Refusal) (ts : List (Bool × Refusal)) → is_none_or_full (Some r) ≡ false → Refuses ts → Refuses ((b, r) ∷ ts)
+or : (b : Bool) (r : Refusal) (ts : List (Bool × Refusal)) → is_none_or_full (Some r) ≡ false → Refuses ts
+    → Refuses ((b, r) ∷ ts)
 unfolding first_true
 or true r ts e h = e
 or false r ts e h = h
 
 -- the first of the tests holds
-at : (b : Bool) (r : Refusal) (ts : List (Bool × Refusal)) → is_none_or_full (Some r) ≡ false → b ≡ true → Refuses ((b, r) ∷ ts)
+at : (b : Bool) (r : Refusal) (ts : List (Bool × Refusal)) → is_none_or_full (Some r) ≡ false → b ≡ true
+    → Refuses ((b, r) ∷ ts)
 unfolding first_true
 at true r ts e h = e
 at false r ts e h = cc
 
-pub needs_law : (l : BookLimits) (c : Situation) (e : Entry) → lacks_its_need c e ≡ true → is_full l.entries c.entries e ≡ false → is_bookable l c e ≡ false
+pub needs_law : (l : BookLimits) (c : Situation) (e : Entry) → lacks_its_need c e ≡ true
+    → is_full l.entries c.entries e ≡ false → is_bookable l c e ≡ false
 unfolding is_bookable
 needs_law l c (Lamp belt.Feed colour.Red) h f = room _ _ f (or _ _ _ refl (at _ _ _ refl h))
 needs_law l c (Lamp belt.Deposit colour.Red) h f = room _ _ f (or _ _ _ refl (at _ _ _ refl h))
-needs_law l c (Lamp belt.Feed colour.Green) h f = room _ _ f (or _ _ _ refl (or _ _ _ refl (or _ _ _ refl (or _ _ _ refl (at _ _ _ refl h)))))
-needs_law l c (Lamp belt.Deposit colour.Green) h f = room _ _ f (or _ _ _ refl (or _ _ _ refl (or _ _ _ refl (at _ _ _ refl h))))
+needs_law l c (Lamp belt.Feed colour.Green) h f =
+    room _ _ f (or _ _ _ refl (or _ _ _ refl (or _ _ _ refl (or _ _ _ refl (at _ _ _ refl h)))))
+needs_law l c (Lamp belt.Deposit colour.Green) h f =
+    room _ _ f (or _ _ _ refl (or _ _ _ refl (or _ _ _ refl (at _ _ _ refl h))))
 needs_law l c (Yielded machine.Feed z) h f = room _ _ f (or _ _ _ refl (or _ _ _ refl (at _ _ _ refl h)))
-needs_law l c (Yielded machine.Table z) h f = room _ _ f (or _ _ _ refl (or _ _ _ refl (or _ _ _ refl (at _ _ _ refl h))))
-needs_law l c (Yielded machine.Robot z) h f = room _ _ f (or _ _ _ refl (or _ _ _ refl (or _ _ _ refl (at _ _ _ refl h))))
+needs_law l c (Yielded machine.Table z) h f =
+    room _ _ f (or _ _ _ refl (or _ _ _ refl (or _ _ _ refl (at _ _ _ refl h))))
+needs_law l c (Yielded machine.Robot z) h f =
+    room _ _ f (or _ _ _ refl (or _ _ _ refl (or _ _ _ refl (at _ _ _ refl h))))
 needs_law l c (Yielded machine.Press1 z) h f = room _ _ f (or _ _ _ refl (or _ _ _ refl (at _ _ _ refl h)))
 needs_law l c (Yielded machine.Press2 z) h f = room _ _ f (or _ _ _ refl (or _ _ _ refl (at _ _ _ refl h)))
 needs_law l c (Yielded machine.Deposit z) h f = room _ _ f (or _ _ _ refl (or _ _ _ refl (at _ _ _ refl h)))
 needs_law l c (Started axis.FeedBelt pose.ToEnd) h f = room _ _ f (or _ _ _ refl (or _ _ _ refl (at _ _ _ refl h)))
-needs_law l c (Started axis.FeedBelt pose.ToTable) h f = room _ _ f (or _ _ _ refl (or _ _ _ refl (or _ _ _ refl (or _ _ _ refl (or _ _ _ refl (at _ _ _ refl h))))))
+needs_law l c (Started axis.FeedBelt pose.ToTable) h f =
+    room _ _ f (or _ _ _ refl (or _ _ _ refl (or _ _ _ refl (or _ _ _ refl (or _ _ _ refl (at _ _ _ refl h))))))
 needs_law l c _ h f = cc

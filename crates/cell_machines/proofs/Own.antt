@@ -16,21 +16,24 @@ use Rattle.cell_views.specs.Situations.{Situation, situation_of}
 use Rattle.cell_machines.specs.Room.{is_bookable, is_none_or_full}
 use Rattle.cell_machines.specs.Useful.{wants, is_useful_now, is_useful, is_lamp}
 
-own_feed : (l : BookLimits) (c : Situation) (plan : ℕ) (e : Entry) → wants l c plan machine.Feed e ≡ true → machine_of_entry e ≡ Some machine.Feed
+own_feed : (l : BookLimits) (c : Situation) (plan : ℕ) (e : Entry) → wants l c plan machine.Feed e ≡ true
+    → machine_of_entry e ≡ Some machine.Feed
 own_feed l c plan (Lamp belt.Feed to) h = refl
 own_feed l c plan (Started axis.FeedBelt to) h = refl
 own_feed l c plan (Claimed machine.Feed z) h = refl
 own_feed l c plan (Yielded machine.Feed z) h = refl
 own_feed l c plan _ h = cc
 
-own_table : (l : BookLimits) (c : Situation) (plan : ℕ) (e : Entry) → wants l c plan machine.Table e ≡ true → machine_of_entry e ≡ Some machine.Table
+own_table : (l : BookLimits) (c : Situation) (plan : ℕ) (e : Entry) → wants l c plan machine.Table e ≡ true
+    → machine_of_entry e ≡ Some machine.Table
 own_table l c plan (Started axis.TableLift to) h = refl
 own_table l c plan (Started axis.TableTurn to) h = refl
 own_table l c plan (Claimed machine.Table z) h = refl
 own_table l c plan (Yielded machine.Table z) h = refl
 own_table l c plan _ h = cc
 
-own_robot : (l : BookLimits) (c : Situation) (plan : ℕ) (e : Entry) → wants l c plan machine.Robot e ≡ true → machine_of_entry e ≡ Some machine.Robot
+own_robot : (l : BookLimits) (c : Situation) (plan : ℕ) (e : Entry) → wants l c plan machine.Robot e ≡ true
+    → machine_of_entry e ≡ Some machine.Robot
 own_robot l c plan (Started axis.RobotTurn to) h = refl
 own_robot l c plan (Started axis.ArmOne to) h = refl
 own_robot l c plan (Started axis.ArmTwo to) h = refl
@@ -40,26 +43,30 @@ own_robot l c plan (Gripped x k s) h = refl
 own_robot l c plan (Dropped x k s) h = refl
 own_robot l c plan _ h = cc
 
-own_press1 : (l : BookLimits) (c : Situation) (plan : ℕ) (e : Entry) → wants l c plan machine.Press1 e ≡ true → machine_of_entry e ≡ Some machine.Press1
+own_press1 : (l : BookLimits) (c : Situation) (plan : ℕ) (e : Entry) → wants l c plan machine.Press1 e ≡ true
+    → machine_of_entry e ≡ Some machine.Press1
 own_press1 l c plan (Started axis.PressOne to) h = refl
 own_press1 l c plan (Claimed machine.Press1 z) h = refl
 own_press1 l c plan (Yielded machine.Press1 z) h = refl
 own_press1 l c plan _ h = cc
 
-own_press2 : (l : BookLimits) (c : Situation) (plan : ℕ) (e : Entry) → wants l c plan machine.Press2 e ≡ true → machine_of_entry e ≡ Some machine.Press2
+own_press2 : (l : BookLimits) (c : Situation) (plan : ℕ) (e : Entry) → wants l c plan machine.Press2 e ≡ true
+    → machine_of_entry e ≡ Some machine.Press2
 own_press2 l c plan (Started axis.PressTwo to) h = refl
 own_press2 l c plan (Claimed machine.Press2 z) h = refl
 own_press2 l c plan (Yielded machine.Press2 z) h = refl
 own_press2 l c plan _ h = cc
 
-own_deposit : (l : BookLimits) (c : Situation) (plan : ℕ) (e : Entry) → wants l c plan machine.Deposit e ≡ true → machine_of_entry e ≡ Some machine.Deposit
+own_deposit : (l : BookLimits) (c : Situation) (plan : ℕ) (e : Entry) → wants l c plan machine.Deposit e ≡ true
+    → machine_of_entry e ≡ Some machine.Deposit
 own_deposit l c plan (Lamp belt.Deposit to) h = refl
 own_deposit l c plan (Started axis.DepositBelt to) h = refl
 own_deposit l c plan (Claimed machine.Deposit z) h = refl
 own_deposit l c plan (Yielded machine.Deposit z) h = refl
 own_deposit l c plan _ h = cc
 
-own : (l : BookLimits) (c : Situation) (plan : ℕ) (m : Machine) (e : Entry) → wants l c plan m e ≡ true → machine_of_entry e ≡ Some m
+own : (l : BookLimits) (c : Situation) (plan : ℕ) (m : Machine) (e : Entry) → wants l c plan m e ≡ true
+    → machine_of_entry e ≡ Some m
 own l c plan machine.Feed e h = own_feed l c plan e h
 own l c plan machine.Table e h = own_table l c plan e h
 own l c plan machine.Robot e h = own_robot l c plan e h
@@ -80,20 +87,27 @@ none_or_full_is None h = inl refl
 none_or_full_is (Some JournalFull) h = inr refl
 none_or_full_is (Some _) h = cc
 
-pub useful_own : (l : BookLimits) (J : List Entry) (plan : ℕ) (m : Machine) (e : Entry) → is_useful l J plan m e ≡ true → actor_of e ≡ actor.Machine m
+pub useful_own : (l : BookLimits) (J : List Entry) (plan : ℕ) (m : Machine) (e : Entry) → is_useful l J plan m e ≡ true
+    → actor_of e ≡ actor.Machine m
 unfolding is_useful_now
-useful_own l J plan m e h = ap actor_or_operator (own l (situation_of J) plan m e (and_one (wants l (situation_of J) plan m e) (is_bookable l (situation_of J) e) h))
+useful_own l J plan m e h = ap actor_or_operator
+    (own l (situation_of J) plan m e (and_one (wants l (situation_of J) plan m e) (is_bookable l (situation_of J) e) h))
 
-pub useful_bookable : (l : BookLimits) (J : List Entry) (plan : ℕ) (m : Machine) (e : Entry) → is_useful l J plan m e ≡ true → (first_of l J e ≡ None) ⊎ (first_of l J e ≡ Some JournalFull)
+pub useful_bookable : (l : BookLimits) (J : List Entry) (plan : ℕ) (m : Machine) (e : Entry)
+    → is_useful l J plan m e ≡ true → (first_of l J e ≡ None) ⊎ (first_of l J e ≡ Some JournalFull)
 unfolding is_useful_now is_bookable
-useful_bookable l J plan m e h = none_or_full_is (first_of l J e) (and_two (wants l (situation_of J) plan m e) (is_bookable l (situation_of J) e) h)
+useful_bookable l J plan m e h = none_or_full_is (first_of l J e)
+    (and_two (wants l (situation_of J) plan m e) (is_bookable l (situation_of J) e) h)
 
 -- which of a machine's wants depend on the plan
-planless : (l : BookLimits) (c : Situation) (p q : ℕ) (m : Machine) (e : Entry) → is_lamp e ≡ false → wants l c p m e ≡ wants l c q m e
+planless : (l : BookLimits) (c : Situation) (p q : ℕ) (m : Machine) (e : Entry) → is_lamp e ≡ false
+    → wants l c p m e ≡ wants l c q m e
 planless l c p q machine.Feed (Lamp b to) h = cc
 planless l c p q machine.Feed _ h = refl
 planless l c p q _ e h = refl
 
-pub plan_law : (l : BookLimits) (J : List Entry) (p q : ℕ) (m : Machine) (e : Entry) → is_lamp e ≡ false → is_useful l J p m e ≡ is_useful l J q m e
+pub plan_law : (l : BookLimits) (J : List Entry) (p q : ℕ) (m : Machine) (e : Entry) → is_lamp e ≡ false
+    → is_useful l J p m e ≡ is_useful l J q m e
 unfolding is_useful_now
-plan_law l J p q m e h = ap (λ (b : Bool). b && is_bookable l (situation_of J) e) (planless l (situation_of J) p q m e h)
+plan_law l J p q m e h = ap (λ (b : Bool). b && is_bookable l (situation_of J) e)
+    (planless l (situation_of J) p q m e h)

@@ -30,19 +30,23 @@ abbrev pub is_unloaded : Situation → Axis → Station → Bool
 is_unloaded c a s = rests_at c a pose.Bottom && not (c.occupied s)
 
 abbrev pub press1_wants : Situation → Entry → Bool
-press1_wants c (Claimed machine.Press1 zone.Z3) = is_loaded c axis.PressOne station.Press1 || is_unloaded c axis.PressOne station.Press1
+press1_wants c (Claimed machine.Press1 zone.Z3) = is_loaded c axis.PressOne station.Press1
+    || is_unloaded c axis.PressOne station.Press1
 press1_wants c (Started axis.PressOne pose.Top) = is_loaded c axis.PressOne station.Press1
 press1_wants c (Started axis.PressOne pose.Middle) = is_unloaded c axis.PressOne station.Press1
 press1_wants c (Started axis.PressOne pose.Bottom) = rests_at c axis.PressOne pose.Top
-press1_wants c (Yielded machine.Press1 zone.Z3) = is_done c axis.PressOne station.Press1 || is_waiting c axis.PressOne station.Press1
+press1_wants c (Yielded machine.Press1 zone.Z3) = is_done c axis.PressOne station.Press1 || is_waiting c axis.PressOne
+    station.Press1
 press1_wants c _ = false
 
 abbrev pub press2_wants : Situation → Entry → Bool
-press2_wants c (Claimed machine.Press2 zone.Z4) = is_loaded c axis.PressTwo station.Press2 || is_unloaded c axis.PressTwo station.Press2
+press2_wants c (Claimed machine.Press2 zone.Z4) = is_loaded c axis.PressTwo station.Press2
+    || is_unloaded c axis.PressTwo station.Press2
 press2_wants c (Started axis.PressTwo pose.Top) = is_loaded c axis.PressTwo station.Press2
 press2_wants c (Started axis.PressTwo pose.Middle) = is_unloaded c axis.PressTwo station.Press2
 press2_wants c (Started axis.PressTwo pose.Bottom) = rests_at c axis.PressTwo pose.Top
-press2_wants c (Yielded machine.Press2 zone.Z4) = is_done c axis.PressTwo station.Press2 || is_waiting c axis.PressTwo station.Press2
+press2_wants c (Yielded machine.Press2 zone.Z4) = is_done c axis.PressTwo station.Press2 || is_waiting c axis.PressTwo
+    station.Press2
 press2_wants c _ = false
 
 -- what a press may ever want, each entry with whether it is wanted

@@ -63,7 +63,8 @@ is_drawn_in c = rests_at c axis.ArmOne pose.In && (rests_at c axis.ArmTwo pose.I
 
 unfoldable pub holds_a_zone : Situation → Bool
 holds_a_zone c =
-    is_robots c zone.Z1 || (is_robots c zone.Z2 || (is_robots c zone.Z3 || (is_robots c zone.Z4 || is_robots c zone.Z5)))
+    is_robots c zone.Z1 || (is_robots c zone.Z2
+    || (is_robots c zone.Z3 || (is_robots c zone.Z4 || is_robots c zone.Z5)))
 
 -- the turn is where this arm has a job, and the robot holds its zone
 unfoldable pub is_at_job : Situation → Arm → Bool

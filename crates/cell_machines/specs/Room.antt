@@ -33,8 +33,8 @@ is_of_room _ = false
 unfoldable pub is_refused_otherwise : BookLimits → Situation → Entry → Bool
 is_refused_otherwise l c e = list_any (λ (t : Bool × Refusal). not (is_of_room t.1) && t.0) (tests l c e)
 
--- one look at the cell refuses the entry: the zone that is given up, or to which a plate would go, isn't held; the light has
--- that colour; or there is no plate to carry on
+-- one look at the cell refuses the entry: the zone that is given up, or to which a plate would go, isn't held; the
+-- light has that colour; or there is no plate to carry on
 abbrev pub lacks_its_need : Situation → Entry → Bool
 lacks_its_need c (Lamp b to) = same_colour (c.lamp b) to
 lacks_its_need c (Yielded m z) = not (is_machine m (c.holder z))

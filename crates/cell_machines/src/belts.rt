@@ -11,7 +11,7 @@ ghost use Rattle.cell_machines.specs.Deposit.{is_to_convey};
 ghost use Rattle.cell_machines.specs.Candidates.{rows, first_bookable};
 
 use crate::entries::{claimed, lamp, started, yielded};
-use crate::rows::{any_of, first_bookable, is_moving};
+use crate::rows::{any_of, first_bookable, is_moving, is_next};
 use cell_policy::{
     deposit_light_wanted, feed_light_wanted, is_at_rest, is_held_by, is_occupied, rests_at,
 };
@@ -31,7 +31,8 @@ fn is_table_waiting(book: &Book) -> bool
 /// Whether something other than the journal's room keeps the feed belt from going to the table.
 #[tactic(auto, unfolding(crate::specs::Room::is_refused_otherwise))]
 fn is_way_to_table_shut(book: &Book) -> bool
-    ensures { result ≡ is_refused_otherwise book.now.limits (situation_of book.now.entries) (Started axes.FeedBelt poses.ToTable) }
+    ensures { result ≡ is_refused_otherwise book.now.limits (situation_of book.now.entries)
+        (Started axes.FeedBelt poses.ToTable) }
 {
     any_of(&[
         book.failed(Machine::Feed),
@@ -46,22 +47,20 @@ fn is_way_to_table_shut(book: &Book) -> bool
 }
 
 /// What Feed does next. It gives the table's zone up before it asks for another plate.
-#[tactic(auto, unfolding(crate::specs::Candidates::rows, crate::specs::Candidates::candidates))]
+#[tactic(auto, unfolding(crate::specs::Candidates::rows, crate::specs::Candidates::candidates, crate::specs::Candidates::first_bookable))]
 pub fn propose_feed(book: &Book, plan: u32) -> Option<Entry>
-    ensures { result ≡ first_bookable book.now.limits (situation_of book.now.entries) (rows book.now.limits (situation_of book.now.entries) plan machines.Feed) }
+    ensures { result ≡ first_bookable book.now.limits (situation_of book.now.entries)
+        (rows book.now.limits (situation_of book.now.entries) plan machines.Feed) }
 {
     let light = feed_light_wanted(book, plan);
-    first_bookable(
-        book,
-        &[
-            (is_way_to_table_shut(book), yielded(Machine::Feed, Zone::Z1)),
-            (true, started(Axis::FeedBelt, Pose::ToTable)),
-            (true, started(Axis::FeedBelt, Pose::ToEnd)),
-            (is_table_waiting(book), claimed(Machine::Feed, Zone::Z1)),
-            (Colour::Red == light, lamp(Belt::Feed, Colour::Red)),
-            (Colour::Green == light, lamp(Belt::Feed, Colour::Green)),
-        ],
-    )
+    first_bookable! { book;
+        is_way_to_table_shut(book) => yielded(Machine::Feed, Zone::Z1),
+        true => started(Axis::FeedBelt, Pose::ToTable),
+        true => started(Axis::FeedBelt, Pose::ToEnd),
+        is_table_waiting(book) => claimed(Machine::Feed, Zone::Z1),
+        Colour::Red == light => lamp(Belt::Feed, Colour::Red),
+        Colour::Green == light => lamp(Belt::Feed, Colour::Green),
+    }
 }
 
 fn is_to_convey(book: &Book) -> bool
@@ -73,20 +72,18 @@ fn is_to_convey(book: &Book) -> bool
 }
 
 /// What Deposit does next. It gives its zone up to the robot before it asks for its plate to be taken.
-#[tactic(auto, unfolding(crate::specs::Candidates::rows, crate::specs::Candidates::candidates))]
+#[tactic(auto, unfolding(crate::specs::Candidates::rows, crate::specs::Candidates::candidates, crate::specs::Candidates::first_bookable))]
 pub fn propose_deposit(book: &Book, plan: u32) -> Option<Entry>
-    ensures { result ≡ first_bookable book.now.limits (situation_of book.now.entries) (rows book.now.limits (situation_of book.now.entries) plan machines.Deposit) }
+    ensures { result ≡ first_bookable book.now.limits (situation_of book.now.entries)
+        (rows book.now.limits (situation_of book.now.entries) plan machines.Deposit) }
 {
     let light = deposit_light_wanted(book);
     let convey = is_to_convey(book);
-    first_bookable(
-        book,
-        &[
-            (!convey, yielded(Machine::Deposit, Zone::Z5)),
-            (convey, started(Axis::DepositBelt, Pose::ToEnd)),
-            (convey, claimed(Machine::Deposit, Zone::Z5)),
-            (Colour::Red == light, lamp(Belt::Deposit, Colour::Red)),
-            (Colour::Green == light, lamp(Belt::Deposit, Colour::Green)),
-        ],
-    )
+    first_bookable! { book;
+        !convey => yielded(Machine::Deposit, Zone::Z5),
+        convey => started(Axis::DepositBelt, Pose::ToEnd),
+        convey => claimed(Machine::Deposit, Zone::Z5),
+        Colour::Red == light => lamp(Belt::Deposit, Colour::Red),
+        Colour::Green == light => lamp(Belt::Deposit, Colour::Green),
+    }
 }

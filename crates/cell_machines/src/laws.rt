@@ -19,21 +19,27 @@ ghost use Rattle.cell_machines.specs.Useful.{is_useful, is_lamp};
 /// A useful entry is the machine's own.
 #[tactic(auto, using(crate::proofs::Own::useful_own))]
 pub fn useful_is_own()
-    ensures { (l : BookLimits) (J : List Entry) (plan : ℕ) (m : Machine) (e : Entry) → is_useful l J plan m e ≡ true → actor_of e ≡ actors.Machine m }
+    ensures { (l : BookLimits) (J : List Entry) (plan : ℕ) (m : Machine) (e : Entry) → is_useful l J plan m e ≡ true
+        → actor_of e ≡ actors.Machine m }
 {}
 
 /// A useful entry is refused for nothing but the journal's room.
 pub fn useful_is_bookable()
-    ensures { (l : BookLimits) (J : List Entry) (plan : ℕ) (m : Machine) (e : Entry) → is_useful l J plan m e ≡ true → (first_of l J e ≡ None) ⊎ (first_of l J e ≡ Some JournalFull) }
+    ensures { (l : BookLimits) (J : List Entry) (plan : ℕ) (m : Machine) (e : Entry) → is_useful l J plan m e ≡ true
+        → (first_of l J e ≡ None) ⊎ (first_of l J e ≡ Some JournalFull) }
 {}
 
 /// The number of plates that are to be admitted matters for lights alone.
 #[tactic(auto, using(crate::proofs::Own::plan_law))]
 pub fn plan_is_for_lights()
-    ensures { (l : BookLimits) (J : List Entry) (p q : ℕ) (m : Machine) (e : Entry) → is_lamp e ≡ false → is_useful l J p m e ≡ is_useful l J q m e }
+    ensures { (l : BookLimits) (J : List Entry) (p q : ℕ) (m : Machine) (e : Entry) → is_lamp e ≡ false
+        → is_useful l J p m e ≡ is_useful l J q m e }
 {}
 
 /// An arm that is useful to draw in has no useful grip and no useful drop, of any plate at any station.
 pub fn arms_are_drawn_in_last()
-    ensures { (l : BookLimits) (J : List Entry) (plan : ℕ) (x : Arm) → is_useful l J plan machines.Robot (Started (axis_of_arm x) poses.In) ≡ true → (k : ℕ) (s : Station) → (is_useful l J plan machines.Robot (Gripped x k s) ≡ false) × (is_useful l J plan machines.Robot (Dropped x k s) ≡ false) }
+    ensures { (l : BookLimits) (J : List Entry) (plan : ℕ) (x : Arm)
+        → is_useful l J plan machines.Robot (Started (axis_of_arm x) poses.In) ≡ true → (k : ℕ) (s : Station)
+        → (is_useful l J plan machines.Robot (Gripped x k s) ≡ false)
+        × (is_useful l J plan machines.Robot (Dropped x k s) ≡ false) }
 {}

@@ -5,7 +5,7 @@ ghost use Rattle.cell_machines.specs.Presses.{is_loaded, is_waiting, is_done, is
 ghost use Rattle.cell_machines.specs.Candidates.{first_bookable};
 
 use crate::entries::{claimed, started, yielded};
-use crate::rows::first_bookable;
+use crate::rows::{first_bookable, is_next};
 use cell_policy::{is_occupied, rests_at};
 use cell_types::{Axis, Entry, Pose, Press, Station};
 use plate_book::Book;
@@ -39,9 +39,10 @@ fn is_unloaded(book: &Book, axis: Axis, station: Station) -> bool
 }
 
 /// What a press does next.
-#[tactic(auto, unfolding(crate::specs::Presses::press_rows))]
+#[tactic(auto, unfolding(crate::specs::Presses::press_rows, crate::specs::Candidates::first_bookable))]
 pub fn propose_press(book: &Book, press: Press) -> Option<Entry>
-    ensures { result ≡ first_bookable book.now.limits (situation_of book.now.entries) (press_rows (situation_of book.now.entries) press) }
+    ensures { result ≡ first_bookable book.now.limits (situation_of book.now.entries)
+        (press_rows (situation_of book.now.entries) press) }
 {
     let Press {
         machine,
@@ -53,14 +54,11 @@ pub fn propose_press(book: &Book, press: Press) -> Option<Entry>
     let unloaded = is_unloaded(book, axis, station);
     let forged = rests_at(book, axis, Pose::Top);
     let ready = is_done(book, axis, station) || is_waiting(book, axis, station);
-    first_bookable(
-        book,
-        &[
-            (ready, yielded(machine, zone)),
-            (loaded, started(axis, Pose::Top)),
-            (forged, started(axis, Pose::Bottom)),
-            (unloaded, started(axis, Pose::Middle)),
-            (loaded || unloaded, claimed(machine, zone)),
-        ],
-    )
+    first_bookable! { book;
+        ready => yielded(machine, zone),
+        loaded => started(axis, Pose::Top),
+        forged => started(axis, Pose::Bottom),
+        unloaded => started(axis, Pose::Middle),
+        loaded || unloaded => claimed(machine, zone),
+    }
 }

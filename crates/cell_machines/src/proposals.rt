@@ -15,7 +15,8 @@ use plate_book::Book;
 #[tactic(auto, unfolding(crate::specs::Candidates::rows, crate::specs::Candidates::candidates, crate::specs::Presses::press_rows))]
 #[inline(always)]
 fn first_of_all(machine: Machine, book: &Book, plan: u32) -> Option<Entry>
-    ensures { result ≡ first_bookable book.now.limits (situation_of book.now.entries) (rows book.now.limits (situation_of book.now.entries) plan machine) }
+    ensures { result ≡ first_bookable book.now.limits (situation_of book.now.entries)
+        (rows book.now.limits (situation_of book.now.entries) plan machine) }
 {
     match machine {
         Machine::Feed => propose_feed(book, plan),

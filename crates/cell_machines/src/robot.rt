@@ -10,12 +10,14 @@ ghost use Rattle.cell_views.specs.Views.{plate_of};
 ghost use Rattle.cell_views.specs.Situations.{situation_of};
 ghost use Rattle.plate_book.specs.Rules.First.{is_faced, faces};
 ghost use Rattle.cell_machines.specs.Jobs.{has_job, has_job_in, is_to_enter, is_robots, holds_zone_at};
-ghost use Rattle.cell_machines.specs.Robot.{is_out, is_out_at, of_plate, handings, has_handing, is_to_draw_in, is_drawn_in, holds_a_zone, is_at_job};
-ghost use Rattle.cell_machines.specs.Candidates.{first_bookable, handing_row, robot_row, arms_in, yields, arms_out, turns, claims, unloads, candidates};
+ghost use Rattle.cell_machines.specs.Robot.{is_out, is_out_at, of_plate, handings, has_handing, is_to_draw_in};
+ghost use Rattle.cell_machines.specs.Robot.{is_drawn_in, holds_a_zone, is_at_job};
+ghost use Rattle.cell_machines.specs.Candidates.{first_bookable, handing_row, robot_row, arms_in, yields, arms_out};
+ghost use Rattle.cell_machines.specs.Candidates.{turns, claims, unloads, candidates};
 
 use crate::entries::{claimed, started, yielded};
 use crate::jobs::{has_job, has_job_in, holds_zone_at, is_robots, is_to_enter, works_at};
-use crate::rows::first_bookable;
+use crate::rows::{first_bookable, if_next, is_next};
 use cell_policy::{is_at_rest, rests_at};
 use cell_types::{
     Arm, Axis, Entry, Machine, Pose, Station, Zone, axis_of_arm, faced, station_of_arm,
@@ -83,19 +85,19 @@ fn is_out_at(book: &Book, arm: Arm, station: Station) -> bool
 #[tactic(auto, using(crate::proofs::Handings::grip_law, crate::proofs::Handings::no_plate))]
 fn grip(book: &Book, arm: Arm, station: Station) -> Option<Entry>
     requires { grips_at arm station ≡ true }
-    ensures { result ≡ first_bookable book.now.limits (situation_of book.now.entries) (map (handing_row (situation_of book.now.entries)) (of_plate (λ k. Gripped arm k station) (plate_of book.now.entries station))) }
+    ensures { result ≡ first_bookable book.now.limits (situation_of book.now.entries)
+        (map (handing_row (situation_of book.now.entries))
+        (of_plate (λ k. Gripped arm k station) (plate_of book.now.entries station))) }
 {
     match book.plate_at(station) {
-        Some(plate) => first_bookable(
+        Some(plate) => if_next(
             book,
-            &[(
-                is_out_at(book, arm, station),
-                Entry::Gripped {
-                    arm,
-                    plate,
-                    src: station,
-                },
-            )],
+            is_out_at(book, arm, station),
+            Entry::Gripped {
+                arm,
+                plate,
+                src: station,
+            },
         ),
         None => None,
     }
@@ -105,19 +107,19 @@ fn grip(book: &Book, arm: Arm, station: Station) -> Option<Entry>
 #[tactic(auto, using(crate::proofs::Handings::drop_law, crate::proofs::Handings::no_plate))]
 fn drop_at(book: &Book, arm: Arm, station: Station) -> Option<Entry>
     requires { drops_at arm station ≡ true }
-    ensures { result ≡ first_bookable book.now.limits (situation_of book.now.entries) (map (handing_row (situation_of book.now.entries)) (of_plate (λ k. Dropped arm k station) (plate_of book.now.entries (station_of_arm arm)))) }
+    ensures { result ≡ first_bookable book.now.limits (situation_of book.now.entries)
+        (map (handing_row (situation_of book.now.entries))
+        (of_plate (λ k. Dropped arm k station) (plate_of book.now.entries (station_of_arm arm)))) }
 {
     match book.plate_at(station_of_arm(arm)) {
-        Some(plate) => first_bookable(
+        Some(plate) => if_next(
             book,
-            &[(
-                is_out_at(book, arm, station),
-                Entry::Dropped {
-                    arm,
-                    plate,
-                    dest: station,
-                },
-            )],
+            is_out_at(book, arm, station),
+            Entry::Dropped {
+                arm,
+                plate,
+                dest: station,
+            },
         ),
         None => None,
     }
@@ -125,7 +127,8 @@ fn drop_at(book: &Book, arm: Arm, station: Station) -> Option<Entry>
 
 #[tactic(auto, using(crate::proofs::Handings::handings1_law))]
 fn hand_by_arm1(book: &Book) -> Option<Entry>
-    ensures { result ≡ first_bookable book.now.limits (situation_of book.now.entries) (map (handing_row (situation_of book.now.entries)) (handings (situation_of book.now.entries) arms.Arm1)) }
+    ensures { result ≡ first_bookable book.now.limits (situation_of book.now.entries)
+        (map (handing_row (situation_of book.now.entries)) (handings (situation_of book.now.entries) arms.Arm1)) }
 {
     let to_press1 = drop_at(book, Arm::Arm1, Station::Press1);
     let to_press2 = drop_at(book, Arm::Arm1, Station::Press2);
@@ -134,7 +137,8 @@ fn hand_by_arm1(book: &Book) -> Option<Entry>
 
 #[tactic(auto, using(crate::proofs::Handings::handings2_law))]
 fn hand_by_arm2(book: &Book) -> Option<Entry>
-    ensures { result ≡ first_bookable book.now.limits (situation_of book.now.entries) (map (handing_row (situation_of book.now.entries)) (handings (situation_of book.now.entries) arms.Arm2)) }
+    ensures { result ≡ first_bookable book.now.limits (situation_of book.now.entries)
+        (map (handing_row (situation_of book.now.entries)) (handings (situation_of book.now.entries) arms.Arm2)) }
 {
     let from_press2 = grip(book, Arm::Arm2, Station::Press2);
     let to_belt = drop_at(book, Arm::Arm2, Station::DepIn);
@@ -143,7 +147,8 @@ fn hand_by_arm2(book: &Book) -> Option<Entry>
 
 /// The grip or drop that an arm can do.
 fn hand(book: &Book, arm: Arm) -> Option<Entry>
-    ensures { result ≡ first_bookable book.now.limits (situation_of book.now.entries) (map (handing_row (situation_of book.now.entries)) (handings (situation_of book.now.entries) arm)) }
+    ensures { result ≡ first_bookable book.now.limits (situation_of book.now.entries)
+        (map (handing_row (situation_of book.now.entries)) (handings (situation_of book.now.entries) arm)) }
 {
     match arm {
         Arm::Arm1 => hand_by_arm1(book),
@@ -164,180 +169,129 @@ fn is_to_draw_in(book: &Book, arm: Arm) -> bool
     is_out(book, arm) && !has_handing(book, arm)
 }
 
+#[tactic(auto, unfolding(crate::specs::Candidates::first_bookable))]
 fn draw_in(book: &Book) -> Option<Entry>
-    ensures { result ≡ first_bookable book.now.limits (situation_of book.now.entries) (map (robot_row book.now.limits (situation_of book.now.entries)) arms_in) }
+    ensures { result ≡ first_bookable book.now.limits (situation_of book.now.entries)
+        (map (robot_row book.now.limits (situation_of book.now.entries)) arms_in) }
 {
-    first_bookable(
-        book,
-        &[
-            (
-                is_to_draw_in(book, Arm::Arm1),
-                started(Axis::ArmOne, Pose::In),
-            ),
-            (
-                is_to_draw_in(book, Arm::Arm2),
-                started(Axis::ArmTwo, Pose::In),
-            ),
-        ],
-    )
+    first_bookable! { book;
+        is_to_draw_in(book, Arm::Arm1) => started(Axis::ArmOne, Pose::In),
+        is_to_draw_in(book, Arm::Arm2) => started(Axis::ArmTwo, Pose::In),
+    }
 }
 
 fn is_to_yield(book: &Book, zone: Zone) -> bool
-    ensures { result ≡ (is_drawn_in (situation_of book.now.entries) && (is_robots (situation_of book.now.entries) zone && not (has_job_in (situation_of book.now.entries) zone))) }
+    ensures { result ≡ (is_drawn_in (situation_of book.now.entries)
+        && (is_robots (situation_of book.now.entries) zone && not (has_job_in (situation_of book.now.entries) zone))) }
 {
     is_drawn_in(book) && is_robots(book, zone) && !has_job_in(book, zone)
 }
 
+#[tactic(auto, unfolding(crate::specs::Candidates::first_bookable))]
 fn yield_one(book: &Book) -> Option<Entry>
-    ensures { result ≡ first_bookable book.now.limits (situation_of book.now.entries) (map (robot_row book.now.limits (situation_of book.now.entries)) yields) }
+    ensures { result ≡ first_bookable book.now.limits (situation_of book.now.entries)
+        (map (robot_row book.now.limits (situation_of book.now.entries)) yields) }
 {
-    first_bookable(
-        book,
-        &[
-            (
-                is_to_yield(book, Zone::Z1),
-                yielded(Machine::Robot, Zone::Z1),
-            ),
-            (
-                is_to_yield(book, Zone::Z2),
-                yielded(Machine::Robot, Zone::Z2),
-            ),
-            (
-                is_to_yield(book, Zone::Z3),
-                yielded(Machine::Robot, Zone::Z3),
-            ),
-            (
-                is_to_yield(book, Zone::Z4),
-                yielded(Machine::Robot, Zone::Z4),
-            ),
-            (
-                is_to_yield(book, Zone::Z5),
-                yielded(Machine::Robot, Zone::Z5),
-            ),
-        ],
-    )
+    first_bookable! { book;
+        is_to_yield(book, Zone::Z1) => yielded(Machine::Robot, Zone::Z1),
+        is_to_yield(book, Zone::Z2) => yielded(Machine::Robot, Zone::Z2),
+        is_to_yield(book, Zone::Z3) => yielded(Machine::Robot, Zone::Z3),
+        is_to_yield(book, Zone::Z4) => yielded(Machine::Robot, Zone::Z4),
+        is_to_yield(book, Zone::Z5) => yielded(Machine::Robot, Zone::Z5),
+    }
 }
 
+#[tactic(auto, unfolding(crate::specs::Candidates::first_bookable))]
 fn reach_out(book: &Book) -> Option<Entry>
-    ensures { result ≡ first_bookable book.now.limits (situation_of book.now.entries) (map (robot_row book.now.limits (situation_of book.now.entries)) arms_out) }
+    ensures { result ≡ first_bookable book.now.limits (situation_of book.now.entries)
+        (map (robot_row book.now.limits (situation_of book.now.entries)) arms_out) }
 {
     let drawn_in = is_drawn_in(book);
-    first_bookable(
-        book,
-        &[
-            (
-                drawn_in && is_at_job(book, Arm::Arm1),
-                started(Axis::ArmOne, Pose::Out),
-            ),
-            (
-                drawn_in && is_at_job(book, Arm::Arm2),
-                started(Axis::ArmTwo, Pose::Out),
-            ),
-        ],
-    )
+    first_bookable! { book;
+        drawn_in && is_at_job(book, Arm::Arm1) => started(Axis::ArmOne, Pose::Out),
+        drawn_in && is_at_job(book, Arm::Arm2) => started(Axis::ArmTwo, Pose::Out),
+    }
 }
 
 /// Whether the robot turns to a pose.
 fn is_to_turn(book: &Book, pose: Pose) -> bool
-    ensures { result ≡ (has_job (situation_of book.now.entries) pose && (holds_zone_at (situation_of book.now.entries) pose && (is_drawn_in (situation_of book.now.entries) && not (same_pose ((situation_of book.now.entries).at axes.RobotTurn) pose)))) }
+    ensures { result ≡ (has_job (situation_of book.now.entries) pose
+        && (holds_zone_at (situation_of book.now.entries) pose
+        && (is_drawn_in (situation_of book.now.entries)
+        && not (same_pose ((situation_of book.now.entries).at axes.RobotTurn) pose)))) }
 {
     let is_there = book.pose(Axis::RobotTurn).at == pose;
     has_job(book, pose) && holds_zone_at(book, pose) && is_drawn_in(book) && !is_there
 }
 
+#[tactic(auto, unfolding(crate::specs::Candidates::first_bookable))]
 fn turn(book: &Book) -> Option<Entry>
-    ensures { result ≡ first_bookable book.now.limits (situation_of book.now.entries) (map (robot_row book.now.limits (situation_of book.now.entries)) turns) }
+    ensures { result ≡ first_bookable book.now.limits (situation_of book.now.entries)
+        (map (robot_row book.now.limits (situation_of book.now.entries)) turns) }
 {
-    first_bookable(
-        book,
-        &[
-            (
-                is_to_turn(book, Pose::Table1),
-                started(Axis::RobotTurn, Pose::Table1),
-            ),
-            (
-                is_to_turn(book, Pose::P1Load),
-                started(Axis::RobotTurn, Pose::P1Load),
-            ),
-            (
-                is_to_turn(book, Pose::P1Unload),
-                started(Axis::RobotTurn, Pose::P1Unload),
-            ),
-            (
-                is_to_turn(book, Pose::P2Load),
-                started(Axis::RobotTurn, Pose::P2Load),
-            ),
-            (
-                is_to_turn(book, Pose::P2Unload),
-                started(Axis::RobotTurn, Pose::P2Unload),
-            ),
-            (
-                is_to_turn(book, Pose::Deposit2),
-                started(Axis::RobotTurn, Pose::Deposit2),
-            ),
-        ],
-    )
+    first_bookable! { book;
+        is_to_turn(book, Pose::Table1) => started(Axis::RobotTurn, Pose::Table1),
+        is_to_turn(book, Pose::P1Load) => started(Axis::RobotTurn, Pose::P1Load),
+        is_to_turn(book, Pose::P1Unload) => started(Axis::RobotTurn, Pose::P1Unload),
+        is_to_turn(book, Pose::P2Load) => started(Axis::RobotTurn, Pose::P2Load),
+        is_to_turn(book, Pose::P2Unload) => started(Axis::RobotTurn, Pose::P2Unload),
+        is_to_turn(book, Pose::Deposit2) => started(Axis::RobotTurn, Pose::Deposit2),
+    }
 }
 
 fn is_to_claim(book: &Book, zone: Zone) -> bool
-    ensures { result ≡ (is_to_enter (situation_of book.now.entries) zone && (is_drawn_in (situation_of book.now.entries) && not (holds_a_zone (situation_of book.now.entries)))) }
+    ensures { result ≡ (is_to_enter (situation_of book.now.entries) zone
+        && (is_drawn_in (situation_of book.now.entries) && not (holds_a_zone (situation_of book.now.entries)))) }
 {
     is_to_enter(book, zone) && is_drawn_in(book) && !holds_a_zone(book)
 }
 
 /// The claim of a zone with a job: first to lay a forged plate down, then to load a press, then to fetch a plate.
+#[tactic(auto, unfolding(crate::specs::Candidates::first_bookable))]
 fn claim(book: &Book) -> Option<Entry>
-    ensures { result ≡ first_bookable book.now.limits (situation_of book.now.entries) (map (robot_row book.now.limits (situation_of book.now.entries)) claims) }
+    ensures { result ≡ first_bookable book.now.limits (situation_of book.now.entries)
+        (map (robot_row book.now.limits (situation_of book.now.entries)) claims) }
 {
-    first_bookable(
-        book,
-        &[
-            (
-                is_to_claim(book, Zone::Z5),
-                claimed(Machine::Robot, Zone::Z5),
-            ),
-            (
-                is_to_claim(book, Zone::Z3),
-                claimed(Machine::Robot, Zone::Z3),
-            ),
-            (
-                is_to_claim(book, Zone::Z4),
-                claimed(Machine::Robot, Zone::Z4),
-            ),
-            (
-                is_to_claim(book, Zone::Z2),
-                claimed(Machine::Robot, Zone::Z2),
-            ),
-        ],
-    )
+    first_bookable! { book;
+        is_to_claim(book, Zone::Z5) => claimed(Machine::Robot, Zone::Z5),
+        is_to_claim(book, Zone::Z3) => claimed(Machine::Robot, Zone::Z3),
+        is_to_claim(book, Zone::Z4) => claimed(Machine::Robot, Zone::Z4),
+        is_to_claim(book, Zone::Z2) => claimed(Machine::Robot, Zone::Z2),
+    }
 }
 
 /// The claim of a press that is to be unloaded, which the robot prefers to all others.
-#[tactic(auto, unfolding(crate::specs::Candidates::unloads))]
+#[tactic(auto, unfolding(crate::specs::Candidates::unloads, crate::specs::Candidates::first_bookable))]
 pub fn claim_to_unload(book: &Book) -> Option<Entry>
-    ensures { result ≡ first_bookable book.now.limits (situation_of book.now.entries) (unloads (situation_of book.now.entries)) }
+    ensures { result ≡ first_bookable book.now.limits (situation_of book.now.entries)
+        (unloads (situation_of book.now.entries)) }
 {
     let free = is_drawn_in(book) && !holds_a_zone(book);
-    first_bookable(
-        book,
-        &[
-            (
-                has_job(book, Pose::P1Unload) && free,
-                claimed(Machine::Robot, Zone::Z3),
-            ),
-            (
-                has_job(book, Pose::P2Unload) && free,
-                claimed(Machine::Robot, Zone::Z4),
-            ),
-        ],
-    )
+    first_bookable! { book;
+        has_job(book, Pose::P1Unload) && free => claimed(Machine::Robot, Zone::Z3),
+        has_job(book, Pose::P2Unload) && free => claimed(Machine::Robot, Zone::Z4),
+    }
+}
+
+/// Whether the robot is under way: an arm or the turn moves, and no arm is out. Then it wants nothing.
+fn is_under_way(book: &Book) -> bool
+    ensures { result ≡ (not (is_drawn_in (situation_of book.now.entries))
+        && (not (is_out (situation_of book.now.entries) arms.Arm1)
+        && not (is_out (situation_of book.now.entries) arms.Arm2))) }
+{
+    !is_drawn_in(book) && !is_out(book, Arm::Arm1) && !is_out(book, Arm::Arm2)
 }
 
 /// What the robot does next: a grip or drop, an arm's way back, a zone given up, an arm's way out, a turn, or a claim.
-#[tactic(auto, using(crate::proofs::Handings::robot_law))]
+#[tactic(auto, using(crate::proofs::Handings::robot_law, crate::proofs::UnderWay::under_way_law))]
 pub fn propose_robot(book: &Book) -> Option<Entry>
-    ensures { result ≡ first_bookable book.now.limits (situation_of book.now.entries) (map (robot_row book.now.limits (situation_of book.now.entries)) (candidates (situation_of book.now.entries) machines.Robot)) }
+    ensures { result ≡ first_bookable book.now.limits (situation_of book.now.entries)
+        (map (robot_row book.now.limits (situation_of book.now.entries))
+        (candidates (situation_of book.now.entries) machines.Robot)) }
 {
+    if is_under_way(book) {
+        return None;
+    }
     hand_by_arm1(book).or(hand_by_arm2(book).or(draw_in(book).or(yield_one(book).or(reach_out(
         book,
     ).or(turn(book).or(claim(book)))))))

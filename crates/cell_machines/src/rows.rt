@@ -1,5 +1,5 @@
 //! The first entry of a list that is wanted and bookable.
-ghost use Rattle.std.specs.Prelude.{◌≡◌, Bool, true, false, is_some};
+ghost use Rattle.std.specs.Prelude.{◌≡◌, ◌&&◌, [], ◌∷◌, Bool, true, false, is_some};
 ghost use Rattle.std.specs.List.{list_any};
 ghost use Rattle.cell_views.specs.Situations.{situation_of};
 ghost use Rattle.cell_machines.specs.Room.{is_bookable, lacks_its_need};
@@ -9,8 +9,8 @@ use cell_policy::{is_held_by, is_occupied};
 use cell_types::{Axis, Entry, Machine, Pose, Station, Zone};
 use plate_book::{Book, Refusal};
 
-/// Whether one look at the book refuses an entry: the zone that is given up isn't held, the light has that colour already, or
-/// the feed belt has no plate to carry on, or may not carry it to the table.
+/// Whether one look at the book refuses an entry: the zone that is given up isn't held, the light has that colour
+/// already, or the feed belt has no plate to carry on, or may not carry it to the table.
 #[inline(always)]
 fn lacks_its_need(book: &Book, entry: &Entry) -> bool
     ensures { result ≡ lacks_its_need (situation_of book.now.entries) entry.now }
@@ -30,11 +30,10 @@ fn lacks_its_need(book: &Book, entry: &Entry) -> bool
     }
 }
 
-/// Whether one look at the book tells that an entry isn't bookable, which spares most calls of `allows`. At a full journal none
-/// is out of question, since every entry is then refused for the room alone.
+/// Whether one look at the book tells that an entry isn't bookable, which spares most calls of `allows`. At a full
+/// journal none is out of question, since every entry is then refused for the room alone.
 #[tactic(auto, using(crate::proofs::Needs::needs_law))]
-// A call of its own, so that the loops over rows stay small and are unrolled where the rows stand.
-#[inline(never)]
+#[inline(always)]
 fn is_out_of_question(book: &Book, entry: &Entry) -> bool
     ensures { result ≡ true → is_bookable book.now.limits (situation_of book.now.entries) entry.now ≡ false }
 {
@@ -57,19 +56,41 @@ fn is_bookable(book: &Book, entry: Entry) -> bool
     }
 }
 
-/// The first entry of the list that is wanted and bookable.
-#[tactic(auto, unfolding(crate::specs::Candidates::first_bookable))]
-pub fn first_bookable(book: &Book, rows: &[(bool, Entry)]) -> Option<Entry>
-    ensures { result ≡ first_bookable book.now.limits (situation_of book.now.entries) rows.now }
+/// Whether an entry is wanted and bookable.
+#[inline(always)]
+pub fn is_next(book: &Book, wanted: bool, entry: Entry) -> bool
+    ensures { result ≡ (wanted && is_bookable book.now.limits (situation_of book.now.entries) entry) }
 {
-    for row in rows {
-        let entry = row.1;
-        if row.0 && is_bookable(book, entry) {
-            return Some(row.1);
-        }
-    }
-    None
+    wanted && is_bookable(book, entry)
 }
+
+/// An entry, where it is wanted and bookable.
+#[tactic(auto, unfolding(crate::specs::Candidates::first_bookable))]
+pub fn if_next(book: &Book, wanted: bool, entry: Entry) -> Option<Entry>
+    ensures { result ≡ first_bookable book.now.limits (situation_of book.now.entries) ((wanted, entry) ∷ []) }
+{
+    let next = entry;
+    if is_next(book, wanted, entry) {
+        Some(next)
+    } else {
+        None
+    }
+}
+
+/// Answers the first of the entries that is wanted and bookable, or None: `first_bookable!(book; WANTED => ENTRY, ..)`.
+/// What an entry is wanted by is asked only where none before it is answered, and each entry is laid out by itself.
+macro_rules! first_bookable {
+    ($book:expr; $($wanted:expr => $entry:expr),+ $(,)?) => {{
+        $(
+            if is_next($book, $wanted, $entry) {
+                return Some($entry);
+            }
+        )+
+        None
+    }};
+}
+
+pub(crate) use first_bookable;
 
 pub fn any_of(tests: &[bool]) -> bool
     ensures { result ≡ list_any (λ (b : Bool). b) tests.now }
