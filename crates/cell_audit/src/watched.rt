@@ -2,7 +2,8 @@
 ghost use Rattle.std.specs.Prelude.{◌≡◌, ◌≤◌, ◌<◌, ◌⊎◌, ◌↔◌, true, false, take, length, map, IfOk, IsErr, OnOk};
 ghost use Rattle.std.specs.List.{concat};
 ghost use Rattle.std.specs.Io.KnownBytes.{Appends, Keeps};
-ghost use Rattle.cell_audit.specs.Watched.{IsSameWriter, Refuses, Watches, WritesPart, bytes_held, has_refused, taken_of};
+ghost use Rattle.cell_audit.specs.Watched.{IsSameWriter, Refuses, Watches, WritesPart, bytes_held, has_refused};
+ghost use Rattle.cell_audit.specs.Watched.{taken_of};
 
 use std::io;
 use std::io::{ErrorKind, Write};
@@ -54,7 +55,8 @@ impl<'a, W: Write> WatchedWriter<'a, W> {
         requires { 0 < length bytes.now }
         ensures writer { IsSameWriter self.old self.new }
         ensures bound { IfOk result (λ count. count ≤ length bytes.now) }
-        ensures bytes { IfOk result (λ count. Appends (bytes_held W.contents self.old) (bytes_held W.contents self.new) (take count bytes.now)) }
+        ensures bytes { IfOk result (λ count. Appends (bytes_held W.contents self.old) (bytes_held W.contents self.new)
+            (take count bytes.now)) }
         ensures nothing { IsErr result → Keeps (bytes_held W.contents self.old) (bytes_held W.contents self.new) }
         ensures fault { IsErr result → has_refused self.new ≡ true }
         ensures same { OnOk result (has_refused self.new ≡ has_refused self.old) }
@@ -66,9 +68,11 @@ impl<'a, W: Write> WatchedWriter<'a, W> {
     /// Writes bytes.
     pub fn write_bytes(&mut self, bytes: &[u8]) -> Result<(), WriteFault>
         ensures writer { IsSameWriter self.old self.new }
-        ensures whole { OnOk result (Appends (bytes_held W.contents self.old) (bytes_held W.contents self.new) bytes.now) }
+        ensures whole { OnOk result (Appends (bytes_held W.contents self.old) (bytes_held W.contents self.new)
+            bytes.now) }
         // After an error a first part of the bytes was written, and not all.
-        ensures part { IsErr result → WritesPart (bytes_held W.contents self.old) (bytes_held W.contents self.new) bytes.now }
+        ensures part { IsErr result → WritesPart (bytes_held W.contents self.old) (bytes_held W.contents self.new)
+            bytes.now }
         // It fails where a write was refused, and only there.
         ensures fault { IsErr result → has_refused self.new ≡ true }
         ensures same { OnOk result (has_refused self.new ≡ has_refused self.old) }
@@ -90,9 +94,11 @@ impl<'a, W: Write> WatchedWriter<'a, W> {
     /// Writes pieces of a text, one after the other.
     pub fn write_pieces(&mut self, pieces: &[&[u8]]) -> Result<(), WriteFault>
         ensures writer { IsSameWriter self.old self.new }
-        ensures whole { OnOk result (Appends (bytes_held W.contents self.old) (bytes_held W.contents self.new) (concat (map (λ p. p.now) pieces.now))) }
+        ensures whole { OnOk result (Appends (bytes_held W.contents self.old) (bytes_held W.contents self.new)
+            (concat (map (λ p. p.now) pieces.now))) }
         // After an error a first part of the text was written, and not all.
-        ensures part { IsErr result → WritesPart (bytes_held W.contents self.old) (bytes_held W.contents self.new) (concat (map (λ p. p.now) pieces.now)) }
+        ensures part { IsErr result → WritesPart (bytes_held W.contents self.old) (bytes_held W.contents self.new)
+            (concat (map (λ p. p.now) pieces.now)) }
         // It fails where a write was refused, and only there.
         ensures fault { IsErr result → has_refused self.new ≡ true }
         ensures same { OnOk result (has_refused self.new ≡ has_refused self.old) }

@@ -99,7 +99,8 @@ fn draw_heading<W: Write>(
     let (right, height) = (scale.right(), bottom().saturating_add(20));
     writeln!(
         out,
-        "<svg xmlns=\"http://www.w3.org/2000/svg\" viewBox=\"0 0 {right} {height}\" width=\"{right}\" height=\"{height}\" \
+        "<svg xmlns=\"http://www.w3.org/2000/svg\" viewBox=\"0 0 {right} {height}\" width=\"{right}\" \
+            height=\"{height}\" \
          font-family=\"Helvetica, Arial, sans-serif\" font-size=\"11\" fill=\"#111111\">\n\
          <rect width=\"{right}\" height=\"{height}\" fill=\"#ffffff\"/>"
     )?;
@@ -182,10 +183,11 @@ fn draw<W: Write>(
     writeln!(out, "</svg>")
 }
 
-/// Draws the first `entries` entries of a journal, which has at most 20,000, on an axis of time, as one SVG file: each entry is
-/// where it ends at the earliest, by `times_of`. A lane for each axis shows its motions with their words, one for each zone who
-/// holds it, and one for each station which plate is there; a machine is marked from where it is booked failed to its repair.
-/// Above stand how many entries are drawn and their time, and the audit's answer where the journal's text isn't legal.
+/// Draws the first `entries` entries of a journal, which has at most 20,000, on an axis of time, as one SVG file: each
+/// entry is where it ends at the earliest, by `times_of`. A lane for each axis shows its motions with their words, one
+/// for each zone who holds it, and one for each station which plate is there; a machine is marked from where it is
+/// booked failed to its repair. Above stand how many entries are drawn and their time, and the audit's answer where the
+/// journal's text isn't legal.
 ///
 /// `WriteFault` is meant for a writer that failed, and no clause says so; a first part of the file was written then.
 pub fn draw_chart<W: Write>(

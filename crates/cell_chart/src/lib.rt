@@ -1,4 +1,5 @@
-//! A journal on an axis of time: who moves when, who holds which zone, which plate stands where, and which machine is failed.
+//! A journal on an axis of time: who moves when, who holds which zone, which plate stands where, and which machine is
+//! failed.
 #![tactic(auto)]
 
 mod bar;

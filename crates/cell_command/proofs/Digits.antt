@@ -13,7 +13,8 @@ pub digit-tested : (c : ℕ) → digit_value c < 10 → is_ascii_digit c ≡ tru
 digit-tested c h = let r : IsInRange 48 57 c = digit_from_value c h in grind (arith, common_steps)
 
 pub digit-value : (c : ℕ) → is_ascii_digit c ≡ true → digit_value c < 10
-digit-value c h = let r : IsInRange 48 57 c = grind (arith, common_steps) in omega (arith, digit_value_digit c r, r.0, r.1)
+digit-value c h = let r : IsInRange 48 57 c =
+    grind (arith, common_steps) in omega (arith, digit_value_digit c r, r.0, r.1)
 
 pub digits-tested : (ds : List ℕ) → AllDigits 10 ds → list_all is_ascii_digit ds ≡ true
 digits-tested [] h = refl

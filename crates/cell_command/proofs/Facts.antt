@@ -5,38 +5,49 @@ use Rattle.clap.specs.Words.{all_of, is_simple, is_simple_and_free, matched_of, 
 use Rattle.clap.specs.declared.parser.matches.Found.{Found}
 use Rattle.clap.proofs.WalkLemmas.{raw_values-rows}
 use Rattle.cell_command.specs.Orders.{values_or_none}
-use Rattle.cell_command.specs.Shape.{accompanied, cellctl, checking, driving, explain, explore, exploring, file_rule, flag_rule, flagged, journal_rule, judging, measure, measuring, optional_rule, path_rule, pictured, reading, repeated_rule, scripted, several_rule, show, showing, simulating, sweep, sweeping}
+use Rattle.cell_command.specs.Shape.{accompanied, cellctl, checking, driving, explain, explore, exploring, file_rule}
+use Rattle.cell_command.specs.Shape.{flag_rule, flagged, journal_rule, judging, measure, measuring, optional_rule}
+use Rattle.cell_command.specs.Shape.{path_rule, pictured, reading, repeated_rule, scripted, several_rule, show, showing}
+use Rattle.cell_command.specs.Shape.{simulating, sweep, sweeping}
 
 abbrev pub both : {X A B : Type 0} → (X → A) → (X → B) → X → A × B
 both f g x = (f x, g x)
 
 -- two parts of one value
 pub joined : {X A B : Type 0} (o : Option X) (f : X → A) (g : X → B) (a : A) (b : B)
-    → Some a ≡ option_map f o → Some b ≡ option_map (λ (p : A × B). p.1) (option_map (both f g) o) → option_map (both f g) o ≡ Some (a, b)
+    → Some a ≡ option_map f o → Some b ≡ option_map (λ (p : A × B). p.1) (option_map (both f g) o)
+    → option_map (both f g) o ≡ Some (a, b)
 joined None f g a b h k = cc h
 joined (Some x) f g a b h k = let p : a ≡ f x = cc h in let q : b ≡ g x = cc k in rw (p, q) refl
 
 -- a text that was found
-pub same-value : (o : Option (Bor (List ℕ))) (found : Option (List ℕ)) → option_map (λ s. s.now) o ≡ found → IfSome o (λ p. found ≡ Some p.now)
+pub same-value : (o : Option (Bor (List ℕ))) (found : Option (List ℕ)) → option_map (λ s. s.now) o ≡ found
+    → IfSome o (λ p. found ≡ Some p.now)
 same-value None found h = tt
 same-value (Some p) found h = sym h
 
 -- the values that were found, as a list has them
-pub same-values : (found : Found) (id : List ℕ) (texts values : List (Bor (List ℕ))) → Some (map (λ v. v.now) texts) ≡ option_map raw_values (matched_of found id)
+pub same-values : (found : Found) (id : List ℕ) (texts values : List (Bor (List ℕ)))
+    → Some (map (λ v. v.now) texts) ≡ option_map raw_values (matched_of found id)
     → values ≡ texts → all_of id (rows_of found) ≡ Some (map (λ v. v.now) values)
 same-values found id texts values h same =
     sym (raw_values-rows found id) ∙ sym h ∙ ap (λ (l : List (Bor (List ℕ))). Some (map (λ v. v.now) l)) (sym same)
 
 -- the values that were found, or none
-pub any-values : (found : Found) (id : List ℕ) (texts : Option (List (List ℕ))) → texts ≡ option_map raw_values (matched_of found id)
+pub any-values : (found : Found) (id : List ℕ) (texts : Option (List (List ℕ)))
+    → texts ≡ option_map raw_values (matched_of found id)
     → values_or_none texts ≡ values_or_none (all_of id (rows_of found))
 any-values found id texts h = ap values_or_none (h ∙ raw_values-rows found id)
 
 -- the program's command line is one of which clap's definitions tell the matches and the faults
 pub cellctl-simple : is_simple cellctl ≡ true
-unfolding accompanied checking driving explain explore exploring file_rule flag_rule flagged journal_rule judging measure measuring optional_rule path_rule pictured reading repeated_rule scripted several_rule show showing simulating sweep sweeping
+unfolding accompanied checking driving explain explore exploring file_rule flag_rule flagged journal_rule judging
+    measure measuring optional_rule path_rule pictured reading repeated_rule scripted several_rule show showing
+    simulating sweep sweeping
 cellctl-simple = refl
 
 pub cellctl-free : is_simple_and_free cellctl ≡ true
-unfolding accompanied checking driving explain explore exploring file_rule flag_rule flagged journal_rule judging measure measuring optional_rule path_rule pictured reading repeated_rule scripted several_rule show showing simulating sweep sweeping
+unfolding accompanied checking driving explain explore exploring file_rule flag_rule flagged journal_rule judging
+    measure measuring optional_rule path_rule pictured reading repeated_rule scripted several_rule show showing
+    simulating sweep sweeping
 cellctl-free = refl

@@ -1,5 +1,6 @@
 -- How a text is printed back
-use Rattle.std.specs.Prelude.{◌/◌, ◌%◌, ℕ, List, [], ◌∷◌, ◌++◌, slice_index, if◌then◌else◌, codes, flat_map, encode_utf8}
+use Rattle.std.specs.Prelude.{◌/◌, ◌%◌, ℕ, List, [], ◌∷◌, ◌++◌, slice_index, if◌then◌else◌, codes, flat_map}
+use Rattle.std.specs.Prelude.{encode_utf8}
 use Rattle.std.specs.Char.{is_control}
 use Rattle.std.specs.Str.{chars}
 

@@ -1,5 +1,6 @@
 -- What is told of a read or a write that failed, or of a thread that could not be started
-use Rattle.std.specs.Prelude.{◌==◌, ◌||◌, ℕ, List, [], ◌∷◌, ◌++◌, Option, Some, None, option_map, unwrap_or, if◌then◌else◌, codes, decimal, unsigned_abs}
+use Rattle.std.specs.Prelude.{◌==◌, ◌||◌, ℕ, List, [], ◌∷◌, ◌++◌, Option, Some, None, option_map, unwrap_or}
+use Rattle.std.specs.Prelude.{if◌then◌else◌, codes, decimal, unsigned_abs}
 use Rattle.std.specs.IoError.{error_kind, raw_os_error}
 use Rattle.std.specs.declared.io.Error.{Error}
 use Rattle.std.specs.declared.io.ErrorKind.{ErrorKind}
@@ -73,12 +74,14 @@ cause_text (cause.Number words n) = words.now ++ (codes " (error " ++ (decimal n
 
 -- what is told of an error by its number
 abbrev pub number_text : Place → ℕ → List ℕ
-number_text at n = unwrap_or (number_words at n) (refusal at ++ (codes " (error " ++ (decimal n ++ codes " of the system)")))
+number_text at n = unwrap_or (number_words at n)
+    (refusal at ++ (codes " (error " ++ (decimal n ++ codes " of the system)")))
 
 -- why a read or a write failed, where an error may be known
 abbrev pub reason : Place → Option Error → List ℕ
 reason at None = refusal at
-reason at (Some e) = unwrap_or (kind_words (error_kind e)) (unwrap_or (option_map (λ code. number_text at (unsigned_abs code)) (raw_os_error e)) (refusal at))
+reason at (Some e) = unwrap_or (kind_words (error_kind e))
+    (unwrap_or (option_map (λ code. number_text at (unsigned_abs code)) (raw_os_error e)) (refusal at))
 
 -- the line that tells it
 abbrev pub failure_line : Place → Option Error → List ℕ

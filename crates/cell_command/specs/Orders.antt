@@ -48,13 +48,15 @@ HasPaths rows paths = HasPath rows (codes "settings") paths.settings.now
 
 -- the flags of a run, the file with the durations of its motions, and its files
 abbrev pub IsRun : List Row → Running → Type 0
-IsRun rows r = HasFlag rows (codes "journal") r.journal × HasFlag rows (codes "explain") r.explain × HasValue rows (codes "times") r.times × HasPaths rows r.paths
+IsRun rows r = HasFlag rows (codes "journal") r.journal × HasFlag rows (codes "explain") r.explain
+    × HasValue rows (codes "times") r.times × HasPaths rows r.paths
 
 -- the flag for bare machines, and the flags and files of a run
 abbrev pub IsDriven : List Row → Driving → Type 0
 IsDriven rows d = HasFlag rows (codes "raw") d.raw × IsRun rows d.running
 
--- the flags of a picture, the files of durations, of the journal beside and of the journal, and how many entries it takes
+-- the flags of a picture, the files of durations, of the journal beside and of the journal, and how many entries it
+-- takes
 abbrev pub IsShown : List Row → Showing → Type 0
 IsShown rows s = HasFlag rows (codes "svg") s.svg
     × HasFlag rows (codes "html") s.html
@@ -102,15 +104,20 @@ Fits name rows (order.Show showing) = (name ≡ codes "show") × IsShown rows sh
 Fits name rows (order.Explain explaining) = (name ≡ codes "explain") × IsExplained rows explaining
 Fits name rows (order.Measure measuring) = (name ≡ codes "measure") × IsMeasured rows measuring
 Fits name rows (order.Check path) = (name ≡ codes "check") × HasPath rows (codes "settings") path.now
-Fits name rows (order.Sim running) = (name ≡ codes "sim") × HasValue rows (codes "follow") None × HasFlag rows (codes "measures") false × IsRun rows running
-Fits name rows (order.SimMeasured running) = (name ≡ codes "sim") × HasValue rows (codes "follow") None × HasFlag rows (codes "measures") true × IsRun rows running
-Fits name rows (order.Follow path running) = (name ≡ codes "sim") × HasValue rows (codes "follow") (Some path) × IsRun rows running
+Fits name rows (order.Sim running) = (name ≡ codes "sim") × HasValue rows (codes "follow") None
+    × HasFlag rows (codes "measures") false × IsRun rows running
+Fits name rows (order.SimMeasured running) = (name ≡ codes "sim") × HasValue rows (codes "follow") None
+    × HasFlag rows (codes "measures") true × IsRun rows running
+Fits name rows (order.Follow path running) = (name ≡ codes "sim") × HasValue rows (codes "follow") (Some path)
+    × IsRun rows running
 Fits name rows (order.Sweep sweeping) = (name ≡ codes "sweep") × IsSwept rows sweeping
 Fits name rows (order.Explore exploring) = (name ≡ codes "explore") × IsExplored rows exploring
 Fits name rows (order.Drive driving) = (name ≡ codes "drive") × IsDriven rows driving
 Fits name rows (order.Run running) = (name ≡ codes "run") × HasFlag rows (codes "measures") false × IsRun rows running
-Fits name rows (order.RunMeasured running) = (name ≡ codes "run") × HasFlag rows (codes "measures") true × IsRun rows running
+Fits name rows (order.RunMeasured running) = (name ≡ codes "run") × HasFlag rows (codes "measures") true
+    × IsRun rows running
 
 -- the words have a command that clap matches in them, and the order is of it
 abbrev pub IsOrdered : List Text → Order → Type 0
-IsOrdered words o = (name : Text) × (rows : List Row) × (subcommand_of cellctl words ≡ Some (name, rows)) × Fits name rows o
+IsOrdered words o = (name : Text) × (rows : List Row) × (subcommand_of cellctl words ≡ Some (name, rows))
+    × Fits name rows o

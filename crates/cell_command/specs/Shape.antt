@@ -50,7 +50,8 @@ pictured = with_rule (with_rule (new_app (codes "show")) (flag_rule (codes "svg"
 
 -- the same with the flag for other signs and the options for durations and for another journal, which is shown beside
 unfoldable pub accompanied : App
-accompanied = with_rule (with_rule (with_rule pictured (flag_rule (codes "unicode"))) times_rule) (file_rule (codes "beside"))
+accompanied = with_rule (with_rule (with_rule pictured (flag_rule (codes "unicode"))) times_rule)
+    (file_rule (codes "beside"))
 
 -- the same with the option for a file, and how many entries are shown, which may be given
 unfoldable pub show : App
@@ -66,11 +67,13 @@ repeated_rule id = record (file_rule id) { action = Some Append }
 
 unfoldable pub explain : App
 explain =
-    with_input (with_rule (with_rule (with_rule (new_app (codes "explain")) (file_rule (codes "settings"))) (file_rule (codes "faults"))) (file_rule (codes "operator")))
+    with_input (with_rule (with_rule (with_rule (new_app (codes "explain")) (file_rule (codes "settings")))
+    (file_rule (codes "faults"))) (file_rule (codes "operator")))
 
 -- the command that measures journals: the option with the durations of motions, the flag of CSV, and the journals
 unfoldable pub measure : App
-measure = with_rule (with_rule (with_rule (new_app (codes "measure")) times_rule) (flag_rule (codes "csv"))) (several_rule (codes "journals"))
+measure = with_rule (with_rule (with_rule (new_app (codes "measure")) times_rule) (flag_rule (codes "csv")))
+    (several_rule (codes "journals"))
 
 -- a command with the flags of those that run the cell, and the option for durations
 unfoldable pub flagged : App → App
@@ -84,25 +87,29 @@ scripted a = with_rule (with_rule a (path_rule (codes "faults"))) (path_rule (co
 abbrev pub filed : App → App
 filed a = scripted (with_rule a (path_rule (codes "settings")))
 
--- the command that runs the cell on one thread, with the option for the file of a journal that is followed and the flag for
--- measures
+-- the command that runs the cell on one thread, with the option for the file of a journal that is followed and the flag
+-- for measures
 abbrev pub sim : App
-sim = filed (with_rule (with_rule (flagged (new_app (codes "sim"))) (file_rule (codes "follow"))) (flag_rule (codes "measures")))
+sim = filed (with_rule (with_rule (flagged (new_app (codes "sim"))) (file_rule (codes "follow")))
+    (flag_rule (codes "measures")))
 
--- the command that runs the cell once for each fault: the options with the kinds and with how many motions, the flags of the
--- service and of CSV, and the paths of the settings and of the operator's script
+-- the command that runs the cell once for each fault: the options with the kinds and with how many motions, the flags
+-- of the service and of CSV, and the paths of the settings and of the operator's script
 unfoldable pub sweep : App
 sweep =
-    let optioned = with_rule (with_rule (new_app (codes "sweep")) (file_rule (codes "kinds"))) (file_rule (codes "motions")) in
+    let optioned = with_rule (with_rule (new_app (codes "sweep")) (file_rule (codes "kinds")))
+    (file_rule (codes "motions")) in
     let chosen = with_rule (with_rule optioned (flag_rule (codes "service"))) (flag_rule (codes "csv")) in
     with_rule (with_rule chosen (path_rule (codes "settings"))) (path_rule (codes "operator"))
 
--- the command that looks at every order of events: the machines that may fail, the flag of repairs, the limit, the flag of the
--- journal and the number of plates
+-- the command that looks at every order of events: the machines that may fail, the flag of repairs, the limit, the flag
+-- of the journal and the number of plates
 unfoldable pub explore : App
 explore =
-    let asked = with_rule (with_rule (new_app (codes "explore")) (repeated_rule (codes "fail"))) (flag_rule (codes "repair")) in
-    with_rule (with_rule (with_rule asked (file_rule (codes "limit"))) (flag_rule (codes "journal"))) (path_rule (codes "plates"))
+    let asked = with_rule (with_rule (new_app (codes "explore")) (repeated_rule (codes "fail")))
+    (flag_rule (codes "repair")) in
+    with_rule (with_rule (with_rule asked (file_rule (codes "limit"))) (flag_rule (codes "journal")))
+    (path_rule (codes "plates"))
 
 -- the command by which a method drives the cell, with the flag for commands to the bare machines
 abbrev pub drive : App
@@ -136,8 +143,8 @@ checking = with_subcommand measuring check.top
 unfoldable pub simulating : App
 simulating = with_subcommand checking sim.top
 
--- the program with all commands but those by which a method drives the cell and which look at every order of events or run it on
--- threads
+-- the program with all commands but those by which a method drives the cell and which look at every order of events or
+-- run it on threads
 unfoldable pub sweeping : App
 sweeping = with_subcommand simulating sweep.top
 

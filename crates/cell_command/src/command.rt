@@ -2,7 +2,11 @@
 ghost use Rattle.std.specs.Prelude.{◌≡◌, IfOk, codes, false};
 ghost use Rattle.clap.specs.Words.{app_of, new_app, with_rule, with_subcommand};
 ghost use Rattle.clap.specs.declared.builder.command.Command.TheViews.{out-Command};
-ghost use Rattle.cell_command.specs.Shape.{accompanied, audit, cellctl, check, checking, drive, driving, explain, explore, exploring, file_rule, filed, flag_rule, flagged, journal_rule, judging, measure, measuring, migrate, optional_rule, path_rule, pictured, reading, repeated_rule, run, scripted, several_rule, show, showing, sim, simulating, sweep, sweeping, times_rule, with_input};
+ghost use Rattle.cell_command.specs.Shape.{accompanied, audit, cellctl, check, checking, drive, driving, explain};
+ghost use Rattle.cell_command.specs.Shape.{explore, exploring, file_rule, filed, flag_rule, flagged, journal_rule};
+ghost use Rattle.cell_command.specs.Shape.{judging, measure, measuring, migrate, optional_rule, path_rule, pictured};
+ghost use Rattle.cell_command.specs.Shape.{reading, repeated_rule, run, scripted, several_rule, show, showing, sim};
+ghost use Rattle.cell_command.specs.Shape.{simulating, sweep, sweeping, times_rule, with_input};
 
 use crate::help::{
     ABOUT, AFTER, AUDIT_ABOUT, AUDIT_EXAMPLE, AUDIT_HELP, BESIDE_HELP, CHECK_ABOUT, CHECK_EXAMPLE,
@@ -297,7 +301,8 @@ fn with_files<'a>(alloc: Global, command: Command<'a>) -> Result<Command<'a>, Al
     with_scripts(alloc, settings)
 }
 
-// The command that runs the cell on one thread, with the option for a journal that is followed and the flag for measures.
+// The command that runs the cell on one thread, with the option for a journal that is followed and the flag for
+// measures.
 fn sim_command<'a>(alloc: Global) -> Result<Command<'a>, AllocError>
     ensures app { IfOk result (λ c. app_of c ≡ sim) }
     ensures local { IfOk result (λ c. (out-Command c).has_globals ≡ false) }
@@ -312,7 +317,9 @@ fn sim_command<'a>(alloc: Global) -> Result<Command<'a>, AllocError>
 // Adds the options and flags of a sweep.
 fn with_choices<'a>(alloc: Global, command: Command<'a>) -> Result<Command<'a>, AllocError>
     requires local { (out-Command command).has_globals ≡ false }
-    ensures app { IfOk result (λ c. app_of c ≡ with_rule (with_rule (with_rule (with_rule (app_of command.entry) (file_rule (codes "kinds"))) (file_rule (codes "motions"))) (flag_rule (codes "service"))) (flag_rule (codes "csv"))) }
+    ensures app { IfOk result (λ c. app_of c
+        ≡ with_rule (with_rule (with_rule (with_rule (app_of command.entry) (file_rule (codes "kinds")))
+        (file_rule (codes "motions"))) (flag_rule (codes "service"))) (flag_rule (codes "csv"))) }
     ensures local { IfOk result (λ c. (out-Command c).has_globals ≡ false) }
 {
     let kinds = with_file(alloc, command, "kinds", "LIST", KINDS_HELP)?;
@@ -467,8 +474,8 @@ fn simulating_commands<'a>(alloc: Global) -> Result<Command<'a>, AllocError>
     add(checking, sim)
 }
 
-// The program with all commands but those by which a method drives the cell and which look at every order of events or run it on
-// threads.
+// The program with all commands but those by which a method drives the cell and which look at every order of events or
+// run it on threads.
 #[tactic(auto, unfolding(crate::specs::Shape::sweeping))]
 fn sweeping_commands<'a>(alloc: Global) -> Result<Command<'a>, AllocError>
     ensures app { IfOk result (λ c. app_of c ≡ sweeping) }

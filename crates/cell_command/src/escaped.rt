@@ -9,8 +9,9 @@ const DIGITS: [char; 16] = [
     '0', '1', '2', '3', '4', '5', '6', '7', '8', '9', 'A', 'B', 'C', 'D', 'E', 'F',
 ];
 
-/// A text as it is printed among other words: its control characters as escapes of TOML by four upper-case hexadecimal digits,
-/// and all other characters as they stand. So it has no line feed where it is printed, and no order to a terminal.
+/// A text as it is printed among other words: its control characters as escapes of TOML by four upper-case hexadecimal
+/// digits, and all other characters as they stand. So it has no line feed where it is printed, and no order to a
+/// terminal.
 #[derive(Clone, Copy, Debug, PartialEq, Eq)]
 pub struct Escaped<'a>(pub &'a str);
 

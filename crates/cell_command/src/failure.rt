@@ -1,7 +1,8 @@
 //! What is told of a read or a write that failed, or of a thread that could not be started.
 ghost use Rattle.std.specs.Prelude.{◌≡◌, OnOk, option_map};
 ghost use Rattle.std.specs.Io.KnownBytes.{Appends};
-ghost use Rattle.cell_command.specs.Failures.{cause_text, failure_line, kind_words, not_open, number_text, number_words, place_name, reason, refusal};
+ghost use Rattle.cell_command.specs.Failures.{cause_text, failure_line, kind_words, not_open, number_text};
+ghost use Rattle.cell_command.specs.Failures.{number_words, place_name, reason, refusal};
 
 use crate::escaped::Escaped;
 use std::io::{ErrorKind, Write};

@@ -1,5 +1,5 @@
-//! The command line of the program: its commands with their helps, the order that its words give, and what is told where a file
-//! or a stream fails.
+//! The command line of the program: its commands with their helps, the order that its words give, and what is told
+//! where a file or a stream fails.
 #![tactic(auto)]
 
 mod command;

@@ -3,7 +3,9 @@ ghost use Rattle.std.specs.Prelude.{IfOk, IfSome, codes, map};
 ghost use Rattle.clap.specs.Kinds.{FailsBy};
 ghost use Rattle.clap.specs.Words.{fault_of, found_of, rows_of};
 ghost use Rattle.cell_command.specs.Shape.{cellctl};
-ghost use Rattle.cell_command.specs.Orders.{Fits, HasAnyValues, HasFlag, HasPath, HasPaths, HasValue, HasValues, IsDriven, IsExplained, IsExplored, IsMeasured, IsOrdered, IsRun, IsShown, IsSwept};
+ghost use Rattle.cell_command.specs.Orders.{Fits, HasAnyValues, HasFlag, HasPath, HasPaths, HasValue, HasValues};
+ghost use Rattle.cell_command.specs.Orders.{IsDriven, IsExplained, IsExplored, IsMeasured, IsOrdered, IsRun, IsShown};
+ghost use Rattle.cell_command.specs.Orders.{IsSwept};
 
 use crate::command::command;
 use clap::{ArgMatches, Error};
@@ -17,8 +19,8 @@ pub struct Paths<'a> {
     pub operator: &'a str,
 }
 
-/// How the simulated cell is to be run: whether its journal is printed alone, whether its end is explained, the file with the
-/// durations of its motions, if there is one, and where its files are.
+/// How the simulated cell is to be run: whether its journal is printed alone, whether its end is explained, the file
+/// with the durations of its motions, if there is one, and where its files are.
 #[derive(Clone, Copy, Debug, PartialEq, Eq)]
 pub struct Running<'a> {
     pub journal: bool,
@@ -27,17 +29,17 @@ pub struct Running<'a> {
     pub paths: Paths<'a>,
 }
 
-/// How a method is to drive the simulated cell: whether by commands to the bare machines, what is printed besides, and where its
-/// files are.
+/// How a method is to drive the simulated cell: whether by commands to the bare machines, what is printed besides, and
+/// where its files are.
 #[derive(Clone, Copy, Debug, PartialEq, Eq)]
 pub struct Driving<'a> {
     pub raw: bool,
     pub running: Running<'a>,
 }
 
-/// How a journal is to be shown: which flags are given, the file with the durations of motions, if there is one, that of another
-/// journal, which is shown beside it, if there is one, the file that has the journal, if it isn't on standard input, and the number
-/// of entries as it is written.
+/// How a journal is to be shown: which flags are given, the file with the durations of motions, if there is one, that
+/// of another journal, which is shown beside it, if there is one, the file that has the journal, if it isn't on
+/// standard input, and the number of entries as it is written.
 #[derive(Clone, Copy, Debug, PartialEq, Eq)]
 pub struct Showing<'a> {
     pub svg: bool,
@@ -58,7 +60,8 @@ pub struct Explaining<'a> {
     pub operator: Option<&'a str>,
 }
 
-/// The journals that are to be measured, the file with the durations of motions, and whether the measures are told in CSV.
+/// The journals that are to be measured, the file with the durations of motions, and whether the measures are told in
+/// CSV.
 #[derive(Debug, Drop, PartialEq, Eq)]
 pub struct Measuring<'a> {
     pub times: Option<&'a str>,
@@ -66,8 +69,8 @@ pub struct Measuring<'a> {
     pub journals: Vec<&'a str>,
 }
 
-/// What a sweep goes through: the kinds of faults and how many motions, as they are written, whether the operator serves failed
-/// machines, whether its runs are told in CSV, and where its files are.
+/// What a sweep goes through: the kinds of faults and how many motions, as they are written, whether the operator
+/// serves failed machines, whether its runs are told in CSV, and where its files are.
 #[derive(Clone, Copy, Debug, PartialEq, Eq)]
 pub struct Sweeping<'a> {
     pub kinds: Option<&'a str>,
@@ -78,8 +81,9 @@ pub struct Sweeping<'a> {
     pub operator: &'a str,
 }
 
-/// What is asked of every order of events: the machines that may fail, whether the operator repairs, how many states may be seen,
-/// as it is written, whether a journal is printed besides, and how many plates are laid in, as it is written.
+/// What is asked of every order of events: the machines that may fail, whether the operator repairs, how many states
+/// may be seen, as it is written, whether a journal is printed besides, and how many plates are laid in, as it is
+/// written.
 #[derive(Debug, Drop, PartialEq, Eq)]
 pub struct Exploring<'a> {
     pub failing: Vec<&'a str>,
@@ -155,7 +159,8 @@ fn run_words<'a>(matches: &ArgMatches<'a>) -> Option<Running<'a>>
     })
 }
 
-// How the simulated cell is to be run on one thread: in rounds, with measures or without, or after the journal that is named.
+// How the simulated cell is to be run on one thread: in rounds, with measures or without, or after the journal that is
+// named.
 fn sim_words<'a>(matches: &ArgMatches<'a>) -> Option<Order<'a>>
     ensures { IfSome result (Fits (codes "sim") (rows_of (found_of matches.now))) }
 {

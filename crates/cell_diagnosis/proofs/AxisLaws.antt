@@ -1,5 +1,6 @@
 -- What an axis watch keeps is what the rules ask of the readings before
-use Rattle.std.proofs.Common.{◌≡◌, ℕ, ◌+◌, ◌≤◌, ◌==◌, min, Bool, ◌&&◌, ◌||◌, List, [], ◌∷◌, ◌++◌, length, sym, ◌∙◌, ap, arith}
+use Rattle.std.proofs.Common.{◌≡◌, ℕ, ◌+◌, ◌≤◌, ◌==◌, min, Bool, ◌&&◌, ◌||◌, List, [], ◌∷◌, ◌++◌, length, sym, ◌∙◌, ap}
+use Rattle.std.proofs.Common.{arith}
 use Rattle.std.proofs.lemmas.Bool.Decides.{nat_tests}
 use Rattle.std.specs.List.{list_any, list_all}
 use Rattle.cell_diagnosis.specs.declared.motion.Motion.{Motion}
@@ -9,8 +10,10 @@ use Rattle.cell_diagnosis.specs.declared.axis_watch.AxisWatch.{AxisWatch}
 use Rattle.cell_diagnosis.specs.Readings.{Seen}
 use Rattle.cell_diagnosis.specs.Ends.{last_are}
 use Rattle.cell_diagnosis.specs.Verdicts.{then_verdict}
-use Rattle.cell_diagnosis.specs.AxisFacts.{is_missing, shows, lacks, shows_alone, shows_exactly, shows_several, shows_stray}
-use Rattle.cell_diagnosis.specs.AxisRules.{has_arrived, is_stuck_at_end, is_stuck, is_contradictory, is_stray, is_silent, has_not_left, is_late, judged, verdict}
+use Rattle.cell_diagnosis.specs.AxisFacts.{is_missing, shows, lacks, shows_alone, shows_exactly, shows_several}
+use Rattle.cell_diagnosis.specs.AxisFacts.{shows_stray}
+use Rattle.cell_diagnosis.specs.AxisRules.{has_arrived, is_stuck_at_end, is_stuck, is_contradictory, is_stray}
+use Rattle.cell_diagnosis.specs.AxisRules.{is_silent, has_not_left, is_late, judged, verdict}
 use Rattle.cell_diagnosis.specs.AxisWatches.{facts_of, last_facts, ruling, Fits}
 use Rattle.cell_diagnosis.proofs.EndLaws.{all_snoc, any_snoc, length_snoc, one_snoc, two_snoc, three_snoc, before_snoc}
 use Rattle.cell_diagnosis.proofs.VerdictLaws.{after_snoc}

@@ -8,7 +8,8 @@ use Rattle.cell_diagnosis.specs.declared.verdict.Verdict.{Verdict}
 use Rattle.cell_diagnosis.specs.declared.verdict.Verdict.TheVariants.{Pending, Arrived, Fault}
 use Rattle.cell_diagnosis.specs.Readings.{Seen}
 use Rattle.cell_diagnosis.specs.Ends.{last_are, before_last}
-use Rattle.cell_diagnosis.specs.AxisFacts.{is_missing, shows, lacks, shows_alone, shows_exactly, shows_several, shows_stray}
+use Rattle.cell_diagnosis.specs.AxisFacts.{is_missing, shows, lacks, shows_alone, shows_exactly, shows_several}
+use Rattle.cell_diagnosis.specs.AxisFacts.{shows_stray}
 use Rattle.cell_diagnosis.specs.Verdicts.{verdict_after}
 
 -- `to` alone, and an earlier reading that isn't missing lacks `to`

@@ -10,7 +10,8 @@ use Rattle.cell_diagnosis.specs.declared.axis_facts.AxisFacts.{AxisFacts}
 use Rattle.cell_diagnosis.specs.declared.axis_watch.AxisWatch.{AxisWatch}
 use Rattle.cell_diagnosis.specs.Readings.{Seen, seen}
 use Rattle.cell_diagnosis.specs.Ends.{last_are}
-use Rattle.cell_diagnosis.specs.AxisFacts.{is_missing, shows, lacks, shows_alone, shows_exactly, shows_several, shows_stray}
+use Rattle.cell_diagnosis.specs.AxisFacts.{is_missing, shows, lacks, shows_alone, shows_exactly, shows_several}
+use Rattle.cell_diagnosis.specs.AxisFacts.{shows_stray}
 use Rattle.cell_diagnosis.specs.AxisRules.{verdict}
 
 -- the motion that a watch follows

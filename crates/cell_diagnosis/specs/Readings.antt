@@ -1,5 +1,5 @@
--- The truth values that a watch of a motion looks at in a reading: six of them, of which number i says whether the axis's
--- pose number i is shown, counted from 0. A belt has no switches: the two stations of its motion stand first.
+-- The truth values that a watch of a motion looks at in a reading: six of them, of which number i says whether the
+-- axis's pose number i is shown, counted from 0. A belt has no switches: the two stations of its motion stand first.
 use Rattle.std.specs.Prelude.{ℕ, Bool, false, ◌/◌, ◌%◌, ◌^◌, ◌+◌, ◌==◌, Option, Some, None, List, [], ◌∷◌, slice_index}
 use Rattle.cell_types.specs.declared.words.Axis.{Axis}
 use Rattle.cell_types.specs.declared.words.Pose.{Pose}

@@ -1,5 +1,6 @@
 -- What the rules of the rest watch ask of one reading and the Expect given with it
-use Rattle.std.specs.Prelude.{ℕ, Bool, true, false, not, ◌&&◌, ◌||◌, ◌==◌, nat_le, Option, Some, None, List, [], ◌∷◌, get_or, slice_index}
+use Rattle.std.specs.Prelude.{ℕ, Bool, true, false, not, ◌&&◌, ◌||◌, ◌==◌, nat_le, Option, Some, None, List, [], ◌∷◌}
+use Rattle.std.specs.Prelude.{get_or, slice_index}
 use Rattle.cell_types.specs.declared.words.Machine.{Machine}
 use Rattle.cell_types.specs.declared.words.Machine.TheVariants as machine
 use Rattle.cell_types.specs.declared.words.Pose.{Pose}
@@ -9,8 +10,8 @@ use Rattle.cell_diagnosis.specs.declared.rest_facts.RestFacts.{RestFacts}
 use Rattle.cell_diagnosis.specs.Readings.{bit, no_bits, two_bits, three_bits, six_bits}
 use Rattle.cell_diagnosis.specs.AxisFacts.{is_shown, count_shown}
 
--- What is expected: per axis the pose that it must show alone, or None; per presence bit of the machine, whether it must
--- be set and whether it isn't looked at. An axis that the machine lacks, or that has no switches, isn't looked at.
+-- What is expected: per axis the pose that it must show alone, or None; per presence bit of the machine, whether it
+-- must be set and whether it isn't looked at. An axis that the machine lacks, or that has no switches, isn't looked at.
 pub record Expected : Type 0 where
   pub poses : List (Option Pose)
   pub must : List Bool
@@ -61,7 +62,12 @@ shown_by m (Some r) = Some (record { axes = machine_axes m r.switches; presence 
 -- a reading and its Expect as the watch of this machine notes them
 unfoldable pub noted : Machine → Expect → Option Reading → Noted
 noted m e r = record {
-  expected = record { poses = machine_poses m e.poses; must = machine_presence m e.must; may = machine_presence m e.may };
+  expected = record {
+    poses = machine_poses m e.poses;
+    must = machine_presence m e.must;
+    may =
+        machine_presence m e.may;
+  };
   shown = shown_by m r;
 }
 

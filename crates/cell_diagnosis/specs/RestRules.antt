@@ -1,12 +1,13 @@
--- The verdict on a list of readings of a machine at rest, oldest first, each with the Expect given with it. Each rule is
--- said of the readings so far, at the last of them.
+-- The verdict on a list of readings of a machine at rest, oldest first, each with the Expect given with it. Each rule
+-- is said of the readings so far, at the last of them.
 use Rattle.std.specs.Prelude.{ℕ, Bool, List, [], if◌then◌else◌}
 use Rattle.cell_types.specs.declared.words.Cause.TheVariants as cause
 use Rattle.cell_diagnosis.specs.declared.verdict.Verdict.{Verdict}
 use Rattle.cell_diagnosis.specs.declared.verdict.Verdict.TheVariants.{Pending, Fault}
 use Rattle.cell_diagnosis.specs.Ends.{last_are}
 use Rattle.cell_diagnosis.specs.Verdicts.{then_verdict, verdict_after}
-use Rattle.cell_diagnosis.specs.RestFacts.{Noted, is_unread, disagrees, shows_several_at, is_lost, is_strange, any_of_three}
+use Rattle.cell_diagnosis.specs.RestFacts.{Noted, is_unread, disagrees, shows_several_at, is_lost, is_strange}
+use Rattle.cell_diagnosis.specs.RestFacts.{any_of_three}
 
 -- three readings in a row are missing
 unfoldable pub is_silent_at_rest : List Noted → Bool

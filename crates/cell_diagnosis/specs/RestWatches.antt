@@ -10,7 +10,8 @@ use Rattle.cell_diagnosis.specs.declared.rest_facts.RestFacts.{RestFacts}
 use Rattle.cell_diagnosis.specs.declared.rest_watch.RestWatch.{RestWatch}
 use Rattle.cell_diagnosis.specs.Ends.{last_are}
 use Rattle.cell_diagnosis.specs.Verdicts.{then_verdict}
-use Rattle.cell_diagnosis.specs.RestFacts.{Noted, noted, is_unread, agrees, disagrees, shows_several_at, is_lost, is_strange, is_set, any_of_three, of_three, rest_facts_of}
+use Rattle.cell_diagnosis.specs.RestFacts.{Noted, noted, is_unread, agrees, disagrees, shows_several_at, is_lost}
+use Rattle.cell_diagnosis.specs.RestFacts.{is_strange, is_set, any_of_three, of_three, rest_facts_of}
 use Rattle.cell_diagnosis.specs.RestRules.{rest}
 
 -- the machine that a watch watches
@@ -58,8 +59,8 @@ rest_ruling two_missing last next =
     else then_verdict (axis_ruling 0 last next)
     (then_verdict (axis_ruling 1 last next) (then_verdict (axis_ruling 2 last next) (plate_ruling last next)))
 
--- what a watch keeps is what the list says, and its answer is the list's verdict; facts that agree are those of the reading
--- that it keeps, before which not two were missing
+-- what a watch keeps is what the list says, and its answer is the list's verdict; facts that agree are those of the
+-- reading that it keeps, before which not two were missing
 pub record RestFits (w : RestWatch) (L : List Noted) : Type 0 where
   pub last : w.last ≡ last_rest_facts L
   pub two_missing : w.two_missing ≡ last_are 2 is_unread L

@@ -11,8 +11,8 @@ use crate::verdict::then_verdict;
 use crate::{Limits, Reading, Verdict};
 use cell_types::{Axis, Cause, Pose};
 
-/// Watches one motion of an axis. It keeps counters and the last reading's facts, and no list; which verdict it answers is
-/// said of the list of all readings since its start.
+/// Watches one motion of an axis. It keeps counters and the last reading's facts, and no list; which verdict it answers
+/// is said of the list of all readings since its start.
 ///
 /// The rules are this project's profile. At reading number i, counted from 1, the first that applies:
 /// 1. `to` alone is shown, and an earlier reading that isn't missing lacks `to`: `Arrived`.
@@ -24,8 +24,9 @@ use cell_types::{Axis, Cause, Pose};
 /// 7. i is LEAVE, and all readings show `from` alone: `NoDeparture`.
 /// 8. i is LIMIT: `MissingMotion`.
 ///
-/// For a belt the stations where the motion begins and ends take the place of `from` and `to`, and only these two bits are
-/// looked at. The robot's turn passes the poses between `from` and `to`, a press from `Top` to `Bottom` passes `Middle`.
+/// For a belt the stations where the motion begins and ends take the place of `from` and `to`, and only these two bits
+/// are looked at. The robot's turn passes the poses between `from` and `to`, a press from `Top` to `Bottom` passes
+/// `Middle`.
 #[derive(Clone, Copy, Debug, PartialEq, Eq)]
 pub struct AxisWatch {
     motion: Motion,
@@ -67,9 +68,9 @@ impl AxisWatch {
         self.motion
     }
 
-    /// Notes the next reading, None where it is missing, and answers the verdict of all readings since the start: what the
-    /// first rule says that applies at the first reading at which one does. Once that isn't Pending, each further call
-    /// answers the same.
+    /// Notes the next reading, None where it is missing, and answers the verdict of all readings since the start: what
+    /// the first rule says that applies at the first reading at which one does. Once that isn't Pending, each further
+    /// call answers the same.
     pub fn note(&mut self, reading: Option<Reading>) -> Verdict
         // Whatever list of readings the watch fits, it is of that list followed by this reading.
         ensures verdict { (L : List Seen) → Fits self.old L →

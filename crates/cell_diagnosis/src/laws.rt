@@ -1,5 +1,7 @@
 //! Laws of the two verdicts, for every list of readings. The calls do nothing: their contracts are the laws.
-ghost use Rattle.cell_diagnosis.specs.Laws.{VerdictStays, RestVerdictStays, FirstDecides, RestFirstDecides, PendingWhereNoneDecides, RestPendingWhereNoneDecides, SomeFirstDecides, RestSomeFirstDecides};
+ghost use Rattle.cell_diagnosis.specs.Laws.{VerdictStays, RestVerdictStays, FirstDecides, RestFirstDecides};
+ghost use Rattle.cell_diagnosis.specs.Laws.{PendingWhereNoneDecides, RestPendingWhereNoneDecides, SomeFirstDecides};
+ghost use Rattle.cell_diagnosis.specs.Laws.{RestSomeFirstDecides};
 
 /// A verdict other than Pending stays, whatever readings come after.
 pub fn verdict_stays()

@@ -1,6 +1,6 @@
-//! Readings of the cell's switches and sensors, and the verdicts on them: whether a motion has arrived, and which fault a
-//! component shows. A watch keeps counters alone, and its answer is the verdict of all readings since its start. The rules
-//! are this project's own profile of the fault-tolerant production cell.
+//! Readings of the cell's switches and sensors, and the verdicts on them: whether a motion has arrived, and which fault
+//! a component shows. A watch keeps counters alone, and its answer is the verdict of all readings since its start. The
+//! rules are this project's own profile of the fault-tolerant production cell.
 #![tactic(auto)]
 
 mod axis_facts;

@@ -4,9 +4,9 @@ ghost use Rattle.cell_diagnosis.specs.Bounds.{AreBounds};
 
 use std::marker::Model;
 
-/// Two numbers of readings, counted from a motion's start: at reading LEAVE an axis that has shown nothing but its first
-/// pose hasn't left, and at reading LIMIT a motion that hasn't ended is late. LEAVE is 2 to 999, and LIMIT is above it and
-/// at most 1000: the ranges of this project's settings.
+/// Two numbers of readings, counted from a motion's start: at reading LEAVE an axis that has shown nothing but its
+/// first pose hasn't left, and at reading LIMIT a motion that hasn't ended is late. LEAVE is 2 to 999, and LIMIT is
+/// above it and at most 1000: the ranges of this project's settings.
 #[derive(Clone, Copy, Debug, PartialEq, Eq)]
 pub struct Limits {
     leave: u16,

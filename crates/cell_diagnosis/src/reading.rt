@@ -1,21 +1,22 @@
 //! What a machine's switches and sensors show.
 ghost use Rattle.std.specs.Prelude.{◌≡◌, ◌<◌};
-ghost use Rattle.cell_diagnosis.specs.Readings.{bit, two_bits, three_bits, six_bits, station_bits, axis_bits, place_in_axis};
+ghost use Rattle.cell_diagnosis.specs.Readings.{bit, two_bits, three_bits, six_bits, station_bits, axis_bits};
+ghost use Rattle.cell_diagnosis.specs.Readings.{place_in_axis};
 
 use cell_types::{Axis, Pose};
 
-/// One reading of a machine. Bits that belong to nothing are ignored. The order of axes, poses and stations is that of this
-/// project's profile of the cell.
+/// One reading of a machine. Bits that belong to nothing are ignored. The order of axes, poses and stations is that of
+/// this project's profile of the cell.
 #[derive(Clone, Copy, Debug, PartialEq, Eq)]
 pub struct Reading {
-    /// One byte for each axis of the machine: of the table its lift and its turn, of the robot its turn, arm one and arm
-    /// two, of a press its one axis. Bit i is the switch of the axis's pose number i, from 0: `Low`, `High`; `Belt`,
-    /// `Robot`; `Table1`, `P1Load`, `P1Unload`, `P2Load`, `P2Unload`, `Deposit2`; `In`, `Out`; `Middle`, `Top`, `Bottom`.
-    /// Belts have no switches.
+    /// One byte for each axis of the machine: of the table its lift and its turn, of the robot its turn, arm one and
+    /// arm two, of a press its one axis. Bit i is the switch of the axis's pose number i, from 0: `Low`, `High`;
+    /// `Belt`, `Robot`; `Table1`, `P1Load`, `P1Unload`, `P2Load`, `P2Unload`, `Deposit2`; `In`, `Out`; `Middle`, `Top`,
+    /// `Bottom`. Belts have no switches.
     pub switches: [u8; 3],
-    /// Bits 0 and 1 are the sensors of the machine's stations, in their order: of the feed belt its beginning and its end,
-    /// of the robot its arms, of the deposit belt its beginning and its end; the table and a press have one. Bit 2 of the
-    /// feed belt is the sensor at the table.
+    /// Bits 0 and 1 are the sensors of the machine's stations, in their order: of the feed belt its beginning and its
+    /// end, of the robot its arms, of the deposit belt its beginning and its end; the table and a press have one. Bit 2
+    /// of the feed belt is the sensor at the table.
     pub presence: u8,
 }
 

@@ -1,15 +1,17 @@
 //! What the rules of a rest watch ask of one reading.
 ghost use Rattle.std.specs.Prelude.{◌≡◌, ◌&&◌, ◌||◌, not, nat_le, Some};
 ghost use Rattle.cell_diagnosis.specs.AxisFacts.{count_shown};
-ghost use Rattle.cell_diagnosis.specs.RestFacts.{noted, machine_poses, machine_axes, machine_presence, pose_disagrees, any_of_three, of_three, is_set, agrees, disagrees, shows_several_at, rest_facts_of};
+ghost use Rattle.cell_diagnosis.specs.RestFacts.{noted, machine_poses, machine_axes, machine_presence, pose_disagrees};
+ghost use Rattle.cell_diagnosis.specs.RestFacts.{any_of_three, of_three, is_set, agrees, disagrees, shows_several_at};
+ghost use Rattle.cell_diagnosis.specs.RestFacts.{rest_facts_of};
 
 use crate::axis_facts::{count_shown, is_shown};
 use crate::reading::{bit, six_bits, three_bits, two_bits};
 use crate::{Expect, Reading};
 use cell_types::{Machine, Pose};
 
-/// The answers to the rules' questions of one reading: per axis, whether it disagrees and whether it shows two switches or
-/// more; per presence bit, whether it is clear and must be set, and whether it is set and must be clear.
+/// The answers to the rules' questions of one reading: per axis, whether it disagrees and whether it shows two switches
+/// or more; per presence bit, whether it is clear and must be set, and whether it is set and must be clear.
 #[derive(Clone, Copy, Debug, PartialEq, Eq)]
 pub struct RestFacts {
     pub missing: bool,

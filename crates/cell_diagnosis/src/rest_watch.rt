@@ -3,7 +3,8 @@ ghost use Rattle.std.specs.Prelude.{◌≡◌, ◌≢◌, ◌<◌, ◌++◌, ◌
 ghost use Rattle.cell_diagnosis.specs.Ends.{last_are};
 ghost use Rattle.cell_diagnosis.specs.RestFacts.{Noted, agrees, any_of_three};
 ghost use Rattle.cell_diagnosis.specs.RestRules.{rest};
-ghost use Rattle.cell_diagnosis.specs.RestWatches.{machine_of, rest_answer_of, noted_by, both_at, axis_ruling, plate_ruling, rest_ruling, RestFits};
+ghost use Rattle.cell_diagnosis.specs.RestWatches.{machine_of, rest_answer_of, noted_by, both_at, axis_ruling};
+ghost use Rattle.cell_diagnosis.specs.RestWatches.{plate_ruling, rest_ruling, RestFits};
 ghost use Rattle.cell_diagnosis.specs.declared.verdict.Verdict.TheVariants.{Pending};
 
 use crate::rest_facts::{NO_REST_FACTS, RestFacts, rest_facts_of};
@@ -11,11 +12,11 @@ use crate::verdict::then_verdict;
 use crate::{Expect, Reading, Verdict};
 use cell_types::{Cause, Machine, Pose};
 
-/// Watches the axes of one machine that are at rest, and its plates. It keeps the last reading and its facts, and no list; which
-/// verdict it answers is said of the list of all readings since its start, each with its Expect.
+/// Watches the axes of one machine that are at rest, and its plates. It keeps the last reading and its facts, and no
+/// list; which verdict it answers is said of the list of all readings since its start, each with its Expect.
 ///
-/// The rules are this project's profile. Each reading is compared with the Expect given with it; a missing reading, or a
-/// part that isn't looked at, disagrees in nothing. The first that applies:
+/// The rules are this project's profile. Each reading is compared with the Expect given with it; a missing reading, or
+/// a part that isn't looked at, disagrees in nothing. The first that applies:
 /// 1. This reading and the two before are missing: `Silent`.
 /// 2. An axis, the lowest first, disagrees in this reading and the one before: `Contradictory` where both show two
 ///    switches or more of it, else `LostPosition`.
@@ -50,8 +51,8 @@ impl RestWatch {
     }
 
     /// Notes the next reading, None where it is missing, with what is expected of it, and answers the verdict of all
-    /// readings since the start: what the first rule says that applies at the first reading at which one does. A missing
-    /// reading disagrees in nothing. Once the verdict isn't Pending, each further call answers the same.
+    /// readings since the start: what the first rule says that applies at the first reading at which one does. A
+    /// missing reading disagrees in nothing. Once the verdict isn't Pending, each further call answers the same.
     pub fn note(&mut self, expect: &Expect, reading: Option<Reading>) -> Verdict
         // Whatever list of readings the watch fits, it is of that list followed by this reading.
         ensures verdict { (L : List Noted) → RestFits self.old L →

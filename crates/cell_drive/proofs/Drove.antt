@@ -21,18 +21,25 @@ of-ok (Ok a) ok q = q
 of-ok (Err e) ok q = cc
 
 -- what holds of a run with a status below 3, where that is the status of its call
-pub of-status : {E D : Type 0} (r : Result ℕ E) (status : ℕ) → (status < 3 → r ≡ Ok status) → IfOk r (λ s. s < 3 → D) → status < 3 → D
+pub of-status : {E D : Type 0} (r : Result ℕ E) (status : ℕ) → (status < 3 → r ≡ Ok status) → IfOk r (λ s. s < 3 → D)
+    → status < 3 → D
 of-status {D = D} r status same h few = IfOk-at_ok (λ s. s < 3 → D) (same few) h few
 
 -- a run that was driven from the opening, between the first line and what is told of it
-pub drove : {P : Type 0} (tells : P → Bool) (log : P → Log) (plan : Plan) (script : List Line) (s : Stand) (l k : BookLimits) (all left : Option (List (Option Row))) (K : List Entry) (ports : Six P) (w x y z : Option (List ℕ)) (told : List ℕ)
-    → s ≡ opening script → l ≡ limits_of plan → k ≡ l → legal k K ≡ true → Appends w x (drive_line plan) → Driven tells log l s all left K ports x y → Appends y z told → DrivesEntries plan script all w z
+pub drove : {P : Type 0} (tells : P → Bool) (log : P → Log) (plan : Plan) (script : List Line) (s : Stand)
+    (l k : BookLimits) (all left : Option (List (Option Row))) (K : List Entry) (ports : Six P)
+    (w x y z : Option (List ℕ)) (told : List ℕ)
+    → s ≡ opening script → l ≡ limits_of plan → k ≡ l → legal k K ≡ true → Appends w x (drive_line plan)
+    → Driven tells log l s all left K ports x y → Appends y z told → DrivesEntries plan script all w z
 drove tells log plan script s l k all left K ports w x y z told start limits same h first d last =
     record {
       after = d.after;
       left = left;
-      leads = subst (λ m. Leads m (opening script) d.after all left) limits (subst (λ t. Leads l t d.after all left) start d.leads);
-      legal = subst (λ m. legal m d.after.journal ≡ true) (same ∙ limits) (subst (λ J. legal k J ≡ true) d.fits.journal h);
+      leads = subst (λ m. Leads m (opening script) d.after all left) limits
+          (subst (λ t. Leads l t d.after all left) start d.leads);
+      legal = subst (λ m. legal m d.after.journal ≡ true) (same ∙ limits)
+          (subst (λ J. legal k J ≡ true) d.fits.journal h);
       told = told;
-      text = Appends-trans w x z (drive_line plan) (d.after.text ++ told) first (Appends-trans x y z d.after.text told d.text last);
+      text = Appends-trans w x z (drive_line plan) (d.after.text ++ told) first
+          (Appends-trans x y z d.after.text told d.text last);
     }

@@ -1,5 +1,6 @@
 -- What is written where a method drives the cell by the texts of a run
-use Rattle.std.specs.Prelude.{◌≡◌, ◌<◌, ◌++◌, ℕ, Bool, true, false, List, [], ◌∷◌, Option, Result, Ok, Err, codes, decimal, option_map, ⊤}
+use Rattle.std.specs.Prelude.{◌≡◌, ◌<◌, ◌++◌, ℕ, Bool, true, false, List, [], ◌∷◌, Option, Result, Ok, Err, codes}
+use Rattle.std.specs.Prelude.{decimal, option_map, ⊤}
 use Rattle.std.specs.Io.KnownBytes.{Appends}
 use Rattle.cell_rows.specs.Lines.{line}
 use Rattle.plate_book.specs.Rules.Legal.{legal}
@@ -26,9 +27,10 @@ drive_line plan = line (codes "drive" ∷ codes "1" ∷ decimal plan.plates ∷ 
 abbrev pub lines_in : Option (List ℕ) → Option (List (Option Row))
 lines_in input = option_map lines_of input
 
--- a run by entries: events led from the opening to a legal journal, and what was written is the first line, the text of these
--- events and what is told of the run
-pub record DrivesEntries (plan : Plan) (script : List Line) (all : Option (List (Option Row))) (old new : Option (List ℕ)) : Type 0 where
+-- a run by entries: events led from the opening to a legal journal, and what was written is the first line, the text of
+-- these events and what is told of the run
+pub record DrivesEntries (plan : Plan) (script : List Line) (all : Option (List (Option Row)))
+    (old new : Option (List ℕ)) : Type 0 where
   pub after : Stand
   pub left : Option (List (Option Row))
   pub leads : Leads (limits_of plan) (opening script) after all left
@@ -37,12 +39,16 @@ pub record DrivesEntries (plan : Plan) (script : List Line) (all : Option (List 
   pub text : Appends old new (drive_line plan ++ (after.text ++ told))
 
 -- what is written by good texts; by commands nothing is said of it, nor where a device failed or memory was refused
-abbrev pub DrivesInputs : Bool → Option (List ℕ) → Option (List ℕ) → Option (List ℕ) → ℕ → Result Inputs InputError → Type 0
+abbrev pub DrivesInputs : Bool → Option (List ℕ) → Option (List ℕ) → Option (List ℕ) → ℕ → Result Inputs InputError
+    → Type 0
 DrivesInputs raw input old new status (Err e) = WritesError old new (input_line e) (input_status e) status
 DrivesInputs true input old new status (Ok inputs) = ⊤
-DrivesInputs false input old new status (Ok inputs) = status < 3 → DrivesEntries inputs.plan inputs.script (lines_in input) old new
+DrivesInputs false input old new status (Ok inputs) = status < 3
+    → DrivesEntries inputs.plan inputs.script (lines_in input) old new
 
 -- what is written by the texts of a run, or by the first of them that is refused
-abbrev pub DrivesTexts : List ℕ → List ℕ → List ℕ → Bool → Option (List ℕ) → Option (List ℕ) → Option (List ℕ) → ℕ → Type 0
+abbrev pub DrivesTexts : List ℕ → List ℕ → List ℕ → Bool → Option (List ℕ) → Option (List ℕ) → Option (List ℕ) → ℕ
+    → Type 0
 DrivesTexts settings faults operator raw input old new status =
-    (inputs : Result Inputs InputError) × AreInputs settings faults operator inputs × DrivesInputs raw input old new status inputs
+    (inputs : Result Inputs InputError) × AreInputs settings faults operator inputs
+    × DrivesInputs raw input old new status inputs

@@ -16,8 +16,8 @@ use std::io;
 use std::io::Write;
 use std::sync::{Mutex, Wait};
 
-/// The lines of the operator's script, of which none says that a plate will be laid back: by commands there is no book that
-/// expects one. The error names the first such record, counted from 1.
+/// The lines of the operator's script, of which none says that a plate will be laid back: by commands there is no book
+/// that expects one. The error names the first such record, counted from 1.
 pub(crate) fn raw_script(alloc: Global, operator: &[u8]) -> Result<Vec<Line>, ScriptError> {
     let lines: Vec<Line> = read_script(alloc, operator)?;
     let mut number: u32 = 0;
@@ -218,8 +218,8 @@ fn told_of<R: Wait>(alloc: Global, run: &mut Run<'_, R>, end: End) -> io::Result
     Ok(text)
 }
 
-/// Lets a method drive the simulated cell by commands, with this script of the operator, tells what came of it, and gives the
-/// status.
+/// Lets a method drive the simulated cell by commands, with this script of the operator, tells what came of it, and
+/// gives the status.
 pub(crate) fn drive_commands<R: AllocGlobal + Wait, I: TellsFault, W: Write, E: Write>(
     rt: &R,
     plan: &Plan,

@@ -92,7 +92,9 @@ pub(crate) fn drive_entries<R: AllocGlobal + Wait, I: TellsFault, W: Write, E: W
     writer: &mut W,
     errors: &mut E,
 ) -> Result<u8, DriveError>
-    ensures { IfOk result (λ status. status < 3 → DrivesEntries inputs.plan inputs.script (lines_left I.remaining lines.old) (W.contents writer.old) (W.contents writer.new)) }
+    ensures { IfOk result (λ status. status < 3
+        → DrivesEntries inputs.plan inputs.script (lines_left I.remaining lines.old) (W.contents writer.old)
+        (W.contents writer.new)) }
 {
     let Inputs {
         plan,

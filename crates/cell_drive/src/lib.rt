@@ -1,5 +1,5 @@
-//! The simulated cell, driven by a control method over a reader and a writer: by entries of the machines' journal, or by commands
-//! to the bare machines, with what is measured of a run.
+//! The simulated cell, driven by a control method over a reader and a writer: by entries of the machines' journal, or
+//! by commands to the bare machines, with what is measured of a run.
 #![tactic(auto)]
 
 mod by_commands;

@@ -17,8 +17,8 @@ pub(crate) struct Measures {
     lacks_memory: bool,
 }
 
-/// How many rounds the plates that were taken out were in the cell: the shortest, the middle and the longest stay. Of an even
-/// number of stays the middle one is the shorter of the two in the middle.
+/// How many rounds the plates that were taken out were in the cell: the shortest, the middle and the longest stay. Of
+/// an even number of stays the middle one is the shorter of the two in the middle.
 #[derive(Clone, Copy, Debug)]
 pub(crate) struct Stays {
     pub(crate) least: u32,
@@ -53,8 +53,8 @@ impl Measures {
         self.rounds = self.rounds.saturating_add(1);
     }
 
-    /// Notes the round of this number after all machines were read in it: which plate was laid in and which taken out. One reading
-    /// does either at most once.
+    /// Notes the round of this number after all machines were read in it: which plate was laid in and which taken out.
+    /// One reading does either at most once.
     pub(crate) fn open(&mut self, round: u32, world: &World) {
         self.rounds = round;
         if self.note_laid(world).is_err() || self.note_taken(world).is_err() {

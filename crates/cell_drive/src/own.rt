@@ -21,7 +21,8 @@ use std::io::Write;
 use std::marker::Brand;
 use std::sync::{Mutex, Wait};
 
-// A machine's port in a watched world, by which the rounds of a run are told apart: each begins with a reading of the feed belt.
+// A machine's port in a watched world, by which the rounds of a run are told apart: each begins with a reading of the
+// feed belt.
 #[derive(Drop)]
 struct GaugedPort<'a, R: Wait> {
     rt: &'a R,
@@ -160,9 +161,9 @@ fn measured<R: AllocGlobal + Wait>(rt: &R, inputs: Inputs) -> Option<Vec<u8>> {
     Some(text)
 }
 
-/// Runs the machines' own workers in rounds by the texts of a run, in a cell that is watched and whose motions take so many
-/// readings, and writes the measures that `drive_texts` tells of a method. The status is 4 where memory was refused. Texts of which one is refused give no run, and
-/// nothing is written.
+/// Runs the machines' own workers in rounds by the texts of a run, in a cell that is watched and whose motions take so
+/// many readings, and writes the measures that `drive_texts` tells of a method. The status is 4 where memory was
+/// refused. Texts of which one is refused give no run, and nothing is written.
 pub fn measure_texts<R: AllocGlobal + Wait, W: Write>(
     rt: &R,
     settings: &[u8],

@@ -108,11 +108,11 @@ pub(crate) fn write_told<W: Write>(output: &mut W, text: &[u8]) -> Result<(), Dr
     Ok(())
 }
 
-/// Reads the texts of a run, the settings, the script of faults and the operator's script, and lets a method drive the simulated
-/// cell by the lines that it reads and writes; gives the exit status.
+/// Reads the texts of a run, the settings, the script of faults and the operator's script, and lets a method drive the
+/// simulated cell by the lines that it reads and writes; gives the exit status.
 ///
-/// The first text that is refused is told as by `run_texts`, and nothing of the protocol is written. A reader that fails ends the
-/// run with status 3. Want of memory before the first round gives status 4 with nothing more written.
+/// The first text that is refused is told as by `run_texts`, and nothing of the protocol is written. A reader that
+/// fails ends the run with status 3. Want of memory before the first round gives status 4 with nothing more written.
 pub fn drive_texts<R: AllocGlobal + Wait, I: Read + Drop, W: Write, E: Write>(
     rt: &R,
     settings: &[u8],
@@ -124,7 +124,8 @@ pub fn drive_texts<R: AllocGlobal + Wait, I: Read + Drop, W: Write, E: Write>(
     errors: &mut E,
 ) -> Result<u8, WriteFault>
     // What is written is of the first text that is refused, or of a run by entries within the settings' limits.
-    ensures { IfOk result (DrivesTexts settings.now faults.now operator.now driving.raw (I.remaining input) (W.contents output.old) (W.contents output.new)) }
+    ensures { IfOk result (DrivesTexts settings.now faults.now operator.now driving.raw (I.remaining input)
+        (W.contents output.old) (W.contents output.new)) }
 {
     let inputs = match read_inputs(rt.alloc(), settings, faults, operator) {
         Ok(mut inputs) => {

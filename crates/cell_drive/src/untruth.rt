@@ -77,8 +77,8 @@ fn unless_forged(world: &World, press: Machine, plate: Option<u32>) -> Option<Fa
     }
 }
 
-/// What contradicts in the world an entry that was booked and whose command was sent, where its plate, if it names one, was laid in
-/// at this number. Entries of which the world knows nothing are never contradicted.
+/// What contradicts in the world an entry that was booked and whose command was sent, where its plate, if it names one,
+/// was laid in at this number. Entries of which the world knows nothing are never contradicted.
 pub(crate) fn contradiction(world: &World, entry: &Entry, plate: Option<u32>) -> Option<Fact> {
     match *entry {
         Entry::Arrived { axis, at } => unless_at(world, axis, at),

@@ -13,6 +13,8 @@ of-success (Ok x) none p = p
 of-success (Err e) none p = cc none
 
 -- one more entry is booked
-pub booked-more : (l : BookLimits) (h k : History) (J : List Entry) (i : ℕ) (e : Entry) → slice_get J i ≡ Some e → h ≡ record { limits = l; entries = take i J }
-    → k ≡ record { limits = h.limits; entries = h.entries ++ e ∷ [] } → k ≡ record { limits = l; entries = take (i + 1) J }
+pub booked-more : (l : BookLimits) (h k : History) (J : List Entry) (i : ℕ) (e : Entry) → slice_get J i ≡ Some e
+    → h ≡ record { limits = l; entries = take i J }
+    → k ≡ record { limits = h.limits; entries = h.entries ++ e ∷ [] }
+    → k ≡ record { limits = l; entries = take (i + 1) J }
 booked-more l h k J i e at so_far next = rw (take-at J i e at) (rw so_far at next)

@@ -19,17 +19,22 @@ use Rattle.cell_endings.proofs.Wider.{legal-greatest}
 -- what is told of a book, by the lines of both scripts
 abbrev pub told_of : History → End → Plan → List Line → List PlannedFault → List ℕ
 told_of b e plan lines faults =
-    run_of b.entries e plan ++ (failures_of b.entries ++ (plates_of b.limits b.entries ++ (waiting_of b.limits b.entries lines ++ missed_of b.entries faults)))
+    run_of b.entries e plan ++ (failures_of b.entries
+    ++ (plates_of b.limits b.entries ++ (waiting_of b.limits b.entries lines ++ missed_of b.entries faults)))
 
 -- its parts, one after the other, of which the last is told where it was written
-pub told-whole : {A B : Type 0} (r : Result A B) (b : History) (J : List Entry) (e : End) (plan : Plan) (lines : List Line) (faults : List PlannedFault)
+pub told-whole : {A B : Type 0} (r : Result A B) (b : History) (J : List Entry) (e : End) (plan : Plan)
+    (lines : List Line) (faults : List PlannedFault)
     (old first second third fourth new : Option (List ℕ)) → b ≡ record { limits = limits_of plan; entries = J }
-    → Appends old first (run_of b.entries e plan) → Appends first second (failures_of b.entries) → Appends second third (plates_of b.limits b.entries)
-    → Appends third fourth (waiting_of b.limits b.entries lines) → OnOk r (Appends fourth new (missed_of b.entries faults))
+    → Appends old first (run_of b.entries e plan) → Appends first second (failures_of b.entries)
+    → Appends second third (plates_of b.limits b.entries)
+    → Appends third fourth (waiting_of b.limits b.entries lines)
+    → OnOk r (Appends fourth new (missed_of b.entries faults))
     → OnOk r (Appends old new (told_of (record { limits = limits_of plan; entries = J }) e plan lines faults))
 told-whole r b J e plan lines faults old first second third fourth new is h i j k m =
     subst (λ (a : History). OnOk r (Appends old new (told_of a e plan lines faults))) is
-    (told-then r old first new _ _ h (told-then r first second new _ _ i (told-then r second third new _ _ j (told-then r third fourth new _ _ k m))))
+    (told-then r old first new _ _ h (told-then r first second new _ _ i
+    (told-then r second third new _ _ j (told-then r third fourth new _ _ k m))))
 
 -- a fact holds on success too
 pub always : {A B P : Type 0} (r : Result A B) → P → OnOk r P
@@ -37,5 +42,6 @@ always (Ok x) p = p
 always (Err e) p = tt
 
 -- the book's journal is legal by the greatest limits
-pub legal-book : (b : History) (J : List Entry) (plan : Plan) → b ≡ record { limits = limits_of plan; entries = J } → legal b.limits b.entries ≡ true → legal greatest J ≡ true
+pub legal-book : (b : History) (J : List Entry) (plan : Plan) → b ≡ record { limits = limits_of plan; entries = J }
+    → legal b.limits b.entries ≡ true → legal greatest J ≡ true
 legal-book b J plan is h = legal-greatest plan J (subst (λ (a : History). legal a.limits a.entries ≡ true) is h)

@@ -34,14 +34,16 @@ lines_read (Err e) = []
 abbrev pub script_lines : {L : Type 0} → Reading L → List ℕ → List L
 script_lines read text = lines_read (lines_of read (rows_of text))
 
--- what is told of the run as a whole: the limit that ended it, the plates that weren't admitted, and those that were laid back
+-- what is told of the run as a whole: the limit that ended it, the plates that weren't admitted, and those that were
+-- laid back
 abbrev pub run_of : List Entry → End → Plan → List ℕ
 run_of J e plan = limit_of J e plan ++ (unadmitted_of J plan.plates ++ laid_back_of J)
 
--- what is told of the end of a run by this plan, by its journal and the texts of its two scripts: the run as a whole, the failed
--- machines, the plates that stand in the cell, the first line of the operator's script that isn't done, and the faults that were
--- never reached
+-- what is told of the end of a run by this plan, by its journal and the texts of its two scripts: the run as a whole,
+-- the failed machines, the plates that stand in the cell, the first line of the operator's script that isn't done, and
+-- the faults that were never reached
 abbrev pub ending_of : List Entry → End → Plan → List ℕ → List ℕ → List ℕ
 ending_of J e plan faults operator =
-    run_of J e plan ++ (failures_of J ++ (plates_of (limits_of plan) J ++ (waiting_of (limits_of plan) J (script_lines line_of operator)
+    run_of J e plan ++ (failures_of J ++ (plates_of (limits_of plan) J
+    ++ (waiting_of (limits_of plan) J (script_lines line_of operator)
     ++ missed_of J (script_lines next_fault faults))))

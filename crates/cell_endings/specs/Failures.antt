@@ -24,7 +24,8 @@ declared_last J m = last_numbered (declares m) 1 J
 -- the line of a failed machine: since which entry it is failed, and why
 abbrev pub failed_line : Machine → Option (ℕ × Cause) → List ℕ
 failed_line m None = []
-failed_line m (Some (n, cause)) = the_machine m ++ (codes " is failed since entry " ++ (decimal n ++ (codes ": " ++ (cause_name cause ++ 10 ∷ []))))
+failed_line m (Some (n, cause)) = the_machine m
+    ++ (codes " is failed since entry " ++ (decimal n ++ (codes ": " ++ (cause_name cause ++ 10 ∷ []))))
 
 -- what is told of a machine: its line, where it is failed
 abbrev pub failure_of : List Entry → Machine → List ℕ

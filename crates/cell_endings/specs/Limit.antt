@@ -5,10 +5,12 @@ use Rattle.cell_turns.specs.declared.plan.Plan.{Plan}
 use Rattle.cell_workers.specs.declared.ends.End.{End}
 use Rattle.cell_workers.specs.declared.ends.End.TheVariants as end
 
--- the line of a run that found no room: its journal has as many entries as it may, or else no further plate has a number
+-- the line of a run that found no room: its journal has as many entries as it may, or else no further plate has a
+-- number
 abbrev pub full_line : Plan → ℕ → List ℕ
 full_line plan entries =
-    if nat_le plan.journal_limit entries then codes "the journal is full (journal_limit = " ++ (decimal plan.journal_limit ++ codes ")\n")
+    if nat_le plan.journal_limit entries then codes "the journal is full (journal_limit = "
+    ++ (decimal plan.journal_limit ++ codes ")\n")
     else codes "no further plate has a number (plates = " ++ (decimal plan.plates ++ codes ")\n")
 
 -- what is told of the limit that ended a run, where one did, by its key in the settings

@@ -20,7 +20,9 @@ motions_of J a = count_by (sets_out a) J
 
 -- the line of a fault whose axis set out only so often
 abbrev pub missed_line : PlannedFault → ℕ → List ℕ
-missed_line f n = codes "the fault in motion " ++ (decimal f.motion ++ (codes " of " ++ (axis_name f.axis ++ (codes " was never reached: it set out " ++ (decimal n ++ (times n ++ 10 ∷ []))))))
+missed_line f n = codes "the fault in motion "
+    ++ (decimal f.motion ++ (codes " of " ++ (axis_name f.axis
+    ++ (codes " was never reached: it set out " ++ (decimal n ++ (times n ++ 10 ∷ []))))))
 
 -- what is told of a fault whose axis set out so often: its line, where that is less often than to its motion
 abbrev pub told_fault : PlannedFault → ℕ → List ℕ

@@ -6,7 +6,8 @@ use Rattle.cell_types.specs.declared.words.Axis.{Axis}
 use Rattle.cell_types.specs.declared.words.Axis.TheVariants as axis
 use Rattle.cell_types.specs.declared.words.AxisState.{AxisState}
 use Rattle.cell_types.specs.declared.words.Entry.{Entry}
-use Rattle.cell_types.specs.declared.words.Entry.TheVariants.{Started, Arrived, Conveyed, Forged, Gripped, Dropped, Delivered}
+use Rattle.cell_types.specs.declared.words.Entry.TheVariants.{Started, Arrived, Conveyed, Forged, Gripped, Dropped}
+use Rattle.cell_types.specs.declared.words.Entry.TheVariants.{Delivered}
 use Rattle.cell_types.specs.declared.words.Machine.TheVariants as machine
 use Rattle.cell_types.specs.declared.words.Pose.{Pose}
 use Rattle.cell_types.specs.declared.words.Pose.TheVariants as pose
@@ -22,13 +23,14 @@ use Rattle.plate_book.specs.Rules.Legal.{first_of}
 use Rattle.cell_sentences.specs.Names.{station_name}
 use Rattle.cell_sentences.specs.Sentences.{entry_sentence, refusal_sentence}
 
--- the entry by which plate k on a belt goes on to dest: the belt sets out with it, or, once it moves so, brings it there
+-- the entry by which plate k on a belt goes on to dest: the belt sets out with it, or, once it moves so, brings it
+-- there
 abbrev pub belt_entry : Axis → ℕ → Pose → Station → Option Pose → Entry
 belt_entry a k to dest None = Started a to
 belt_entry a k to dest (Some going) = if same_pose going to then Conveyed a k dest else Started a to
 
--- the entry by which plate k in a press goes on: the press sets out for its top and forges it there, goes to its bottom, and
--- there the plate is gripped
+-- the entry by which plate k in a press goes on: the press sets out for its top and forges it there, goes to its
+-- bottom, and there the plate is gripped
 abbrev pub press_entry : Axis → ℕ → Station → Pose → Option Pose → Entry
 press_entry a k s at (Some pose.Top) = Forged (machine_of_axis a) k
 press_entry a k s at (Some to) = Arrived a to
@@ -41,7 +43,8 @@ press_entry_at a k s state = press_entry a k s state.at state.going
 
 -- the press at which arm 1 would lay its plate down: the first, unless it is failed or has a plate
 abbrev pub press_for_arm : List Entry → Station
-press_for_arm J = if is_failed J machine.Press1 || is_some (plate_of J station.Press1) then station.Press2 else station.Press1
+press_for_arm J = if is_failed J machine.Press1 || is_some (plate_of J station.Press1) then station.Press2
+    else station.Press1
 
 -- the entry by which plate k at a station goes on
 abbrev pub next_entry : List Entry → Station → ℕ → Entry
@@ -62,7 +65,8 @@ line_end (Some why) = codes "\", but " ++ (refusal_sentence why ++ 10 ∷ [])
 
 -- the line of plate k at a station, which goes on by this entry, that is refused or not
 abbrev pub line_of_next : Station → ℕ → Entry → Option Refusal → List ℕ
-line_of_next s k e why = codes "plate " ++ (decimal k ++ (codes " is at " ++ (station_name s ++ (codes "; next is \"" ++ (entry_sentence e ++ line_end why)))))
+line_of_next s k e why = codes "plate " ++ (decimal k
+    ++ (codes " is at " ++ (station_name s ++ (codes "; next is \"" ++ (entry_sentence e ++ line_end why)))))
 
 -- the line of plate k at a station, by the run's limits
 abbrev pub plate_line : BookLimits → List Entry → Station → ℕ → List ℕ

@@ -1,5 +1,6 @@
 -- What is told of the operator's script
-use Rattle.std.specs.Prelude.{ℕ, ◌+◌, Bool, true, false, List, [], ◌∷◌, ◌++◌, Option, Some, None, codes, decimal, if◌then◌else◌, slice_get}
+use Rattle.std.specs.Prelude.{ℕ, ◌+◌, Bool, true, false, List, [], ◌∷◌, ◌++◌, Option, Some, None, codes, decimal}
+use Rattle.std.specs.Prelude.{if◌then◌else◌, slice_get}
 use Rattle.std.specs.List.{count_by}
 use Rattle.cell_types.specs.declared.words.Actor.{Actor}
 use Rattle.cell_types.specs.declared.words.Actor.TheVariants as actor
@@ -31,14 +32,18 @@ lines_done J = count_by (λ e. is_operator (actor_of e)) J
 
 -- that so many plates are waited for, of which so many are there
 abbrev pub plates_wait : ℕ → List ℕ → ℕ → List ℕ → List ℕ
-plates_wait n what count verb = codes "it waits for " ++ (decimal n ++ (plates n ++ (what ++ (decimal count ++ (verb ++ 10 ∷ [])))))
+plates_wait n what count verb = codes "it waits for "
+    ++ (decimal n ++ (plates n ++ (what ++ (decimal count ++ (verb ++ 10 ∷ [])))))
 
 -- what a trigger that doesn't hold waits for
 abbrev pub trigger_wait : List Entry → Trigger → List ℕ
 trigger_wait J trigger.Always = codes "its time has come\n"
-trigger_wait J (trigger.Admitted n) = plates_wait n (codes " to be admitted, and ") (count_of J).admitted (are (count_of J).admitted)
-trigger_wait J (trigger.Delivered n) = plates_wait n (codes " to be delivered, and ") (count_of J).delivered (are (count_of J).delivered)
-trigger_wait J (trigger.Quarantined n) = plates_wait n (codes " to be taken into quarantine, and ") (count_of J).quarantined (were (count_of J).quarantined)
+trigger_wait J (trigger.Admitted n) = plates_wait n (codes " to be admitted, and ") (count_of J).admitted
+    (are (count_of J).admitted)
+trigger_wait J (trigger.Delivered n) = plates_wait n (codes " to be delivered, and ") (count_of J).delivered
+    (are (count_of J).delivered)
+trigger_wait J (trigger.Quarantined n) = plates_wait n (codes " to be taken into quarantine, and ")
+    (count_of J).quarantined (were (count_of J).quarantined)
 trigger_wait J (trigger.Failed m) = codes "it waits for a failure of " ++ (the_machine m ++ 10 ∷ [])
 
 -- what refuses an entry of the operator's, or that nothing does
@@ -69,7 +74,8 @@ line_wait l J line = if holds J line.when then task_wait l J line.task else trig
 -- what is told of the first line that isn't done, where there is one: the number of its record, and what it waits for
 abbrev pub undone_line : BookLimits → List Entry → ℕ → Option Line → List ℕ
 undone_line l J n None = []
-undone_line l J n (Some line) = codes "record " ++ (decimal n ++ (codes " of the operator's script isn't done: " ++ line_wait l J line))
+undone_line l J n (Some line) = codes "record "
+    ++ (decimal n ++ (codes " of the operator's script isn't done: " ++ line_wait l J line))
 
 -- what is told of the script: its first line that isn't done, and what that waits for
 abbrev pub waiting_of : BookLimits → List Entry → List Line → List ℕ

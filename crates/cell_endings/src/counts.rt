@@ -9,7 +9,8 @@ use std::io::{Result, Write};
 
 /// Writes how many of so many plates weren't admitted, where some weren't.
 pub(crate) fn write_unadmitted<W: Write>(writer: &mut W, book: &Book, due: u32) -> Result<()>
-    ensures { OnOk result (Appends (W.contents writer.old) (W.contents writer.new) (unadmitted_of book.now.entries due)) }
+    ensures { OnOk result (Appends (W.contents writer.old) (W.contents writer.new)
+        (unadmitted_of book.now.entries due)) }
 {
     let admitted = book.totals().admitted;
     if admitted < due {

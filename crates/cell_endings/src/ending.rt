@@ -34,17 +34,19 @@ fn book_of(alloc: Global, journal: &Journal, plan: &Plan) -> std::result::Result
 
 // Writes the limit that ended a run, how many plates weren't admitted, and how many were laid back.
 fn write_run<W: Write>(writer: &mut W, book: &Book, end: End, plan: &Plan) -> Result<()>
-    ensures { OnOk result (Appends (W.contents writer.old) (W.contents writer.new) (run_of book.now.entries end plan.now)) }
+    ensures { OnOk result (Appends (W.contents writer.old) (W.contents writer.new)
+        (run_of book.now.entries end plan.now)) }
 {
     write_limit(writer, book, end, plan)?;
     write_unadmitted(writer, book, plan.plates)?;
     write_laid_back(writer, book)
 }
 
-/// Writes why a run by this plan, which left this journal, had this end: the limit that ended it, where one did; how many
-/// plates weren't admitted, and how many were laid back; a line for each machine that is failed, with its cause and its entry;
-/// for each plate that stands in the cell, with the entry by which it would go on and what refuses that; for the first record
-/// of the operator's script that isn't done, with what it waits for; and for each fault whose motion was never reached.
+/// Writes why a run by this plan, which left this journal, had this end: the limit that ended it, where one did; how
+/// many plates weren't admitted, and how many were laid back; a line for each machine that is failed, with its cause
+/// and its entry; for each plate that stands in the cell, with the entry by which it would go on and what refuses that;
+/// for the first record of the operator's script that isn't done, with what it waits for; and for each fault whose
+/// motion was never reached.
 ///
 /// The scripts are those of the run; one that can't be read has no lines. An error is the writer's, or that memory was
 /// refused, or that the journal isn't legal by the plan's limits.
@@ -58,7 +60,8 @@ pub fn write_ending<W: Write>(
     writer: &mut W,
 ) -> Result<()>
     // What is written is the ending of the journal, the run's end and plan, and the scripts.
-    ensures text { OnOk result (Appends (W.contents writer.old) (W.contents writer.new) (ending_of journal.now.entries end plan.now faults.now operator.now)) }
+    ensures text { OnOk result (Appends (W.contents writer.old) (W.contents writer.new)
+        (ending_of journal.now.entries end plan.now faults.now operator.now)) }
     // It is written of legal journals alone.
     ensures legal { OnOk result (legal greatest journal.now.entries ≡ true) }
     // They are legal by the plan's limits too.

@@ -69,7 +69,8 @@ fn write_failed<W: Write>(
 
 // Writes the line of a machine, where it is failed.
 fn write_failure<W: Write>(writer: &mut W, book: &Book, machine: Machine) -> Result<()>
-    ensures { OnOk result (Appends (W.contents writer.old) (W.contents writer.new) (failure_of book.now.entries machine)) }
+    ensures { OnOk result (Appends (W.contents writer.old) (W.contents writer.new)
+        (failure_of book.now.entries machine)) }
 {
     if book.failed(machine) {
         write_failed(writer, machine, declared_last(book.journal(), machine))

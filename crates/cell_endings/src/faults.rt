@@ -61,7 +61,8 @@ pub(crate) fn write_faults<W: Write>(
     book: &Book,
     faults: &[u8],
 ) -> Result<()>
-    ensures { OnOk result (Appends (W.contents writer.old) (W.contents writer.new) (missed_of book.now.entries (script_lines next_fault faults.now))) }
+    ensures { OnOk result (Appends (W.contents writer.old) (W.contents writer.new)
+        (missed_of book.now.entries (script_lines next_fault faults.now))) }
 {
     let planned = match read_script::<PlannedFault>(alloc, faults) {
         Ok(planned) => planned,

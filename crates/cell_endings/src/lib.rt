@@ -1,5 +1,6 @@
-//! Why a run ended as it did: which limit ended it, how many plates weren't admitted and were laid back, which machines are
-//! failed, what stands in the cell and what it waits for, and what of the operator's script and of the faults was left.
+//! Why a run ended as it did: which limit ended it, how many plates weren't admitted and were laid back, which machines
+//! are failed, what stands in the cell and what it waits for, and what of the operator's script and of the faults was
+//! left.
 #![tactic(auto)]
 
 mod counts;

@@ -34,7 +34,8 @@ pub(crate) fn write_limit<W: Write>(
     end: End,
     plan: &Plan,
 ) -> Result<()>
-    ensures { OnOk result (Appends (W.contents writer.old) (W.contents writer.new) (limit_of book.now.entries end plan.now)) }
+    ensures { OnOk result (Appends (W.contents writer.old) (W.contents writer.new)
+        (limit_of book.now.entries end plan.now)) }
 {
     match end {
         End::Full => write_full(writer, plan, book.journal().len()),

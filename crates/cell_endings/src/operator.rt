@@ -3,7 +3,8 @@ ghost use Rattle.std.specs.Prelude.{◌≡◌, ◌≤◌, OnOk, length};
 ghost use Rattle.std.specs.Io.KnownBytes.{Appends};
 ghost use Rattle.operator_desk.specs.Lines.{line_of};
 ghost use Rattle.plate_book.specs.Rules.Legal.{first_of};
-ghost use Rattle.cell_endings.specs.Waiting.{is_operator, line_wait, lines_done, refusal_line, task_wait, trigger_wait, undone_line, waiting_of};
+ghost use Rattle.cell_endings.specs.Waiting.{is_operator, line_wait, lines_done, refusal_line, task_wait, trigger_wait};
+ghost use Rattle.cell_endings.specs.Waiting.{undone_line, waiting_of};
 ghost use Rattle.cell_endings.specs.Endings.{script_lines};
 
 use crate::words::{are, plates, were};
@@ -38,7 +39,8 @@ pub fn lines_done(journal: &Journal) -> u32
 
 // Writes what a trigger waits for.
 fn write_trigger<W: Write>(writer: &mut W, book: &Book, when: Trigger) -> Result<()>
-    ensures { OnOk result (Appends (W.contents writer.old) (W.contents writer.new) (trigger_wait book.now.entries when)) }
+    ensures { OnOk result (Appends (W.contents writer.old) (W.contents writer.new)
+        (trigger_wait book.now.entries when)) }
 {
     let totals = book.totals();
     match when {
@@ -74,7 +76,8 @@ fn write_trigger<W: Write>(writer: &mut W, book: &Book, when: Trigger) -> Result
 
 // Writes what refuses an entry of the operator's.
 fn write_refusal<W: Write>(writer: &mut W, book: &Book, entry: Entry) -> Result<()>
-    ensures { OnOk result (Appends (W.contents writer.old) (W.contents writer.new) (refusal_line (first_of book.now.limits book.now.entries entry))) }
+    ensures { OnOk result (Appends (W.contents writer.old) (W.contents writer.new)
+        (refusal_line (first_of book.now.limits book.now.entries entry))) }
 {
     match book.allows(entry) {
         Ok(()) => writeln!(writer, "nothing refuses it"),
@@ -84,7 +87,8 @@ fn write_refusal<W: Write>(writer: &mut W, book: &Book, entry: Entry) -> Result<
 
 // Writes what a task waits for.
 fn write_task<W: Write>(writer: &mut W, book: &Book, task: Task) -> Result<()>
-    ensures { OnOk result (Appends (W.contents writer.old) (W.contents writer.new) (task_wait book.now.limits book.now.entries task)) }
+    ensures { OnOk result (Appends (W.contents writer.old) (W.contents writer.new)
+        (task_wait book.now.limits book.now.entries task)) }
 {
     match task {
         Task::Stop(machine) => write_refusal(writer, book, Entry::StopAsked { machine }),
@@ -103,7 +107,8 @@ fn write_task<W: Write>(writer: &mut W, book: &Book, task: Task) -> Result<()>
 
 // Writes what a line waits for.
 fn write_wait<W: Write>(writer: &mut W, book: &Book, line: Line) -> Result<()>
-    ensures { OnOk result (Appends (W.contents writer.old) (W.contents writer.new) (line_wait book.now.limits book.now.entries line)) }
+    ensures { OnOk result (Appends (W.contents writer.old) (W.contents writer.new)
+        (line_wait book.now.limits book.now.entries line)) }
 {
     if holds(book, line.when) {
         write_task(writer, book, line.task)
@@ -119,7 +124,8 @@ fn write_undone<W: Write>(
     number: u64,
     line: Option<Line>,
 ) -> Result<()>
-    ensures { OnOk result (Appends (W.contents writer.old) (W.contents writer.new) (undone_line book.now.limits book.now.entries number line)) }
+    ensures { OnOk result (Appends (W.contents writer.old) (W.contents writer.new)
+        (undone_line book.now.limits book.now.entries number line)) }
 {
     match line {
         Some(line) => {
@@ -133,15 +139,16 @@ fn write_undone<W: Write>(
     }
 }
 
-/// Writes the first record of the operator's script that isn't done, by its number, and what it waits for. The records are done
-/// in their order, each with an entry of the operator's.
+/// Writes the first record of the operator's script that isn't done, by its number, and what it waits for. The records
+/// are done in their order, each with an entry of the operator's.
 pub(crate) fn write_operator<W: Write>(
     alloc: Global,
     writer: &mut W,
     book: &Book,
     operator: &[u8],
 ) -> Result<()>
-    ensures { OnOk result (Appends (W.contents writer.old) (W.contents writer.new) (waiting_of book.now.limits book.now.entries (script_lines line_of operator.now))) }
+    ensures { OnOk result (Appends (W.contents writer.old) (W.contents writer.new)
+        (waiting_of book.now.limits book.now.entries (script_lines line_of operator.now))) }
 {
     let lines = match read_script::<Line>(alloc, operator) {
         Ok(lines) => lines,

@@ -3,7 +3,8 @@ ghost use Rattle.std.specs.Prelude.{◌≡◌, OnOk};
 ghost use Rattle.std.specs.Io.KnownBytes.{Appends};
 ghost use Rattle.cell_types.specs.Same.{same_pose};
 ghost use Rattle.cell_views.specs.Views.{going_of, pose_of};
-ghost use Rattle.cell_endings.specs.Plates.{belt_entry, next_entry, plate_line, plates_of, press_entry_at, press_for_arm, told_at};
+ghost use Rattle.cell_endings.specs.Plates.{belt_entry, next_entry, plate_line, plates_of, press_entry_at};
+ghost use Rattle.cell_endings.specs.Plates.{press_for_arm, told_at};
 
 use cell_sentences::{EntrySentence, RefusalSentence, station_name};
 use cell_types::{Arm, Axis, Entry, Machine, PlateId, Pose, STATIONS, Station, machine_of_axis};
@@ -32,8 +33,8 @@ fn belt_entry(book: &Book, axis: Axis, plate: PlateId, to: Pose, dest: Station) 
     }
 }
 
-// The entry by which the plate in a press goes on: the press sets out for its top, forges the plate there, and goes to its
-// bottom, where the plate is gripped.
+// The entry by which the plate in a press goes on: the press sets out for its top, forges the plate there, and goes to
+// its bottom, where the plate is gripped.
 fn press_entry(book: &Book, axis: Axis, plate: PlateId, station: Station) -> Entry
     ensures { result ≡ press_entry_at axis plate station (pose_of book.now.entries axis) }
 {
@@ -107,7 +108,8 @@ fn write_plate<W: Write>(
     station: Station,
     plate: PlateId,
 ) -> Result<()>
-    ensures { OnOk result (Appends (W.contents writer.old) (W.contents writer.new) (plate_line book.now.limits book.now.entries station plate)) }
+    ensures { OnOk result (Appends (W.contents writer.old) (W.contents writer.new)
+        (plate_line book.now.limits book.now.entries station plate)) }
 {
     let entry = next_entry(book, station, plate);
     let shown = entry;
@@ -129,7 +131,8 @@ fn write_plate<W: Write>(
 
 // Writes the plate of a station, where it has one.
 fn write_station<W: Write>(writer: &mut W, book: &Book, station: Station) -> Result<()>
-    ensures { OnOk result (Appends (W.contents writer.old) (W.contents writer.new) (told_at book.now.limits book.now.entries station)) }
+    ensures { OnOk result (Appends (W.contents writer.old) (W.contents writer.new)
+        (told_at book.now.limits book.now.entries station)) }
 {
     match book.plate_at(station) {
         Some(plate) => write_plate(writer, book, station, plate),
@@ -139,7 +142,8 @@ fn write_station<W: Write>(writer: &mut W, book: &Book, station: Station) -> Res
 
 /// Writes the plates that stand in the cell, each with the entry by which it would go on and what refuses that.
 pub(crate) fn write_plates<W: Write>(writer: &mut W, book: &Book) -> Result<()>
-    ensures { OnOk result (Appends (W.contents writer.old) (W.contents writer.new) (plates_of book.now.limits book.now.entries)) }
+    ensures { OnOk result (Appends (W.contents writer.old) (W.contents writer.new)
+        (plates_of book.now.limits book.now.entries)) }
 {
     for station in STATIONS {
         write_station(writer, book, station)?;

@@ -1,5 +1,6 @@
 -- Parts of a text, and lines of which something is known
-use Rattle.std.proofs.Common.{◌≡◌, ◌∙◌, ◌≤◌, ◌-◌, ℕ, List, ◌++◌, Result, Ok, Err, IfOk, ap, append-nil, arith, drop, inl, inr, length, map, sym, take, take-append-drop}
+use Rattle.std.proofs.Common.{◌≡◌, ◌∙◌, ◌≤◌, ◌-◌, ℕ, List, ◌++◌, Result, Ok, Err, IfOk, ap, append-nil, arith, drop}
+use Rattle.std.proofs.Common.{inl, inr, length, map, sym, take, take-append-drop}
 use Rattle.std.specs.Prelude.{nat_lt}
 use Rattle.std.proofs.lemmas.Bool.{cases_Bool}
 use Rattle.std.proofs.lemmas.Bool.Decides.{Decides-ltb}
@@ -10,7 +11,12 @@ use Rattle.cell_explain.specs.Told.{SaysUnreadable, StandsIn}
 
 -- a part of a text stands in it
 pub stands : (text : List ℕ) (i j : ℕ) → i ≤ j → StandsIn text (take (j - i) (drop i text))
-stands text i j h = (take i text, drop j text, sym (take-append-drop i text) ∙ ap (λ l. take i text ++ l) (drop_split text i j h))
+stands text i j h = (
+  take i text,
+  drop j text,
+  sym (take-append-drop i text)
+      ∙ ap (λ l. take i text ++ l) (drop_split text i j h),
+)
 
 -- a record that isn't long is shown whole
 pub short-shown : (bytes : List ℕ) → length bytes ≤ 80 → map shown_byte bytes ≡ shown bytes
@@ -20,7 +26,8 @@ short-shown bytes h = elim (cases_Bool (nat_lt 80 (length bytes))) [
 ]
 
 -- the line of a script that is too long names some line
-pub some-line : {S E : Type 0} (r : Result S E) (bytes : S → List ℕ) (n : ℕ) → IfOk r (λ s. bytes s ≡ long_line n) → IfOk r (λ s. (line : ℕ) × (bytes s ≡ long_line line))
+pub some-line : {S E : Type 0} (r : Result S E) (bytes : S → List ℕ) (n : ℕ) → IfOk r (λ s. bytes s ≡ long_line n)
+    → IfOk r (λ s. (line : ℕ) × (bytes s ≡ long_line line))
 some-line (Ok s) bytes n h = (n, h)
 some-line (Err e) bytes n h = tt
 

@@ -22,7 +22,8 @@ EndsAsAudit text status = (answer : Result (ℕ × Totals) AuditError) × IsAnsw
 
 -- the status is that of an answer to the settings
 abbrev pub EndsAsCheck : List ℕ → ℕ → Type 0
-EndsAsCheck text status = (answer : Result Numbers SettingsError) × AnswersText text answer × (status ≡ check_status answer)
+EndsAsCheck text status = (answer : Result Numbers SettingsError) × AnswersText text answer
+    × (status ≡ check_status answer)
 
 -- the status of an answer to a script of faults
 abbrev pub faults_status : {X : Type 0} → Result X FaultError → ℕ
@@ -33,7 +34,8 @@ faults_status (Err fault.OutOfMemory) = 4
 
 -- the status is that of an answer to the script of faults
 abbrev pub EndsAsFaults : List ℕ → ℕ → Type 0
-EndsAsFaults text status = (answer : Result (List PlannedFault) FaultError) × GivesFaults answer (faults_of (rows_of text)) × (status ≡ faults_status answer)
+EndsAsFaults text status = (answer : Result (List PlannedFault) FaultError)
+    × GivesFaults answer (faults_of (rows_of text)) × (status ≡ faults_status answer)
 
 -- the status of an answer to the operator's script
 abbrev pub script_status : {X : Type 0} → Result X ScriptError → ℕ
@@ -44,4 +46,5 @@ script_status (Err script.OutOfMemory) = 4
 
 -- the status is that of an answer to the operator's script
 abbrev pub EndsAsScript : List ℕ → ℕ → Type 0
-EndsAsScript text status = (answer : Result (List Line) ScriptError) × GivesLines answer (lines_of (rows_of text)) × (status ≡ script_status answer)
+EndsAsScript text status = (answer : Result (List Line) ScriptError) × GivesLines answer (lines_of (rows_of text))
+    × (status ≡ script_status answer)

@@ -1,5 +1,6 @@
 -- The lines in which a text's records are told
-use Rattle.std.specs.Prelude.{◌==◌, ◌&&◌, ℕ, List, [], ◌∷◌, ◌++◌, codes, decimal, if◌then◌else◌, length, map, nat_le, nat_lt, take}
+use Rattle.std.specs.Prelude.{◌==◌, ◌&&◌, ℕ, List, [], ◌∷◌, ◌++◌, codes, decimal, if◌then◌else◌, length, map, nat_le}
+use Rattle.std.specs.Prelude.{nat_lt, take}
 use Rattle.plate_book.specs.declared.refusal.Refusal.{Refusal}
 use Rattle.plate_book.specs.Rules.Words.{refusal_text}
 use Rattle.cell_sentences.specs.Sentences.{entry_deed, refusal_sentence}
@@ -32,17 +33,26 @@ shown bytes = map shown_byte (take 80 bytes) ++ (if nat_lt 80 (length bytes) the
 
 -- the words of which one may stand in a field
 abbrev pub words_text : Words → List ℕ
-words_text words.KindsOfOne = codes "lamp, admitted, claimed, yielded, started, arrived, conveyed, forged, gripped, dropped, delivered, declared, stop_asked, quarantined, repaired"
-words_text words.Kinds = codes "lamp, admitted, claimed, yielded, started, arrived, conveyed, forged, gripped, dropped, delivered, declared, stop_asked, quarantined, repaired, expected, reinstated"
+words_text words.KindsOfOne =
+    codes "lamp, admitted, claimed, yielded, started, arrived, conveyed, forged, gripped, dropped, "
+    ++ codes "delivered, declared, stop_asked, quarantined, repaired"
+words_text words.Kinds =
+    codes "lamp, admitted, claimed, yielded, started, arrived, conveyed, forged, gripped, dropped, "
+    ++ codes "delivered, declared, stop_asked, quarantined, repaired, expected, reinstated"
 words_text words.Machine = codes "feed, table, robot, press1, press2, deposit"
 words_text words.Station = codes "feed_in, feed_end, table, arm1, arm2, press1, press2, dep_in, dep_end"
-words_text words.Axis = codes "feed_belt, table_lift, table_turn, robot_turn, arm_one, arm_two, press_one, press_two, deposit_belt"
-words_text words.Pose = codes "rest, to_end, to_table, low, high, belt, robot, table1, p1_load, p1_unload, p2_load, p2_unload, deposit2, in, out, middle, top, bottom"
+words_text words.Axis =
+    codes "feed_belt, table_lift, table_turn, robot_turn, arm_one, arm_two, press_one, press_two, deposit_belt"
+words_text words.Pose =
+    codes "rest, to_end, to_table, low, high, belt, robot, table1, p1_load, p1_unload, p2_load, p2_unload, "
+    ++ codes "deposit2, in, out, middle, top, bottom"
 words_text words.Zone = codes "z1, z2, z3, z4, z5"
 words_text words.Arm = codes "arm1, arm2"
 words_text words.Belt = codes "feed, deposit"
 words_text words.Colour = codes "red, green"
-words_text words.Cause = codes "stuck_switch, contradictory, stray_position, no_departure, missing_motion, lost_position, plate_lost, strange_plate, silent, command_fault, operator_stop"
+words_text words.Cause =
+    codes "stuck_switch, contradictory, stray_position, no_departure, missing_motion, lost_position, "
+    ++ codes "plate_lost, strange_plate, silent, command_fault, operator_stop"
 words_text words.Fault = codes "no_motion, keeps_old, both, slow, lose_plate, silent, refuse_command"
 words_text words.Trigger = codes "always, admitted, delivered, quarantined, failed"
 words_text words.Task = codes "stop, clear, repair, expect"
@@ -50,7 +60,8 @@ words_text words.Task = codes "stop, clear, repair, expect"
 -- what may stand in a field
 abbrev pub wanted_text : Wanted → List ℕ
 wanted_text (wanted.Word words) = codes "one of " ++ words_text words
-wanted_text (wanted.Number low most) = codes "a number from " ++ (decimal low ++ (codes " to " ++ (decimal most ++ codes ", in digits alone, with no 0 in front")))
+wanted_text (wanted.Number low most) = codes "a number from "
+    ++ (decimal low ++ (codes " to " ++ (decimal most ++ codes ", in digits alone, with no 0 in front")))
 wanted_text wanted.Nothing = codes "nothing"
 
 -- a number from 2 to 12 in words; nothing for another
@@ -76,7 +87,8 @@ word_or_digits n (byte ∷ rest) = byte ∷ rest
 
 -- how many fields a record has that hasn't four
 abbrev pub count_text : ℕ → List ℕ
-count_text n = if n == 1 then codes "one field, and not four" else word_or_digits n (number_word n) ++ codes " fields, and not four"
+count_text n = if n == 1 then codes "one field, and not four" else word_or_digits n (number_word n)
+    ++ codes " fields, and not four"
 
 -- why a record can't be read
 abbrev pub trouble_text : Trouble → List ℕ
@@ -95,7 +107,9 @@ shown_before _ bytes = shown bytes ++ codes ": "
 -- the line of a record that can't be read: the line in which it begins, what it is and its number, itself, and why
 abbrev pub record_line : ℕ → List ℕ → ℕ → List ℕ → Trouble → List ℕ
 record_line line name number bytes why =
-    codes "line " ++ (decimal line ++ (codes ", " ++ (name ++ (codes " " ++ (decimal number ++ (codes ": " ++ (shown_before why bytes ++ (trouble_text why ++ 10 ∷ []))))))))
+    codes "line " ++ (decimal line ++ (codes ", "
+    ++ (name ++ (codes " " ++ (decimal number
+    ++ (codes ": " ++ (shown_before why bytes ++ (trouble_text why ++ 10 ∷ []))))))))
 
 -- the line of a first record that is no profile's
 abbrev pub profile_line : ℕ → List ℕ
@@ -144,12 +158,14 @@ circumstances_text made = since_text made.since ++ due_text made.due
 -- sentence, since when it is so, and what is so beside
 abbrev pub refused_line : ℕ → ℕ → List ℕ → Refusal → Circumstances → List ℕ
 refused_line line number bytes why made =
-    codes "line " ++ (decimal line ++ (codes ", entry " ++ (decimal number ++ (codes ": " ++ (shown bytes ++ (codes ": " ++ (refusal_text why
+    codes "line " ++ (decimal line ++ (codes ", entry "
+    ++ (decimal number ++ (codes ": " ++ (shown bytes ++ (codes ": " ++ (refusal_text why
     ++ (codes ": " ++ (refusal_sentence why ++ (circumstances_text made ++ 10 ∷ []))))))))))
 
 -- the line of a good script of this name: how many lines it has
 abbrev pub good_line : List ℕ → ℕ → List ℕ
-good_line name n = if n == 1 then name ++ codes " ok, 1 line\n" else name ++ (codes " ok, " ++ (decimal n ++ codes " lines\n"))
+good_line name n = if n == 1 then name ++ codes " ok, 1 line\n" else name
+    ++ (codes " ok, " ++ (decimal n ++ codes " lines\n"))
 
 -- the line of a script that has too many lines: where the first of these begins
 abbrev pub long_line : ℕ → List ℕ

@@ -14,8 +14,8 @@ script_ends (Err (error.Unreadable place)) = 1
 script_ends (Err error.TooManyLines) = 1
 script_ends (Err error.OutOfMemory) = 4
 
--- what is said of a script of this name by the answer of its reading: how many lines it has, or the first record that is no
--- line, or where the first of too many lines begins
+-- what is said of a script of this name by the answer of its reading: how many lines it has, or the first record that
+-- is no line, or where the first of too many lines begins
 abbrev pub SaysLines : {L : Type 0} → List ℕ → List ℕ → Result (List L) LineError → List ℕ → Type 0
 SaysLines name text (Ok lines) saying = saying ≡ good_line name (length lines)
 SaysLines name text (Err (error.Unreadable place)) saying = SaysRecord text (codes "record") place saying
@@ -24,9 +24,11 @@ SaysLines name text (Err error.OutOfMemory) saying = saying ≡ []
 
 -- what is said by an answer to a script, with its status; nothing where memory is refused, also later
 abbrev pub SaysAnswer : {L : Type 0} → List ℕ → List ℕ → Result (List L) LineError → ℕ → List ℕ → Type 0
-SaysAnswer name text answer status saying = (SaysLines name text answer saying × (status ≡ script_ends answer)) ⊎ SaysNothing status saying
+SaysAnswer name text answer status saying = (SaysLines name text answer saying × (status ≡ script_ends answer))
+    ⊎ SaysNothing status saying
 
 -- what is said of a script's text with a status: by the answer that is due to its records, unless memory was refused
 abbrev pub SaysScript : {L : Type 0} → List ℕ → Reading L → List ℕ → ℕ → List ℕ → Type 0
 SaysScript {L} name read text status saying =
-    (answer : Result (List L) LineError) × Gives answer (lines_of read (rows_of text)) × SaysAnswer name text answer status saying
+    (answer : Result (List L) LineError) × Gives answer (lines_of read (rows_of text))
+    × SaysAnswer name text answer status saying

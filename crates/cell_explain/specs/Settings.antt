@@ -17,7 +17,8 @@ key_line begin path wanted = begin ++ (escaped path ++ (codes ": " ++ (wanted ++
 
 -- the line of a text that is no TOML: where it isn't, and why
 abbrev pub syntax_line : ℕ → ℕ → List ℕ → List ℕ
-syntax_line line column why = codes "line " ++ (decimal line ++ (codes ", column " ++ (decimal column ++ (codes ": " ++ (why ++ 10 ∷ [])))))
+syntax_line line column why = codes "line "
+    ++ (decimal line ++ (codes ", column " ++ (decimal column ++ (codes ": " ++ (why ++ 10 ∷ [])))))
 
 -- the second line is that of a key at this path
 abbrev pub SaysKey : List ℕ → List ℕ → Type 0
@@ -41,12 +42,14 @@ SaysSecond (Err error.OutOfMemory) second = second ≡ []
 abbrev pub SaysFirst : {X : Type 0} → Result X SettingsError → ℕ → List ℕ → Type 0
 SaysFirst answer status saying = ((saying ≡ line_of answer) × (status ≡ status_of answer)) ⊎ SaysNothing status saying
 
--- what is said by an answer to settings, with its status: the line of the program's check, and the second line; nothing where
--- memory is refused, also later
+-- what is said by an answer to settings, with its status: the line of the program's check, and the second line; nothing
+-- where memory is refused, also later
 abbrev pub SaysAnswer : {X : Type 0} → Result X SettingsError → ℕ → List ℕ → Type 0
 SaysAnswer answer status saying =
-    ((second : List ℕ) × SaysSecond answer second × (saying ≡ line_of answer ++ second) × (status ≡ status_of answer)) ⊎ SaysNothing status saying
+    ((second : List ℕ) × SaysSecond answer second × (saying ≡ line_of answer ++ second) × (status ≡ status_of answer))
+    ⊎ SaysNothing status saying
 
 -- what is said of settings with a status: by an answer to their text
 abbrev pub SaysSettings : List ℕ → ℕ → List ℕ → Type 0
-SaysSettings text status saying = (answer : Result Numbers SettingsError) × AnswersText text answer × SaysAnswer answer status saying
+SaysSettings text status saying = (answer : Result Numbers SettingsError) × AnswersText text answer
+    × SaysAnswer answer status saying

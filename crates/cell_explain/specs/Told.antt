@@ -1,5 +1,6 @@
 -- What is said of a journal's text
-use Rattle.std.specs.Prelude.{◌≡◌, ◌≢◌, ◌⊎◌, ◌+◌, ℕ, List, [], ◌++◌, length, Option, Some, Result, Ok, Err, ⊤, codes, slice_get}
+use Rattle.std.specs.Prelude.{◌≡◌, ◌≢◌, ◌⊎◌, ◌+◌, ℕ, List, [], ◌++◌, length, Option, Some, Result, Ok, Err, ⊤, codes}
+use Rattle.std.specs.Prelude.{slice_get}
 use Rattle.std.specs.Io.KnownBytes.{Appends}
 use Rattle.cell_rows.specs.Rows.{rows_of}
 use Rattle.cell_types.specs.declared.words.Entry.{Entry}
@@ -43,27 +44,32 @@ StandsIn text bytes = (before : List ℕ) × (after : List ℕ) × (text ≡ bef
 -- what is said of a record that can't be read: its line, its number, itself, and why
 abbrev pub SaysRecord : List ℕ → List ℕ → ℕ → List ℕ → Type 0
 SaysRecord text name number saying =
-    (line : ℕ) × (bytes : List ℕ) × (why : Trouble) × StandsIn text bytes × (saying ≡ record_line line name number bytes why)
+    (line : ℕ) × (bytes : List ℕ) × (why : Trouble) × StandsIn text bytes
+    × (saying ≡ record_line line name number bytes why)
 
--- since when an entry is refused after a journal: always, or since an entry of the journal, whose number is counted from 1
+-- since when an entry is refused after a journal: always, or since an entry of the journal, whose number is counted
+-- from 1
 abbrev pub IsSince : List Entry → Since → Type 0
 IsSince J since.Opening = ⊤
 IsSince J (since.Entry n e) = (place : ℕ) × (n ≡ place + 1) × (slice_get J place ≡ Some e)
 IsSince J since.Always = ⊤
 
--- what is said of a refused entry: its line, its number, its record, the refusal, since which of the entries before it, and what
--- is so beside
+-- what is said of a refused entry: its line, its number, its record, the refusal, since which of the entries before it,
+-- and what is so beside
 abbrev pub SaysRefused : List ℕ → ℕ → Refusal → List ℕ → Type 0
 SaysRefused text number why saying =
-    (line : ℕ) × (bytes : List ℕ) × (J : List Entry) × (made : Circumstances) × StandsIn text bytes × SpellsFirst J (rows_of text)
+    (line : ℕ) × (bytes : List ℕ) × (J : List Entry) × (made : Circumstances) × StandsIn text bytes
+    × SpellsFirst J (rows_of text)
     × (length J + 1 ≡ number) × IsSince J made.since × (saying ≡ refused_line line number bytes why made)
 
 -- what is said of a record of a journal that can't be read; record 0 is the profile's
 abbrev pub SaysUnreadable : List ℕ → ℕ → List ℕ → Type 0
 SaysUnreadable text number saying =
-    ((number ≡ 0) × ((line : ℕ) × (saying ≡ profile_line line))) ⊎ ((number ≢ 0) × SaysRecord text (codes "entry") number saying)
+    ((number ≡ 0) × ((line : ℕ) × (saying ≡ profile_line line)))
+    ⊎ ((number ≢ 0) × SaysRecord text (codes "entry") number saying)
 
--- what is said of a text by the audit's answer: the audit's lines where it is legal, and nothing where memory was refused
+-- what is said of a text by the audit's answer: the audit's lines where it is legal, and nothing where memory was
+-- refused
 abbrev pub SaysOf : List ℕ → Result (ℕ × Totals) AuditError → List ℕ → Type 0
 SaysOf text (Ok totals) saying = saying ≡ lines_of (Ok totals)
 SaysOf text (Err (error.Unreadable number)) saying = SaysUnreadable text number saying
@@ -74,9 +80,11 @@ SaysOf text (Err error.OutOfMemory) saying = saying ≡ []
 -- the audit's lines are said, with the status of an answer that the audit may give to the text
 abbrev pub SaysAudit : List ℕ → ℕ → List ℕ → Type 0
 SaysAudit text status saying =
-    (answer : Result (ℕ × Totals) AuditError) × IsAnswer text answer × (saying ≡ lines_of answer) × (status ≡ status_of answer)
+    (answer : Result (ℕ × Totals) AuditError) × IsAnswer text answer × (saying ≡ lines_of answer)
+    × (status ≡ status_of answer)
 
 -- what is said of a journal's text with a status: by an answer that the audit may give to it, whose status it is
 abbrev pub SaysJournal : List ℕ → ℕ → List ℕ → Type 0
 SaysJournal text status saying =
-    (answer : Result (ℕ × Totals) AuditError) × IsAnswer text answer × SaysOf text answer saying × (status ≡ status_of answer)
+    (answer : Result (ℕ × Totals) AuditError) × IsAnswer text answer × SaysOf text answer saying
+    × (status ≡ status_of answer)

@@ -79,7 +79,8 @@ impl Fields {
         self.is_open
     }
 
-    /// The field at a place, counted from 0: of a longer one than can be read only a first part. Nothing where there is none.
+    /// The field at a place, counted from 0: of a longer one than can be read only a first part. Nothing where there is
+    /// none.
     pub(crate) fn at(&self, place: usize) -> &[u8] {
         match self.texts.get(place) {
             Some(text) => text.as_slice(),

@@ -7,7 +7,8 @@ ghost use Rattle.cell_rows.specs.Rows.{current_row, rows_of};
 ghost use Rattle.cell_types.specs.Records.{read_row};
 ghost use Rattle.cell_explain.specs.Explained.{EndsAsAudit};
 ghost use Rattle.cell_explain.specs.Sayings.{refused_line};
-ghost use Rattle.cell_explain.specs.Told.{IsSince, SaysAudit, SaysJournal, SaysRefusal, SaysRefused, SaysUnreadable, Tells, TellsPart};
+ghost use Rattle.cell_explain.specs.Told.{IsSince, SaysAudit, SaysJournal, SaysRefusal, SaysRefused, SaysUnreadable};
+ghost use Rattle.cell_explain.specs.Told.{Tells, TellsPart};
 
 use crate::due::{Circumstances, Due, due_of};
 use crate::fields::Fields;
@@ -104,7 +105,8 @@ fn refused_line(
     why: Refusal,
     made: Circumstances,
 ) -> Result<String, AllocError>
-    ensures { IfOk result (λ text. string_bytes text ≡ refused_line «record».entry.line place «record».entry.bytes.now why made) }
+    ensures { IfOk result (λ text. string_bytes text ≡ refused_line «record».entry.line place «record».entry.bytes.now
+        why made) }
 {
     let Record { line, bytes } = record;
     let shown = shown(alloc, bytes)?;
@@ -112,8 +114,8 @@ fn refused_line(
     format!(in alloc; "line {line}, entry {place}: {shown}: {why}: {sentence}{made}\n")
 }
 
-// What is said of a text whose entry at a place isn't allowed, by a second reading into a book. That gives the same answer,
-// unless memory is refused.
+// What is said of a text whose entry at a place isn't allowed, by a second reading into a book. That gives the same
+// answer, unless memory is refused.
 fn say_refused(alloc: Global, text: &[u8], place: u32, why: Refusal) -> Said
     ensures { SaysRefusal (SaysRefused text.now place why) result.status result.text.items }
 {
@@ -148,8 +150,8 @@ fn say_journal(alloc: Global, text: &[u8]) -> Said
     }
 }
 
-/// Writes what is to be said of a journal's text, as `explain_journal` does, to a writer that notes whether a write of it was
-/// refused.
+/// Writes what is to be said of a journal's text, as `explain_journal` does, to a writer that notes whether a write of
+/// it was refused.
 pub fn explain_journal_watched<W: Write>(
     alloc: Global,
     text: &[u8],
@@ -157,9 +159,12 @@ pub fn explain_journal_watched<W: Write>(
 ) -> Result<u8, WriteFault>
     ensures writer { IsSameWriter writer.old writer.new }
     ensures status { IfOk result (EndsAsAudit text.now) }
-    ensures legal { IfOk result (λ s. s ≡ 0 → TellsAudit (Some text.now) (bytes_held W.contents writer.old) (bytes_held W.contents writer.new) s) }
-    ensures told { IfOk result (λ s. Tells (SaysJournal text.now s) (bytes_held W.contents writer.old) (bytes_held W.contents writer.new)) }
-    ensures part { IsErr result → (s : ℕ) × TellsPart (SaysJournal text.now s) (bytes_held W.contents writer.old) (bytes_held W.contents writer.new) }
+    ensures legal { IfOk result (λ s. s ≡ 0
+        → TellsAudit (Some text.now) (bytes_held W.contents writer.old) (bytes_held W.contents writer.new) s) }
+    ensures told { IfOk result (λ s. Tells (SaysJournal text.now s) (bytes_held W.contents writer.old)
+        (bytes_held W.contents writer.new)) }
+    ensures part { IsErr result → (s : ℕ) × TellsPart (SaysJournal text.now s) (bytes_held W.contents writer.old)
+        (bytes_held W.contents writer.new) }
     // It answers that the writer failed only where a write was refused.
     ensures fault { IsErr result → has_refused writer.new ≡ true }
 {
@@ -169,13 +174,13 @@ pub fn explain_journal_watched<W: Write>(
 
 /// Writes what is to be said of a journal's text, and gives the exit status, which is the audit's.
 ///
-/// A legal journal: the audit's lines, status 0. A refused entry: its line, its number, its record, the refusal, also as a
-/// sentence, and since which entry it is so, in one line, status 1. A record that can't be read: its line, its number, itself
-/// and what may stand in the first field that can't be read, status 1. Lines are counted from 1, and a record's line is the one
-/// in which it begins. Where memory is refused (status 4) nothing is written.
+/// A legal journal: the audit's lines, status 0. A refused entry: its line, its number, its record, the refusal, also
+/// as a sentence, and since which entry it is so, in one line, status 1. A record that can't be read: its line, its
+/// number, itself and what may stand in the first field that can't be read, status 1. Lines are counted from 1, and a
+/// record's line is the one in which it begins. Where memory is refused (status 4) nothing is written.
 ///
-/// That `WriteFault` comes only where a refused write was noted is a clause of `explain_journal_watched`, of which this is the
-/// case of a new writer that notes.
+/// That `WriteFault` comes only where a refused write was noted is a clause of `explain_journal_watched`, of which this
+/// is the case of a new writer that notes.
 pub fn explain_journal<W: Write>(
     alloc: Global,
     text: &[u8],
@@ -184,11 +189,13 @@ pub fn explain_journal<W: Write>(
     // The status is that of an answer of the audit.
     ensures status { IfOk result (EndsAsAudit text.now) }
     // Of a legal journal what is written is the audit's lines.
-    ensures legal { IfOk result (λ s. s ≡ 0 → TellsAudit (Some text.now) (W.contents writer.old) (W.contents writer.new) s) }
+    ensures legal { IfOk result (λ s. s ≡ 0
+        → TellsAudit (Some text.now) (W.contents writer.old) (W.contents writer.new) s) }
     // What is written is what is said of the text with this status.
     ensures told { IfOk result (λ s. Tells (SaysJournal text.now s) (W.contents writer.old) (W.contents writer.new)) }
     // Where the writer failed, a first part of it was written.
-    ensures part { IsErr result → (s : ℕ) × TellsPart (SaysJournal text.now s) (W.contents writer.old) (W.contents writer.new) }
+    ensures part { IsErr result → (s : ℕ) × TellsPart (SaysJournal text.now s) (W.contents writer.old)
+        (W.contents writer.new) }
 {
     let mut writer = WatchedWriter::new(writer);
     explain_journal_watched(alloc, text, &mut writer)

@@ -47,8 +47,10 @@ impl Said {
         writer: &mut WatchedWriter<'_, W>,
     ) -> Result<u8, WriteFault>
         ensures writer { IsSameWriter writer.old writer.new }
-        ensures whole { IfOk result (WritesSaying (bytes_held W.contents writer.old) (bytes_held W.contents writer.new) self.now.status self.now.text.items) }
-        ensures part { IsErr result → WritesPart (bytes_held W.contents writer.old) (bytes_held W.contents writer.new) self.now.text.items }
+        ensures whole { IfOk result (WritesSaying (bytes_held W.contents writer.old) (bytes_held W.contents writer.new)
+            self.now.status self.now.text.items) }
+        ensures part { IsErr result → WritesPart (bytes_held W.contents writer.old) (bytes_held W.contents writer.new)
+            self.now.text.items }
         ensures fault { IsErr result → has_refused writer.new ≡ true }
     {
         writer.write_bytes(self.text.as_slice())?;

@@ -3,7 +3,8 @@ ghost use Rattle.std.specs.Prelude.{◌≡◌, ◌++◌, ℕ, List, IfOk, IsErr,
 ghost use Rattle.std.specs.Io.KnownBytes.{Appends};
 ghost use Rattle.cell_audit.specs.Watched.{IsSameWriter, bytes_held, has_refused};
 ghost use Rattle.cell_explain.specs.Explained.{EndsAsCheck};
-ghost use Rattle.cell_explain.specs.Settings.{SaysFirst, SaysKey, SaysSecond, SaysSettings, SaysSyntax, key_line, line_begin};
+ghost use Rattle.cell_explain.specs.Settings.{SaysFirst, SaysKey, SaysSecond, SaysSettings, SaysSyntax, key_line};
+ghost use Rattle.cell_explain.specs.Settings.{line_begin};
 ghost use Rattle.cell_explain.specs.Told.{Tells, TellsPart};
 
 use crate::said::Said;
@@ -92,7 +93,8 @@ fn key_at(path: &str) -> &'static str {
             "a table with leave and limit"
         }
         (_, _, None) => {
-            "no such axis, but feed_belt, table_lift, table_turn, robot_turn, arm_one, arm_two, press_one, press_two and deposit_belt"
+            "no such axis, but feed_belt, table_lift, table_turn, robot_turn, arm_one, arm_two, press_one, press_two \
+                and deposit_belt"
         }
         (Some("watch"), Some(axis), Some("leave" | "limit"))
             if keys.next().is_none() && read_axis(axis.as_bytes()).is_some() => {
@@ -120,7 +122,8 @@ fn write_key<W: Write>(
     wanted: &str,
 ) -> Result<(), WriteFault>
     ensures writer { IsSameWriter writer.old writer.new }
-    ensures whole { OnOk result (Appends (bytes_held W.contents writer.old) (bytes_held W.contents writer.new) (key_line begin.now path.now wanted.now)) }
+    ensures whole { OnOk result (Appends (bytes_held W.contents writer.old) (bytes_held W.contents writer.new)
+        (key_line begin.now path.now wanted.now)) }
     ensures fault { IsErr result → has_refused writer.new ≡ true }
 {
     writer.write_bytes(begin.as_bytes())?;
@@ -168,7 +171,8 @@ fn found_line(text: &[u8], path: &KeyPath) -> Option<u32> {
 
 // Adds the line of a key to those that are said. It is false where memory was refused.
 fn add_key(alloc: Global, text: &[u8], path: &KeyPath, wanted: &str, lines: &mut Vec<u8>) -> bool
-    ensures { result ≡ true → (second : List ℕ) × SaysKey path.now second × (lines.new.items ≡ lines.old.items ++ second) }
+    ensures { result ≡ true → (second : List ℕ) × SaysKey path.now second
+        × (lines.new.items ≡ lines.old.items ++ second) }
 {
     let Ok(begin) = line_begin(alloc, found_line(text, path)) else {
         return false;
@@ -184,7 +188,8 @@ fn add_second(
     answer: &Result<Plan, SettingsError>,
     lines: &mut Vec<u8>,
 ) -> bool
-    ensures { result ≡ true → (second : List ℕ) × SaysSecond answer.now second × (lines.new.items ≡ lines.old.items ++ second) }
+    ensures { result ≡ true → (second : List ℕ) × SaysSecond answer.now second
+        × (lines.new.items ≡ lines.old.items ++ second) }
 {
     match answer {
         Ok(_) => true,
@@ -240,8 +245,10 @@ pub fn explain_settings_watched<W: Write>(
 ) -> Result<u8, WriteFault>
     ensures writer { IsSameWriter writer.old writer.new }
     ensures status { IfOk result (EndsAsCheck text.now) }
-    ensures told { IfOk result (λ s. Tells (SaysSettings text.now s) (bytes_held W.contents writer.old) (bytes_held W.contents writer.new)) }
-    ensures part { IsErr result → (s : ℕ) × TellsPart (SaysSettings text.now s) (bytes_held W.contents writer.old) (bytes_held W.contents writer.new) }
+    ensures told { IfOk result (λ s. Tells (SaysSettings text.now s) (bytes_held W.contents writer.old)
+        (bytes_held W.contents writer.new)) }
+    ensures part { IsErr result → (s : ℕ) × TellsPart (SaysSettings text.now s) (bytes_held W.contents writer.old)
+        (bytes_held W.contents writer.new) }
     // It answers that the writer failed only where a write was refused.
     ensures fault { IsErr result → has_refused writer.new ≡ true }
 {
@@ -251,12 +258,12 @@ pub fn explain_settings_watched<W: Write>(
 
 /// Writes what is to be said of settings, and gives the exit status, which is that of `check_lines`.
 ///
-/// First the line of `check_lines`. Of settings that are refused there is a second line: where they are wrong and what is wanted
-/// there. A text that is no TOML is told by its line and column, a key by its line where that is found, and by its path. Where
-/// memory is refused (status 4) nothing is written.
+/// First the line of `check_lines`. Of settings that are refused there is a second line: where they are wrong and what
+/// is wanted there. A text that is no TOML is told by its line and column, a key by its line where that is found, and
+/// by its path. Where memory is refused (status 4) nothing is written.
 ///
-/// That `WriteFault` comes only where a refused write was noted is a clause of `explain_settings_watched`, of which this is the
-/// case of a new writer that notes.
+/// That `WriteFault` comes only where a refused write was noted is a clause of `explain_settings_watched`, of which
+/// this is the case of a new writer that notes.
 pub fn explain_settings<W: Write>(
     alloc: Global,
     text: &[u8],
@@ -267,7 +274,8 @@ pub fn explain_settings<W: Write>(
     // What is written is what is said of the settings with this status.
     ensures told { IfOk result (λ s. Tells (SaysSettings text.now s) (W.contents writer.old) (W.contents writer.new)) }
     // Where the writer failed, a first part of it was written.
-    ensures part { IsErr result → (s : ℕ) × TellsPart (SaysSettings text.now s) (W.contents writer.old) (W.contents writer.new) }
+    ensures part { IsErr result → (s : ℕ) × TellsPart (SaysSettings text.now s) (W.contents writer.old)
+        (W.contents writer.new) }
 {
     let mut writer = WatchedWriter::new(writer);
     explain_settings_watched(alloc, text, &mut writer)

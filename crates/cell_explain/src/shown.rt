@@ -30,8 +30,8 @@ fn shown_bytes(alloc: Global, bytes: &[u8]) -> Result<String, AllocError>
     Ok(shown)
 }
 
-/// A record as it is shown: of a long one a first part and three dots. Bytes other than letters, digits, signs and blanks of
-/// ASCII are shown as dots.
+/// A record as it is shown: of a long one a first part and three dots. Bytes other than letters, digits, signs and
+/// blanks of ASCII are shown as dots.
 pub(crate) fn shown(alloc: Global, record: &[u8]) -> Result<String, AllocError>
     ensures { IfOk result (λ text. string_bytes text ≡ shown «record».now) }
 {

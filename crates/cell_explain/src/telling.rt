@@ -222,8 +222,8 @@ fn since_named(journal: &Journal, entry: Entry, why: Refusal) -> Since
     }
 }
 
-/// Since when it is so that an entry is refused after those of a journal, which leave this. It is told in a pass over the
-/// journal.
+/// Since when it is so that an entry is refused after those of a journal, which leave this. It is told in a pass over
+/// the journal.
 pub(crate) fn told(journal: &Journal, entry: Entry, why: Refusal, left: &Snapshot) -> Since
     ensures { IsSince journal.now.entries result }
 {

@@ -29,7 +29,8 @@ pub(crate) fn record_line(
     number: u32,
     trouble: Trouble,
 ) -> Result<String, AllocError>
-    ensures { IfOk result (λ text. string_bytes text ≡ record_line «record».entry.line name.now number «record».entry.bytes.now trouble) }
+    ensures { IfOk result (λ text. string_bytes text ≡ record_line «record».entry.line name.now number
+        «record».entry.bytes.now trouble) }
 {
     let Record { line, bytes } = record;
     let shown = shown_before(alloc, trouble, bytes)?;

@@ -28,10 +28,12 @@ impl Words {
     {
         match self {
             Words::KindsOfOne => {
-                "lamp, admitted, claimed, yielded, started, arrived, conveyed, forged, gripped, dropped, delivered, declared, stop_asked, quarantined, repaired"
+                "lamp, admitted, claimed, yielded, started, arrived, conveyed, forged, gripped, dropped, delivered, \
+                    declared, stop_asked, quarantined, repaired"
             }
             Words::Kinds => {
-                "lamp, admitted, claimed, yielded, started, arrived, conveyed, forged, gripped, dropped, delivered, declared, stop_asked, quarantined, repaired, expected, reinstated"
+                "lamp, admitted, claimed, yielded, started, arrived, conveyed, forged, gripped, dropped, delivered, \
+                    declared, stop_asked, quarantined, repaired, expected, reinstated"
             }
             Words::Machine => "feed, table, robot, press1, press2, deposit",
             Words::Station =>
@@ -40,14 +42,16 @@ impl Words {
                 "feed_belt, table_lift, table_turn, robot_turn, arm_one, arm_two, press_one, press_two, deposit_belt"
             }
             Words::Pose => {
-                "rest, to_end, to_table, low, high, belt, robot, table1, p1_load, p1_unload, p2_load, p2_unload, deposit2, in, out, middle, top, bottom"
+                "rest, to_end, to_table, low, high, belt, robot, table1, p1_load, p1_unload, p2_load, p2_unload, \
+                    deposit2, in, out, middle, top, bottom"
             }
             Words::Zone => "z1, z2, z3, z4, z5",
             Words::Arm => "arm1, arm2",
             Words::Belt => "feed, deposit",
             Words::Colour => "red, green",
             Words::Cause => {
-                "stuck_switch, contradictory, stray_position, no_departure, missing_motion, lost_position, plate_lost, strange_plate, silent, command_fault, operator_stop"
+                "stuck_switch, contradictory, stray_position, no_departure, missing_motion, lost_position, \
+                    plate_lost, strange_plate, silent, command_fault, operator_stop"
             }
             Words::Fault => "no_motion, keeps_old, both, slow, lose_plate, silent, refuse_command",
             Words::Trigger => "always, admitted, delivered, quarantined, failed",

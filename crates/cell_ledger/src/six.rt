@@ -27,7 +27,19 @@ impl<R: Run> Model for SixShares<R> {
 
     ghost Value = { Held };
 
-    ghost view = { λ s. record { parts = s.entries.parts; counts = record { entries = s.entries.amount; admitted = s.admitted.amount; forged = s.forged.amount; quarantined = s.quarantined.amount; delivered = s.delivered.amount; reinstated = s.reinstated.amount } } };
+    ghost view = { λ s. record {
+      parts = s.entries.parts;
+      counts = record {
+        entries = s.entries.amount;
+        admitted =
+            s.admitted.amount;
+        forged = s.forged.amount;
+        quarantined = s.quarantined.amount;
+        delivered =
+            s.delivered.amount;
+        reinstated = s.reinstated.amount;
+      };
+    } };
 
     ghost invariant = { λ s. (0 < s.entries.parts)
         × (s.admitted.parts ≡ s.entries.parts)
@@ -91,7 +103,16 @@ impl<R: Run> Model for SixBooks<R> {
 
     ghost Value = { Totals };
 
-    ghost view = { λ b. record { entries = b.entries.total; admitted = b.admitted.total; forged = b.forged.total; quarantined = b.quarantined.total; delivered = b.delivered.total; reinstated = b.reinstated.total } };
+    ghost view = { λ b. record {
+      entries = b.entries.total;
+      admitted = b.admitted.total;
+      forged =
+          b.forged.total;
+      quarantined = b.quarantined.total;
+      delivered = b.delivered.total;
+      reinstated =
+          b.reinstated.total;
+    } };
 }
 
 impl<R: Run> SixBooks<R> {
@@ -145,7 +166,8 @@ impl<R: Run> SixBooks<R> {
             .add(&mut shares.reinstated, u64::from(more.reinstated));
     }
 
-    /// No count of the shares passes that of the books, and shares of all parts count what the books do. Nothing changes.
+    /// No count of the shares passes that of the books, and shares of all parts count what the books do. Nothing
+    /// changes.
     pub fn audit(&mut self, shares: &mut SixShares<R>)
         ensures within { AreWithin shares.old.counts self.old }
         ensures whole { shares.old.parts ≡ R.parts → shares.old.counts ≡ self.old }

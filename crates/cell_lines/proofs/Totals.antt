@@ -20,9 +20,12 @@ last-pieces number n w f two other = elim (cases_Bool (number == 2)) [
 
 -- the pieces, where the digits are those of the totals
 pub pieces-totals : (number : ℕ) (t : Totals) (a b c d e w f : List ℕ)
-    → a ≡ decimal t.entries → b ≡ decimal t.admitted → c ≡ decimal t.forged → d ≡ decimal t.quarantined → e ≡ decimal t.delivered
+    → a ≡ decimal t.entries → b ≡ decimal t.admitted → c ≡ decimal t.forged → d ≡ decimal t.quarantined
+    → e ≡ decimal t.delivered
     → (number ≡ 2 → (w ≡ codes "\nreinstated ") × (f ≡ decimal t.reinstated)) → (number ≢ 2 → (w ≡ []) × (f ≡ []))
-    → codes "legal " ++ (a ++ (codes "\nadmitted " ++ (b ++ (codes "\nforged " ++ (c ++ (codes "\nquarantined " ++ (d ++ (codes "\ndelivered " ++ (e ++ (w ++ (f ++ 10 ∷ [])))))))))))
+    → codes "legal " ++ (a ++ (codes "\nadmitted "
+    ++ (b ++ (codes "\nforged " ++ (c ++ (codes "\nquarantined "
+    ++ (d ++ (codes "\ndelivered " ++ (e ++ (w ++ (f ++ 10 ∷ [])))))))))))
     ≡ totals_lines number t
 pieces-totals number t a b c d e w f h i j k l two other =
     rw (h, i, j, k, l, last-pieces number t.reinstated w f two other) (simp append_assoc)

@@ -1,4 +1,5 @@
-//! The lines of the commands `audit` and `migrate`, the line of a number that a run's lines share, and the exit statuses.
+//! The lines of the commands `audit` and `migrate`, the line of a number that a run's lines share, and the exit
+//! statuses.
 #![tactic(auto)]
 
 mod lines;

@@ -4,7 +4,8 @@ ghost use Rattle.std.specs.Io.KnownBytes.{Appends};
 ghost use Rattle.cell_rows.specs.Rows.{IsOpen, device_failed, rows_left};
 ghost use Rattle.cell_audit.specs.Migrated.{rows_in};
 ghost use Rattle.cell_audit.specs.Watched.{IsSameWriter, WritesPart, bytes_held, has_refused};
-ghost use Rattle.cell_lines.specs.Lines.{StopsMigration, TellsAudit, TellsMigration, TellsPart, TellsPartOfRows, TellsRows, WritesAnswer, lines_of, number_line, refusal_line, totals_lines};
+ghost use Rattle.cell_lines.specs.Lines.{StopsMigration, TellsAudit, TellsMigration, TellsPart, TellsPartOfRows};
+ghost use Rattle.cell_lines.specs.Lines.{TellsRows, WritesAnswer, lines_of, number_line, refusal_line, totals_lines};
 
 use crate::status;
 use cell_audit::{
@@ -24,8 +25,10 @@ pub fn write_number<W: Write>(
     number: u32,
 ) -> Result<(), WriteFault>
     ensures writer { IsSameWriter writer.old writer.new }
-    ensures whole { OnOk result (Appends (bytes_held W.contents writer.old) (bytes_held W.contents writer.new) (number_line word.now number)) }
-    ensures part { IsErr result → WritesPart (bytes_held W.contents writer.old) (bytes_held W.contents writer.new) (number_line word.now number) }
+    ensures whole { OnOk result (Appends (bytes_held W.contents writer.old) (bytes_held W.contents writer.new)
+        (number_line word.now number)) }
+    ensures part { IsErr result → WritesPart (bytes_held W.contents writer.old) (bytes_held W.contents writer.new)
+        (number_line word.now number) }
     ensures fault { IsErr result → has_refused writer.new ≡ true }
 {
     let mut digits = Buffer::new();
@@ -57,8 +60,10 @@ fn write_totals<W: Write>(
     totals: Totals,
 ) -> Result<(), WriteFault>
     ensures writer { IsSameWriter writer.old writer.new }
-    ensures whole { OnOk result (Appends (bytes_held W.contents writer.old) (bytes_held W.contents writer.new) (totals_lines number totals)) }
-    ensures part { IsErr result → WritesPart (bytes_held W.contents writer.old) (bytes_held W.contents writer.new) (totals_lines number totals) }
+    ensures whole { OnOk result (Appends (bytes_held W.contents writer.old) (bytes_held W.contents writer.new)
+        (totals_lines number totals)) }
+    ensures part { IsErr result → WritesPart (bytes_held W.contents writer.old) (bytes_held W.contents writer.new)
+        (totals_lines number totals) }
     ensures fault { IsErr result → has_refused writer.new ≡ true }
 {
     let mut entries = Buffer::new();
@@ -92,8 +97,10 @@ fn write_refusal<W: Write>(
     why: Refusal,
 ) -> Result<(), WriteFault>
     ensures writer { IsSameWriter writer.old writer.new }
-    ensures whole { OnOk result (Appends (bytes_held W.contents writer.old) (bytes_held W.contents writer.new) (refusal_line place why)) }
-    ensures part { IsErr result → WritesPart (bytes_held W.contents writer.old) (bytes_held W.contents writer.new) (refusal_line place why) }
+    ensures whole { OnOk result (Appends (bytes_held W.contents writer.old) (bytes_held W.contents writer.new)
+        (refusal_line place why)) }
+    ensures part { IsErr result → WritesPart (bytes_held W.contents writer.old) (bytes_held W.contents writer.new)
+        (refusal_line place why) }
     ensures fault { IsErr result → has_refused writer.new ≡ true }
 {
     let mut digits = Buffer::new();
@@ -119,8 +126,10 @@ fn write_answer<W: Write>(
     answer: Result<(u8, Totals), AuditError>,
 ) -> Result<u8, WriteFault>
     ensures writer { IsSameWriter writer.old writer.new }
-    ensures whole { IfOk result (WritesAnswer (bytes_held W.contents writer.old) (bytes_held W.contents writer.new) answer) }
-    ensures part { IsErr result → WritesPart (bytes_held W.contents writer.old) (bytes_held W.contents writer.new) (lines_of answer) }
+    ensures whole { IfOk result (WritesAnswer (bytes_held W.contents writer.old) (bytes_held W.contents writer.new)
+        answer) }
+    ensures part { IsErr result → WritesPart (bytes_held W.contents writer.old) (bytes_held W.contents writer.new)
+        (lines_of answer) }
     ensures fault { IsErr result → has_refused writer.new ≡ true }
 {
     match answer {
@@ -141,8 +150,8 @@ fn write_answer<W: Write>(
     }
 }
 
-/// Audits the records that a reader has left, as `audit_lines` does those of a text, and writes what is found to a writer
-/// that notes whether a write of it was refused.
+/// Audits the records that a reader has left, as `audit_lines` does those of a text, and writes what is found to a
+/// writer that notes whether a write of it was refused.
 pub fn audit_rows_watched<R: TellsFault, W: Write>(
     alloc: Global,
     rows: &mut RowReader<R>,
@@ -150,10 +159,12 @@ pub fn audit_rows_watched<R: TellsFault, W: Write>(
 ) -> Result<u8, WriteFault>
     requires { IsOpen rows.old }
     ensures writer { IsSameWriter writer.old writer.new }
-    ensures whole { IfOk result (TellsRows (rows_left R.remaining rows.old) (bytes_held W.contents writer.old) (bytes_held W.contents writer.new)) }
-    ensures part { IsErr result → TellsPartOfRows (rows_left R.remaining rows.old) (bytes_held W.contents writer.old) (bytes_held W.contents writer.new) }
-    // It gives the status of a reader that failed only where a failed read was noted, and answers that the writer failed
-    // only where a write was refused.
+    ensures whole { IfOk result (TellsRows (rows_left R.remaining rows.old) (bytes_held W.contents writer.old)
+        (bytes_held W.contents writer.new)) }
+    ensures part { IsErr result → TellsPartOfRows (rows_left R.remaining rows.old) (bytes_held W.contents writer.old)
+        (bytes_held W.contents writer.new) }
+    // It gives the status of a reader that failed only where a failed read was noted, and answers that the writer
+    // failed only where a write was refused.
     ensures read_fault { result ≡ Ok 3 → device_failed R.failed rows.new ≡ true }
     ensures fault { IsErr result → has_refused writer.new ≡ true }
 {
@@ -161,16 +172,18 @@ pub fn audit_rows_watched<R: TellsFault, W: Write>(
     write_answer(writer, answer)
 }
 
-/// Audits a journal's text, as `audit_lines` does, and writes what is found to a writer that notes whether a write of it
-/// was refused.
+/// Audits a journal's text, as `audit_lines` does, and writes what is found to a writer that notes whether a write of
+/// it was refused.
 pub fn audit_lines_watched<R: Read + Drop, W: Write>(
     alloc: Global,
     reader: R,
     writer: &mut WatchedWriter<'_, W>,
 ) -> Result<u8, WriteFault>
     ensures writer { IsSameWriter writer.old writer.new }
-    ensures whole { IfOk result (TellsAudit (R.remaining reader) (bytes_held W.contents writer.old) (bytes_held W.contents writer.new)) }
-    ensures part { IsErr result → TellsPart (R.remaining reader) (bytes_held W.contents writer.old) (bytes_held W.contents writer.new) }
+    ensures whole { IfOk result (TellsAudit (R.remaining reader) (bytes_held W.contents writer.old)
+        (bytes_held W.contents writer.new)) }
+    ensures part { IsErr result → TellsPart (R.remaining reader) (bytes_held W.contents writer.old)
+        (bytes_held W.contents writer.new) }
     // It answers that the writer failed only where a write was refused.
     ensures fault { IsErr result → has_refused writer.new ≡ true }
 {
@@ -180,13 +193,14 @@ pub fn audit_lines_watched<R: Read + Drop, W: Write>(
 
 /// Audits the journal's text that the reader gives, writes what is found, and gives the exit status.
 ///
-/// A legal journal: the lines `legal`, `admitted`, `forged`, `quarantined` and `delivered`, each with its number, and in
-/// profile 2 the line `reinstated` with its number, status 0. A refused entry: `refused`, its place counted from 1, the
-/// refusal's name and the word of what it names, status 1. A record that can't be read: `unreadable` and its number, 0 for
-/// the profile's, status 1. Where the reader fails (status 3) or memory is refused (status 4) nothing is written.
+/// A legal journal: the lines `legal`, `admitted`, `forged`, `quarantined` and `delivered`, each with its number, and
+/// in profile 2 the line `reinstated` with its number, status 0. A refused entry: `refused`, its place counted from 1,
+/// the refusal's name and the word of what it names, status 1. A record that can't be read: `unreadable` and its
+/// number, 0 for the profile's, status 1. Where the reader fails (status 3) or memory is refused (status 4) nothing is
+/// written.
 ///
-/// That status 3 comes only where a failed read was noted, and `WriteFault` only where a refused write was, are clauses of
-/// `audit_rows_watched`, of which this is the case of a new reader of rows and a new writer that notes.
+/// That status 3 comes only where a failed read was noted, and `WriteFault` only where a refused write was, are clauses
+/// of `audit_rows_watched`, of which this is the case of a new reader of rows and a new writer that notes.
 pub fn audit_lines<R: Read + Drop, W: Write>(
     alloc: Global,
     reader: R,
@@ -201,8 +215,8 @@ pub fn audit_lines<R: Read + Drop, W: Write>(
     audit_lines_watched(alloc, reader, &mut writer)
 }
 
-/// Migrates the records that a reader has left, as `migrate_lines` does those of a text, to writers that note whether a write
-/// of theirs was refused.
+/// Migrates the records that a reader has left, as `migrate_lines` does those of a text, to writers that note whether a
+/// write of theirs was refused.
 pub fn migrate_rows_watched<R: TellsFault, W: Write, E: Write>(
     alloc: Global,
     rows: &mut RowReader<R>,
@@ -212,10 +226,12 @@ pub fn migrate_rows_watched<R: TellsFault, W: Write, E: Write>(
     requires { IsOpen rows.old }
     ensures writer { IsSameWriter writer.old writer.new }
     ensures errors { IsSameWriter errors.old errors.new }
-    ensures whole { IfOk result (TellsMigration (rows_left R.remaining rows.old) (bytes_held W.contents writer.old) (bytes_held W.contents writer.new) (bytes_held E.contents errors.old) (bytes_held E.contents errors.new)) }
-    ensures part { IsErr result → StopsMigration (rows_left R.remaining rows.old) (bytes_held W.contents writer.old) (bytes_held W.contents writer.new) (bytes_held E.contents errors.old) (bytes_held E.contents errors.new) }
-    // It gives the status of a reader that failed only where a failed read was noted, and answers that a writer failed only
-    // where a write of one of the two was refused.
+    ensures whole { IfOk result (TellsMigration (rows_left R.remaining rows.old) (bytes_held W.contents writer.old)
+        (bytes_held W.contents writer.new) (bytes_held E.contents errors.old) (bytes_held E.contents errors.new)) }
+    ensures part { IsErr result → StopsMigration (rows_left R.remaining rows.old) (bytes_held W.contents writer.old)
+        (bytes_held W.contents writer.new) (bytes_held E.contents errors.old) (bytes_held E.contents errors.new) }
+    // It gives the status of a reader that failed only where a failed read was noted, and answers that a writer failed
+    // only where a write of one of the two was refused.
     ensures read_fault { result ≡ Ok 3 → device_failed R.failed rows.new ≡ true }
     ensures write_fault { IsErr result → (has_refused writer.new ≡ true) ⊎ (has_refused errors.new ≡ true) }
 {
@@ -233,15 +249,15 @@ pub fn migrate_rows_watched<R: TellsFault, W: Write, E: Write>(
     }
 }
 
-/// Migrates the journal's text of profile 1 that the reader gives: writes the same journal's text of profile 2, and gives the
-/// exit status.
+/// Migrates the journal's text of profile 1 that the reader gives: writes the same journal's text of profile 2, and
+/// gives the exit status.
 ///
 /// Where the text is refused or can't be read (status 1) the audit's line is written to the errors, and nothing to the
-/// writer. Where the reader fails (status 3) nothing is written. Where memory is refused (status 4) a first part of the text
-/// may be written.
+/// writer. Where the reader fails (status 3) nothing is written. Where memory is refused (status 4) a first part of the
+/// text may be written.
 ///
-/// That status 3 comes only where a failed read was noted, and `WriteFault` only where a refused write of one of the writers
-/// was, are clauses of `migrate_rows_watched`, of which this is the case of new ones.
+/// That status 3 comes only where a failed read was noted, and `WriteFault` only where a refused write of one of the
+/// writers was, are clauses of `migrate_rows_watched`, of which this is the case of new ones.
 pub fn migrate_lines<R: Read + Drop, W: Write, E: Write>(
     alloc: Global,
     reader: R,
@@ -249,9 +265,11 @@ pub fn migrate_lines<R: Read + Drop, W: Write, E: Write>(
     errors: &mut E,
 ) -> Result<u8, WriteFault>
     // What is written, the line to the errors and the status are those of one answer of the migration.
-    ensures whole { IfOk result (TellsMigration (rows_in (R.remaining reader)) (W.contents writer.old) (W.contents writer.new) (E.contents errors.old) (E.contents errors.new)) }
+    ensures whole { IfOk result (TellsMigration (rows_in (R.remaining reader)) (W.contents writer.old)
+        (W.contents writer.new) (E.contents errors.old) (E.contents errors.new)) }
     // Where a writer failed, a first part of the text or of such a line was written.
-    ensures part { IsErr result → StopsMigration (rows_in (R.remaining reader)) (W.contents writer.old) (W.contents writer.new) (E.contents errors.old) (E.contents errors.new) }
+    ensures part { IsErr result → StopsMigration (rows_in (R.remaining reader)) (W.contents writer.old)
+        (W.contents writer.new) (E.contents errors.old) (E.contents errors.new) }
 {
     let mut rows = RowReader::new(alloc, Watched::new(reader));
     let mut writer = WatchedWriter::new(writer);

@@ -1,5 +1,6 @@
 -- The times of a journal in which two neighbours are exchanged that depend on nothing of each other
-use Rattle.std.proofs.Common.{◌≡◌, ◌+◌, ◌++◌, ℕ, Bool, true, false, Option, Some, None, List, [], ◌∷◌, refl, ◌∙◌, ap, arith, length}
+use Rattle.std.proofs.Common.{◌≡◌, ◌+◌, ◌++◌, ℕ, Bool, true, false, Option, Some, None, List, [], ◌∷◌, refl, ◌∙◌, ap}
+use Rattle.std.proofs.Common.{arith, length}
 use Rattle.std.specs.Prelude.{◌||◌, max, if◌then◌else◌}
 use Rattle.cell_types.specs.declared.words.Entry.{Entry}
 use Rattle.cell_measures.specs.declared.durations.Durations.{Durations}
@@ -29,12 +30,15 @@ motion_skip ds past d (Some m) begun e = ap (λ (n : ℕ). max begun (n + durati
 ends_skip : (ds : Durations) (past : List Ended) (d : Ended) (e : Entry) → depends e d.entry ≡ false
     → ends ds (d ∷ past) e ≡ ends ds past e
 ends_skip ds past d e h =
-    ap (λ (n : ℕ). ends_motion ds (d ∷ past) (motion_of e) n) (skip (waits_for e) d past (or_first (waits_for e d.entry) (is_start_of (motion_of e) d.entry) h))
-    ∙ motion_skip ds past d (motion_of e) (begins past e) (or_second (waits_for e d.entry) (is_start_of (motion_of e) d.entry) h)
+    ap (λ (n : ℕ). ends_motion ds (d ∷ past) (motion_of e) n)
+    (skip (waits_for e) d past (or_first (waits_for e d.entry) (is_start_of (motion_of e) d.entry) h))
+    ∙ motion_skip ds past d (motion_of e) (begins past e)
+    (or_second (waits_for e d.entry) (is_start_of (motion_of e) d.entry) h)
 
 -- two pasts are alike where entries that pass a test ended last at the same time, whatever the test
 swap_step : (b c : Bool) (x y l : ℕ)
-    → (if b then max x (if c then max y l else l) else (if c then max y l else l)) ≡ (if c then max y (if b then max x l else l) else (if b then max x l else l))
+    → (if b then max x (if c then max y l else l) else (if c then max y l else l))
+    ≡ (if c then max y (if b then max x l else l) else (if b then max x l else l))
 swap_step true true x y l = omega arith
 swap_step true false x y l = refl
 swap_step false true x y l = refl
@@ -54,7 +58,8 @@ motion_alike ds P Q (Some m) begun h = ap (λ (n : ℕ). max begun (n + duration
 
 ends_alike : (ds : Durations) (P Q : List Ended) (e : Entry) → ((p : Entry → Bool) → latest p P ≡ latest p Q)
     → ends ds P e ≡ ends ds Q e
-ends_alike ds P Q e h = ap (λ (n : ℕ). ends_motion ds P (motion_of e) n) (h (waits_for e)) ∙ motion_alike ds P Q (motion_of e) (begins Q e) h
+ends_alike ds P Q e h = ap (λ (n : ℕ). ends_motion ds P (motion_of e) n) (h (waits_for e))
+    ∙ motion_alike ds P Q (motion_of e) (begins Q e) h
 
 times_alike : (ds : Durations) (P Q : List Ended) (es : List Entry) → ((p : Entry → Bool) → latest p P ≡ latest p Q)
     → times_after ds P es ≡ times_after ds Q es
@@ -67,9 +72,11 @@ times_alike ds P Q (e ∷ es) h =
 
 -- the times of two entries at the head of a list, the second of which doesn't depend on the first
 two_times : (ds : Durations) (P : List Ended) (a b : Entry) (es : List Entry) → depends b a ≡ false
-    → times_after ds P (a ∷ b ∷ es) ≡ ends ds P a ∷ ends ds P b ∷ times_after ds (record { entry = b; at = ends ds P b } ∷ record { entry = a; at = ends ds P a } ∷ P) es
+    → times_after ds P (a ∷ b ∷ es) ≡ ends ds P a ∷ ends ds P b
+    ∷ times_after ds (record { entry = b; at = ends ds P b } ∷ record { entry = a; at = ends ds P a } ∷ P) es
 two_times ds P a b es h =
-    ap (λ (t : ℕ). ends ds P a ∷ t ∷ times_after ds (record { entry = b; at = t } ∷ record { entry = a; at = ends ds P a } ∷ P) es)
+    ap (λ (t : ℕ). ends ds P a ∷ t ∷ times_after ds
+    (record { entry = b; at = t } ∷ record { entry = a; at = ends ds P a } ∷ P) es)
     (ends_skip ds P (record { entry = a; at = ends ds P a }) b h)
 
 pub exchanged : (ds : Durations) (P : List Ended) (J K : List Entry) (a b : Entry) → depends a b ≡ false
@@ -87,11 +94,14 @@ exchanged ds P [] K a b ab ba =
       first = two_times ds P a b K ba;
       second =
           two_times ds P b a K ab
-          ∙ ap (λ (l : List ℕ). ends ds P b ∷ ends ds P a ∷ l) (times_alike ds (x ∷ y ∷ P) (y ∷ x ∷ P) K (alike_swap x y P));
+          ∙ ap (λ (l : List ℕ). ends ds P b ∷ ends ds P a ∷ l)
+          (times_alike ds (x ∷ y ∷ P) (y ∷ x ∷ P) K (alike_swap x y P));
     }
 exchanged ds P (e ∷ J) K a b ab ba =
     let t : ℕ = ends ds P e in
-    let rest : IsExchange (length J) (times_after ds (record { entry = e; at = t } ∷ P) (J ++ a ∷ b ∷ K)) (times_after ds (record { entry = e; at = t } ∷ P) (J ++ b ∷ a ∷ K)) = exchanged ds (record { entry = e; at = t } ∷ P) J K a b ab ba in
+    let rest : IsExchange (length J) (times_after ds (record { entry = e; at = t } ∷ P) (J ++ a ∷ b ∷ K))
+    (times_after ds (record { entry = e; at = t } ∷ P) (J ++ b ∷ a ∷ K)) =
+    exchanged ds (record { entry = e; at = t } ∷ P) J K a b ab ba in
     record {
       before = t ∷ rest.before;
       one = rest.one;

@@ -1,5 +1,6 @@
 -- The latest end under tests that are joined
-use Rattle.std.proofs.Common.{◌≡◌, ◌≤◌, ◌<◌, ◌+◌, ℕ, Bool, true, false, Option, Some, None, List, [], ◌∷◌, refl, sym, ◌∙◌, ap, arith, drop, drop-cons, length, add-one, get_or, replicate}
+use Rattle.std.proofs.Common.{◌≡◌, ◌≤◌, ◌<◌, ◌+◌, ℕ, Bool, true, false, Option, Some, None, List, [], ◌∷◌, refl, sym}
+use Rattle.std.proofs.Common.{◌∙◌, ap, arith, drop, drop-cons, length, add-one, get_or, replicate}
 use Rattle.std.specs.Prelude.{◌||◌, ◌&&◌, max, if◌then◌else◌, slice_index}
 use Rattle.std.specs.List.{list_any}
 use Rattle.std.proofs.lemmas.List.{get_or-replicate, length-replicate, get_or_past}
@@ -23,7 +24,8 @@ or_step false false t x y = refl
 pub latest_or : (p q : Entry → Bool) (past : List Ended)
     → latest (λ d. p d || q d) past ≡ max (latest p past) (latest q past)
 latest_or p q [] = refl
-latest_or p q (d ∷ past) = ap (λ (n : ℕ). if (p d.entry || q d.entry) then max d.at n else n) (latest_or p q past) ∙ or_step (p d.entry) (q d.entry) d.at (latest p past) (latest q past)
+latest_or p q (d ∷ past) = ap (λ (n : ℕ). if (p d.entry || q d.entry) then max d.at n else n) (latest_or p q past)
+    ∙ or_step (p d.entry) (q d.entry) d.at (latest p past) (latest q past)
 
 pub latest_never : (past : List Ended) → latest (λ d. false) past ≡ 0
 latest_never [] = refl
@@ -60,7 +62,8 @@ plate_law c past None k = sym (latest_never past)
 zones_law : (c : Clock) (past : List Ended) (e : Entry) → Keeps c past
     → greatest (zone_time c.zones e) all_zone ≡ latest (λ d. list_any (λ z. wants z e && frees z d) all_zone) past
 zones_law c past e k =
-    let path : (λ z. if wants z e then slice_index c.zones (zone_number z) else 0) ≡ (λ z. if wants z e then latest (frees z) past else 0) = λ i. λ z. if wants z e then k.zones z i else 0 in
+    let path : (λ z. if wants z e then slice_index c.zones (zone_number z) else 0)
+    ≡ (λ z. if wants z e then latest (frees z) past else 0) = λ i. λ z. if wants z e then k.zones z i else 0 in
     ap (λ (f : Zone → ℕ). greatest f all_zone) path ∙ latest_any (λ z. wants z e) frees past all_zone
 
 pub begins_law : (c : Clock) (past : List Ended) (e : Entry) (i plate zones both all : ℕ) → Keeps c past
@@ -70,7 +73,8 @@ pub begins_law : (c : Clock) (past : List Ended) (e : Entry) (i plate zones both
 begins_law c past e i plate zones both all k ei ep ez eb ea =
     let p : Entry → Bool = names_that (plate_of e) in
     let q : Entry → Bool = λ d. list_any (λ z. wants z e && frees z d) all_zone in
-    let m : slice_index c.machines i ≡ latest (is_of (machine_of e)) past = ap (λ (n : ℕ). slice_index c.machines n) ei ∙ k.machines (machine_of e) in
+    let m : slice_index c.machines i ≡ latest (is_of (machine_of e)) past = ap (λ (n : ℕ). slice_index c.machines n) ei
+    ∙ k.machines (machine_of e) in
     let two : both ≡ latest (λ d. p d || q d) past =
     eb ∙ ap (λ (n : ℕ). max n zones) (ep ∙ plate_law c past (plate_of e) k)
     ∙ ap (λ (n : ℕ). max (latest p past) n) (ez ∙ zones_law c past e k)
@@ -100,7 +104,12 @@ begun_early past e begun n eb most =
 
 -- a new clock's list
 pub zero_at : (xs : List ℕ) (n k : ℕ) → xs ≡ replicate n 0 → slice_index xs k ≡ 0
-zero_at xs n k e = rw e (grind (arith, get_or-replicate {A = ℕ} n k 0 0, get_or_past {X = ℕ} (replicate n 0) k 0, length-replicate {A = ℕ} n 0))
+zero_at xs n k e = rw e (grind (
+  arith,
+  get_or-replicate {A = ℕ} n k 0 0,
+  get_or_past {X = ℕ} (replicate n 0) k 0,
+  length-replicate {A = ℕ} n 0,
+))
 
 pub zeros_long : (xs : List ℕ) (n : ℕ) → xs ≡ replicate n 0 → length xs ≡ n
 zeros_long xs n e = ap (λ (l : List ℕ). length l) e ∙ length-replicate {A = ℕ} n 0

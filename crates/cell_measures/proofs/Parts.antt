@@ -1,5 +1,6 @@
 -- A part of a journal's ends, and the clock after it
-use Rattle.std.proofs.Common.{◌≡◌, ◌≤◌, ◌<◌, ◌+◌, ◌*◌, ℕ, Bool, true, false, Some, List, [], ◌∷◌, ◌++◌, sym, ◌∙◌, ap, arith, drop, drop-cons, length, add-one, append_assoc}
+use Rattle.std.proofs.Common.{◌≡◌, ◌≤◌, ◌<◌, ◌+◌, ◌*◌, ℕ, Bool, true, false, Some, List, [], ◌∷◌, ◌++◌, sym, ◌∙◌, ap}
+use Rattle.std.proofs.Common.{arith, drop, drop-cons, length, add-one, append_assoc}
 use Rattle.std.specs.Prelude.{◌^◌, max, if◌then◌else◌, slice_index, slice_get}
 use Rattle.std.proofs.Math.ListN.{drop_of_length-le}
 use Rattle.std.proofs.lemmas.List.{append-nil}
@@ -41,15 +42,19 @@ pub part_more : (ds : Durations) (J : List Entry) (c next : Clock) (done more : 
 part_more ds J c next done more i e t part at due early keeps is =
     let past : List Ended = part.past in
     let rest : List Entry = drop (i + 1) J in
-    let cut : drop i J ≡ e ∷ rest = rw add-one (drop-cons J i e (slice_get_within J i e at)) ∙ ap (λ (x : Entry). x ∷ rest) (get_or_from_slice_get J i e e at) in
-    let was : done ++ times_after ds past (e ∷ rest) ≡ times ds J = ap (λ (l : List Entry). done ++ times_after ds past l) (sym cut) ∙ part.left in
-    let same : done ++ t ∷ times_after ds (record { entry = e; at = t } ∷ past) rest ≡ done ++ times_after ds past (e ∷ rest) =
+    let cut : drop i J ≡ e ∷ rest = rw add-one (drop-cons J i e (slice_get_within J i e at))
+    ∙ ap (λ (x : Entry). x ∷ rest) (get_or_from_slice_get J i e e at) in
+    let was : done ++ times_after ds past (e ∷ rest) ≡ times ds J =
+    ap (λ (l : List Entry). done ++ times_after ds past l) (sym cut) ∙ part.left in
+    let same : done ++ t ∷ times_after ds (record { entry = e; at = t } ∷ past) rest ≡ done ++ times_after ds past
+    (e ∷ rest) =
     ap (λ (n : ℕ). done ++ n ∷ times_after ds (record { entry = e; at = n } ∷ past) rest) (due past part.keeps) in
     let scale : 65535 * (i + 1) ≡ 65535 * i + 65535 = omega arith in
     record {
       past = record { entry = e; at = t } ∷ past;
       keeps = keeps past part.keeps;
-      early = λ p. rw scale (later_early (p e) t (latest p past) (65535 * i) (early past (65535 * i) part.keeps part.early) (part.early p));
+      early = λ p. rw scale (later_early (p e) t (latest p past) (65535 * i)
+          (early past (65535 * i) part.keeps part.early) (part.early p));
       left =
           ap (λ (l : List ℕ). l ++ times_after ds (record { entry = e; at = t } ∷ past) rest) is
           ∙ append_assoc done (t ∷ []) (times_after ds (record { entry = e; at = t } ∷ past) rest)

@@ -28,7 +28,8 @@ zone_time zones e z = if wants z e then slice_index zones (zone_number z) else 0
 
 -- the time of a zone after an entry that ended
 abbrev pub freed_time : List ℕ → Entry → ℕ → Zone → ℕ
-freed_time zones e end z = if frees z e then max end (slice_index zones (zone_number z)) else slice_index zones (zone_number z)
+freed_time zones e end z = if frees z e then max end (slice_index zones (zone_number z)) else slice_index zones
+    (zone_number z)
 
 -- the greatest of the times of zones; 0 of none
 abbrev pub greatest : (Zone → ℕ) → List Zone → ℕ

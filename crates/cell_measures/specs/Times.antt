@@ -1,5 +1,6 @@
 -- When the entries of a journal begin and end at the earliest
-use Rattle.std.specs.Prelude.{ℕ, ◌+◌, max, Bool, Option, Some, None, List, [], ◌∷◌, if◌then◌else◌, slice_index, slice_index_or}
+use Rattle.std.specs.Prelude.{ℕ, ◌+◌, max, Bool, Option, Some, None, List, [], ◌∷◌, if◌then◌else◌, slice_index}
+use Rattle.std.specs.Prelude.{slice_index_or}
 use Rattle.std.specs.Option.{option_map}
 use Rattle.cell_types.specs.declared.words.Axis.{Axis}
 use Rattle.cell_types.specs.declared.words.Pose.TheVariants as pose

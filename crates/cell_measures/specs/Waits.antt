@@ -6,7 +6,9 @@ use Rattle.cell_types.specs.declared.words.Axis.{Axis}
 use Rattle.cell_types.specs.declared.words.Zone.{Zone}
 use Rattle.cell_types.specs.declared.words.Machine.TheVariants as machine
 use Rattle.cell_types.specs.declared.words.Entry.{Entry}
-use Rattle.cell_types.specs.declared.words.Entry.TheVariants.{Admitted, Claimed, Yielded, Started, Conveyed, Forged, Gripped, Dropped, Delivered, StopAsked, Quarantined, Repaired, Expected, Reinstated}
+use Rattle.cell_types.specs.declared.words.Entry.TheVariants.{Admitted, Claimed, Yielded, Started, Conveyed, Forged}
+use Rattle.cell_types.specs.declared.words.Entry.TheVariants.{Gripped, Dropped, Delivered, StopAsked, Quarantined}
+use Rattle.cell_types.specs.declared.words.Entry.TheVariants.{Repaired, Expected, Reinstated}
 use Rattle.cell_types.specs.Same.{same_machine, same_axis, same_zone}
 use Rattle.cell_types.specs.Cell.{machine_of_station, owner, visitor}
 use Rattle.cell_types.specs.Entries.{machine_of_entry}

@@ -1,5 +1,6 @@
 //! When what an entry waits for ended last.
-ghost use Rattle.std.specs.Prelude.{◌≡◌, ◌==◌, ◌+◌, ◌<◌, ◌≤◌, ◌^◌, [], ◌∷◌, ℕ, Bool, List, IfOk, if◌then◌else◌, length, map, max, slice_index};
+ghost use Rattle.std.specs.Prelude.{◌≡◌, ◌==◌, ◌+◌, ◌<◌, ◌≤◌, ◌^◌, [], ◌∷◌, ℕ, Bool, List, IfOk, if◌then◌else◌, length};
+ghost use Rattle.std.specs.Prelude.{map, max, slice_index};
 ghost use Rattle.cell_types.specs.declared.words.Axis.{Axis};
 ghost use Rattle.cell_types.specs.declared.words.Entry.{Entry};
 ghost use Rattle.cell_types.specs.Same.{axis_number};
@@ -37,7 +38,8 @@ fn later(one: u64, other: u64) -> u64
 // Raises the time at a place.
 fn raise(times: &mut [u64], place: usize, time: u64)
     requires { place < length times.old }
-    ensures { (i : ℕ) → slice_index times.new i ≡ (if place == i then max time (slice_index times.old i) else slice_index times.old i) }
+    ensures { (i : ℕ) → slice_index times.new i
+        ≡ (if place == i then max time (slice_index times.old i) else slice_index times.old i) }
 {
     times[place] = later(time, times[place]);
 }
@@ -113,7 +115,8 @@ impl Clock {
         requires plates { length self.now.plates.items ≡ 100001 }
         requires early { (a : Axis) → slice_index self.now.axes (axis_number a) < 2 ^ 63 }
         ensures due { (past : List Ended) → Keeps self.now past → result ≡ ends durations.now past entry.now }
-        ensures early { (past : List Ended) (n : ℕ) → Keeps self.now past → ((p : Entry → Bool) → latest p past ≤ n) → result ≤ n + 65535 }
+        ensures early { (past : List Ended) (n : ℕ) → Keeps self.now past → ((p : Entry → Bool) → latest p past ≤ n)
+            → result ≤ n + 65535 }
     {
         let begun = self.begins(entry);
         match motion_of(*entry) {
@@ -157,7 +160,9 @@ impl Clock {
         ensures machines { self.new.machines ≡ self.old.machines }
         ensures zones { self.new.zones ≡ self.old.zones }
         ensures axes { self.new.axes ≡ self.old.axes }
-        ensures plates { (k : ℕ) → slice_index self.new.plates.items k ≡ (if is_number k plate then max end (slice_index self.old.plates.items k) else slice_index self.old.plates.items k) }
+        ensures plates { (k : ℕ) → slice_index self.new.plates.items k
+            ≡ (if is_number k plate then max end (slice_index self.old.plates.items k) else slice_index
+            self.old.plates.items k) }
         ensures room { length self.new.plates.items ≡ 100001 }
     {
         if let Some(plate) = plate {
@@ -170,7 +175,9 @@ impl Clock {
         ensures machines { self.new.machines ≡ self.old.machines }
         ensures zones { self.new.zones ≡ self.old.zones }
         ensures plates { self.new.plates ≡ self.old.plates }
-        ensures axes { (a : Axis) → slice_index self.new.axes (axis_number a) ≡ (if starts a entry.now then max end (slice_index self.old.axes (axis_number a)) else slice_index self.old.axes (axis_number a)) }
+        ensures axes { (a : Axis) → slice_index self.new.axes (axis_number a)
+            ≡ (if starts a entry.now then max end (slice_index self.old.axes (axis_number a)) else slice_index
+            self.old.axes (axis_number a)) }
     {
         if let Entry::Started { axis, .. } = entry {
             raise(&mut self.axes, axis_number(*axis), end);
@@ -180,7 +187,8 @@ impl Clock {
     /// Notes the end of an entry. It takes no memory.
     pub(crate) fn note(&mut self, entry: &Entry, end: u64)
         requires { length self.old.plates.items ≡ 100001 }
-        ensures { (past : List Ended) → Keeps self.old past → Keeps self.new (record { entry = entry.now; at = end } ∷ past) }
+        ensures { (past : List Ended) → Keeps self.old past
+            → Keeps self.new (record { entry = entry.now; at = end } ∷ past) }
     {
         raise(&mut self.machines, machine_number(machine_of(*entry)), end);
         self.note_plate(plate_of(*entry), end);

@@ -25,7 +25,8 @@ fn pose_number(pose: Pose) -> usize
 
 // An axis's times, with that of the motion to a pose set.
 fn with_time(mut row: [u16; 18], to: Pose, time: u16) -> [u16; 18]
-    ensures { (p : Pose) → slice_index result (pose_number p) ≡ (if same_pose to p then time else slice_index row (pose_number p)) }
+    ensures { (p : Pose) → slice_index result (pose_number p)
+        ≡ (if same_pose to p then time else slice_index row (pose_number p)) }
 {
     row[pose_number(to)] = time;
     row
@@ -51,7 +52,8 @@ impl Durations {
 
     /// Sets how long a motion takes.
     pub fn set(&mut self, axis: Axis, to: Pose, time: u16)
-        ensures { (m : Motion) → duration self.new m ≡ (if same_axis axis m.axis && same_pose to m.to then time else duration self.old m) }
+        ensures { (m : Motion) → duration self.new m
+            ≡ (if same_axis axis m.axis && same_pose to m.to then time else duration self.old m) }
     {
         let place = axis_number(axis);
         self.rows[place] = with_time(self.rows[place], to, time);

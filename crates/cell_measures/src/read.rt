@@ -8,7 +8,8 @@ use toml::{Table, Value};
 /// The longest that a motion may take.
 const MOST: i64 = 1000;
 
-/// Why a file of times can't be used. The text is looked at first, then whether a key is unknown, then the keys' values.
+/// Why a file of times can't be used. The text is looked at first, then whether a key is unknown, then the keys'
+/// values.
 #[derive(Debug, Drop)]
 pub enum TimesError {
     /// The text is no TOML.
@@ -16,8 +17,8 @@ pub enum TimesError {
     /// There is no such key, or the key should be a table and isn't. Of several it is the first, where the keys of a
     /// table are walked in the order of their bytes and those of a sub-table where its own key stands.
     UnknownKey(String),
-    /// The key's value is no whole number. Of several keys that are told so or by `OutOfRange` it is the first, in the same
-    /// order.
+    /// The key's value is no whole number. Of several keys that are told so or by `OutOfRange` it is the first, in the
+    /// same order.
     NotNumber(String),
     /// The number is outside 0 to 1000.
     OutOfRange(String),
@@ -175,8 +176,8 @@ fn set_axes(alloc: Global, durations: &mut Durations, axes: &Table) -> Result<()
 
 /// Reads how long motions take, from a text in TOML: in the table `time` by each axis's word a number, which is that of
 /// all its motions, or a table with numbers by the words of the poses to which it moves. They are whole numbers from 0
-/// to 1000; where none is given a motion takes 1. A text that isn't TOML is told before an unknown key, and that before a
-/// key's value.
+/// to 1000; where none is given a motion takes 1. A text that isn't TOML is told before an unknown key, and that before
+/// a key's value.
 pub fn read_durations(alloc: Global, text: &[u8]) -> Result<Durations, TimesError> {
     let table = match toml::table_from_slice(alloc, text) {
         Ok(table) => table,

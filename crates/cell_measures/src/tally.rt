@@ -49,8 +49,10 @@ impl Tally {
         requires { All (IsCounted self.old.time) self.old.courses }
         ensures time { IfOk result (λ _. self.new.time ≡ max self.old.time end) }
         ensures courses { IfOk result (λ _. All (IsCounted self.new.time) self.new.courses) }
-        ensures deliveries { IfOk result (λ _. length self.new.deliveries.items ≡ length self.old.deliveries.items + count_by is_delivery (entry.now ∷ [])) }
-        ensures declarations { IfOk result (λ _. length self.new.declarations.items ≡ length self.old.declarations.items + count_by is_declaration (entry.now ∷ [])) }
+        ensures deliveries { IfOk result (λ _. length self.new.deliveries.items ≡ length self.old.deliveries.items +
+            count_by is_delivery (entry.now ∷ [])) }
+        ensures declarations { IfOk result (λ _. length self.new.declarations.items ≡ length self.old.declarations.items
+            + count_by is_declaration (entry.now ∷ [])) }
     {
         self.note_course(entry, end)?;
         self.holders.follow(entry, end);
@@ -79,8 +81,10 @@ impl Tally {
     fn note_plate(&mut self, entry: &Entry, end: u64) -> Result<(), AllocError>
         ensures time { self.new.time ≡ self.old.time }
         ensures courses { self.new.courses ≡ self.old.courses }
-        ensures deliveries { IfOk result (λ _. length self.new.deliveries.items ≡ length self.old.deliveries.items + count_by is_delivery (entry.now ∷ [])) }
-        ensures declarations { IfOk result (λ _. length self.new.declarations.items ≡ length self.old.declarations.items + count_by is_declaration (entry.now ∷ [])) }
+        ensures deliveries { IfOk result (λ _. length self.new.deliveries.items ≡ length self.old.deliveries.items +
+            count_by is_delivery (entry.now ∷ [])) }
+        ensures declarations { IfOk result (λ _. length self.new.declarations.items ≡ length self.old.declarations.items
+            + count_by is_declaration (entry.now ∷ [])) }
     {
         match entry {
             Entry::Admitted { .. } => self.laid_in.push(end)?,
@@ -95,7 +99,8 @@ impl Tally {
     fn deliver(&mut self, number: u32, end: u64) -> Result<(), AllocError>
         ensures time { self.new.time ≡ self.old.time }
         ensures courses { self.new.courses ≡ self.old.courses }
-        ensures deliveries { IfOk result (λ _. length self.new.deliveries.items ≡ length self.old.deliveries.items + 1) }
+        ensures deliveries { IfOk result (λ _. length self.new.deliveries.items ≡ length self.old.deliveries.items +
+            1) }
         ensures declarations { self.new.declarations ≡ self.old.declarations }
     {
         let place = (number as usize).saturating_sub(1);

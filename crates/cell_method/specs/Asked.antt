@@ -9,7 +9,8 @@ use Rattle.cell_method.specs.declared.ask.Ask.TheVariants as ask
 
 -- a word and three blank fields
 abbrev pub has_word : List ℕ → List ℕ → List ℕ → List ℕ → List ℕ → Bool
-has_word word first second third fourth = bytes_eq first word && (length second == 0) && (length third == 0) && (length fourth == 0)
+has_word word first second third fourth = bytes_eq first word && (length second == 0) && (length third == 0)
+    && (length fourth == 0)
 
 abbrev pub to_book : Option Entry → Ask
 to_book (Some e) = ask.Book e

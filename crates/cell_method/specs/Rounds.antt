@@ -28,8 +28,8 @@ use Rattle.cell_method.specs.declared.ask.Ask.TheVariants as ask
 use Rattle.cell_method.specs.declared.reply.Reply.{Reply}
 use Rattle.cell_method.specs.declared.reply.Reply.TheVariants as reply
 
--- where a run stands: the journal, what each machine's port was asked, the operator's lines that aren't done yet and whether his
--- hands failed, how many rounds were opened, and the text that was written
+-- where a run stands: the journal, what each machine's port was asked, the operator's lines that aren't done yet and
+-- whether his hands failed, how many rounds were opened, and the text that was written
 pub record Stand : Type 0 where
   pub journal : List Entry
   pub logs : Six Log
@@ -38,8 +38,9 @@ pub record Stand : Type 0 where
   pub rounds : ℕ
   pub text : List ℕ
 
--- what happens in a run: a machine was read and showed this, a round was opened, a line of the method was answered, or the
--- operator's turn came. Whether the port failed on the line's command is said, and whether the operator's hands failed.
+-- what happens in a run: a machine was read and showed this, a round was opened, a line of the method was answered, or
+-- the operator's turn came. Whether the port failed on the line's command is said, and whether the operator's hands
+-- failed.
 pub data Event : Type 0 where
   Shown : Machine → Option Reading → Event
   Opened : Event
@@ -94,7 +95,11 @@ after_operator l true failed s = s
 after_operator l false failed s = after_action (next_of s.lines (history l s.journal)) failed s
 
 abbrev pub after_event : BookLimits → Stand → Event → Stand
-after_event l s (Shown m r) = record s { logs = put s.logs m (after_read (at s.logs m) r); text = s.text ++ reading_line m r }
+after_event l s (Shown m r) = record s {
+  logs = put s.logs m (after_read (at s.logs m) r);
+  text =
+      s.text ++ reading_line m r;
+}
 after_event l s Opened = record s { rounds = s.rounds + 1; text = s.text ++ round_line (s.rounds + 1) }
 after_event l s (Answered row failed) = after_ask l (ask_of row) failed s
 after_event l s (Operated failed) = after_operator l s.lost failed s
@@ -126,9 +131,10 @@ pub record Leads (l : BookLimits) (s t : Stand) (all left : Option (List (Option
   pub read : Reads all (rows_of events) left
 
 -- the journal is the stand's, and each port that tells was asked what the stand says
-pub record Fits {P : Type 0} (tells : P → Bool) (log : P → Log) (J : List Entry) (ports : Six P) (s : Stand) : Type 0 where
-  pub journal : J ≡ s.journal
-  pub logs : (m : Machine) → tells (at ports m) ≡ true → log (at ports m) ≡ at s.logs m
+pub record Fits {P : Type 0} (tells : P → Bool) (log : P → Log) (J : List Entry) (ports : Six P) (s : Stand) : Type 0
+  where
+    pub journal : J ≡ s.journal
+    pub logs : (m : Machine) → tells (at ports m) ≡ true → log (at ports m) ≡ at s.logs m
 
 -- the operator's script and hands, and the rounds
 pub record FitsDesk (script : List Line) (is_lost : Bool) (opened : ℕ) (s : Stand) : Type 0 where
@@ -138,10 +144,20 @@ pub record FitsDesk (script : List Line) (is_lost : Bool) (opened : ℕ) (s : St
 
 -- where a run starts over this journal and these ports, with this script of the operator
 abbrev pub start : {P : Type 0} → (P → Log) → List Entry → Six P → List Line → Stand
-start log J ports lines = record { journal = J; logs = map_six log ports; lines = lines; lost = false; rounds = 0; text = [] }
+start log J ports lines = record {
+  journal = J;
+  logs = map_six log ports;
+  lines = lines;
+  lost = false;
+  rounds =
+      0;
+  text = [];
+}
 
 -- from a stand events lead to one where the cell is now so, and what was written there is its text
-pub record Goes {P : Type 0} (tells : P → Bool) (log : P → Log) (l : BookLimits) (s : Stand) (all left : Option (List (Option Row))) (K : List Entry) (ports : Six P) (lines : List Line) (lost : Bool) (rounds : ℕ) (old new : Option (List ℕ)) : Type 0 where
+pub record Goes {P : Type 0} (tells : P → Bool) (log : P → Log) (l : BookLimits) (s : Stand)
+    (all left : Option (List (Option Row))) (K : List Entry) (ports : Six P) (lines : List Line) (lost : Bool)
+    (rounds : ℕ) (old new : Option (List ℕ)) : Type 0 where
   pub after : Stand
   pub leads : Leads l s after all left
   pub fits : Fits tells log K ports after
@@ -149,26 +165,32 @@ pub record Goes {P : Type 0} (tells : P → Bool) (log : P → Log) (l : BookLim
   pub text : (first : Option (List ℕ)) → Appends first old s.text → Appends first new after.text
 
 -- a run that broke off: events led to the journal and to what the ports were asked; what was written isn't told
-pub record Broke {P : Type 0} (tells : P → Bool) (log : P → Log) (l : BookLimits) (s : Stand) (all : Option (List (Option Row))) (K : List Entry) (ports : Six P) : Type 0 where
+pub record Broke {P : Type 0} (tells : P → Bool) (log : P → Log) (l : BookLimits) (s : Stand)
+    (all : Option (List (Option Row))) (K : List Entry) (ports : Six P) : Type 0 where
   pub after : Stand
   pub left : Option (List (Option Row))
   pub leads : Leads l s after all left
   pub fits : Fits tells log K ports after
 
 -- a run: events led from its start to the journal, to what the ports were asked and to the text that was written
-pub record Driven {P : Type 0} (tells : P → Bool) (log : P → Log) (l : BookLimits) (s : Stand) (all left : Option (List (Option Row))) (K : List Entry) (ports : Six P) (old new : Option (List ℕ)) : Type 0 where
+pub record Driven {P : Type 0} (tells : P → Bool) (log : P → Log) (l : BookLimits) (s : Stand)
+    (all left : Option (List (Option Row))) (K : List Entry) (ports : Six P) (old new : Option (List ℕ)) : Type 0 where
   pub after : Stand
   pub leads : Leads l s after all left
   pub fits : Fits tells log K ports after
   pub text : Appends old new after.text
 
 -- what one line did: from a stand that fits it leads to one that does, and the answer is the text that comes there
-abbrev pub AnswersBy : {P : Type 0} → (P → Bool) → (P → Log) → (Stand → Stand) → List Entry → Six P → List Entry → Six P → Reply → Type 0
-AnswersBy tells log after J ports K ports' r = (s : Stand) → Fits tells log J ports s → Fits tells log K ports' (after s) × ((after s).text ≡ s.text ++ line_of r)
+abbrev pub AnswersBy : {P : Type 0} → (P → Bool) → (P → Log) → (Stand → Stand) → List Entry → Six P → List Entry → Six P
+    → Reply → Type 0
+AnswersBy tells log after J ports K ports' r = (s : Stand) → Fits tells log J ports s
+    → Fits tells log K ports' (after s) × ((after s).text ≡ s.text ++ line_of r)
 
 -- what the operator's turn did
-pub record Operates (l : BookLimits) (failed : Bool) (s : Stand) (K : List Entry) (script : List Line) (is_lost : Bool) (old new : Option (List ℕ)) : Type 0 where
+pub record Operates (l : BookLimits) (failed : Bool) (s : Stand) (K : List Entry) (script : List Line) (is_lost : Bool)
+    (old new : Option (List ℕ)) : Type 0 where
   pub journal : K ≡ (after_operator l s.lost failed s).journal
   pub lines : script ≡ (after_operator l s.lost failed s).lines
   pub lost : is_lost ≡ (after_operator l s.lost failed s).lost
-  pub text : (first : Option (List ℕ)) → Appends first old s.text → Appends first new (after_operator l s.lost failed s).text
+  pub text : (first : Option (List ℕ)) → Appends first old s.text
+      → Appends first new (after_operator l s.lost failed s).text

@@ -1,5 +1,6 @@
 -- The line that tells what a machine shows
-use Rattle.std.specs.Prelude.{ℕ, ◌+◌, Bool, true, false, List, [], ◌∷◌, ◌++◌, Option, Some, None, map, codes, decimal, slice_index, if◌then◌else◌}
+use Rattle.std.specs.Prelude.{ℕ, ◌+◌, Bool, true, false, List, [], ◌∷◌, ◌++◌, Option, Some, None, map, codes, decimal}
+use Rattle.std.specs.Prelude.{slice_index, if◌then◌else◌}
 use Rattle.cell_rows.specs.Lines.{line}
 use Rattle.cell_types.specs.Cell.{poses, stations_of}
 use Rattle.cell_types.specs.Texts.{machine_word, pose_word, station_word}
@@ -21,7 +22,8 @@ sign_after false = []
 unfoldable pub shown_after : Bool → ℕ → ℕ → List (List ℕ) → List ℕ
 shown_after is_after byte i [] = []
 shown_after is_after byte i (word ∷ words) =
-    if bit byte i then (sign_after is_after ++ word) ++ shown_after true byte (i + 1) words else shown_after is_after byte (i + 1) words
+    if bit byte i then (sign_after is_after ++ word) ++ shown_after true byte (i + 1) words else shown_after is_after
+    byte (i + 1) words
 
 abbrev pub shown : ℕ → List (List ℕ) → List ℕ
 shown byte words = shown_after false byte 0 words
@@ -40,9 +42,11 @@ presence_words m = map station_word (stations_of m)
 -- the poses that each axis of a machine shows, with a slash between them
 abbrev pub switches_text : Machine → Reading → List ℕ
 switches_text machine.Feed r = []
-switches_text machine.Table r = shown (slice_index r.switches 0) (switch_words axis.TableLift) ++ 47 ∷ shown (slice_index r.switches 1) (switch_words axis.TableTurn)
+switches_text machine.Table r = shown (slice_index r.switches 0) (switch_words axis.TableLift) ++ 47
+    ∷ shown (slice_index r.switches 1) (switch_words axis.TableTurn)
 switches_text machine.Robot r =
-    shown (slice_index r.switches 0) (switch_words axis.RobotTurn) ++ 47 ∷ (shown (slice_index r.switches 1) (switch_words axis.ArmOne)
+    shown (slice_index r.switches 0) (switch_words axis.RobotTurn) ++ 47
+    ∷ (shown (slice_index r.switches 1) (switch_words axis.ArmOne)
     ++ 47 ∷ shown (slice_index r.switches 2) (switch_words axis.ArmTwo))
 switches_text machine.Press1 r = shown (slice_index r.switches 0) (switch_words axis.PressOne)
 switches_text machine.Press2 r = shown (slice_index r.switches 0) (switch_words axis.PressTwo)

@@ -22,7 +22,8 @@ pub enum Ask {
 
 // Whether the fields are a word and three that are blank.
 fn has_word(four: Four<'_>, word: &[u8]) -> bool
-    ensures { result ≡ has_word word.now four.entry.first.now four.entry.second.now four.entry.third.now four.entry.fourth.now }
+    ensures { result ≡ has_word word.now four.entry.first.now four.entry.second.now four.entry.third.now
+        four.entry.fourth.now }
 {
     four.first == word && four.second.is_empty() && four.third.is_empty() && four.fourth.is_empty()
 }

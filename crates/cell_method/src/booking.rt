@@ -37,7 +37,8 @@ pub(crate) enum Close {
 // Sends the command of an entry, if it has one, and says whether the port failed.
 fn send<P: Port>(port: &mut P, entry: &Entry) -> bool
     ensures still { P.tells port.new ≡ true → P.tells port.old ≡ true }
-    ensures told { P.tells port.new ≡ true → P.log port.new ≡ after_sending (P.log port.old) (command_of entry.now) result }
+    ensures told { P.tells port.new ≡ true
+        → P.log port.new ≡ after_sending (P.log port.old) (command_of entry.now) result }
 {
     match command_of(*entry) {
         Some(command) => port.command(command).is_err(),
@@ -65,7 +66,9 @@ fn book<P: Port, L: Onlooker>(
     onlooker: &mut L,
 ) -> Reply
     requires { actor_of entry ≡ actors.Machine machine }
-    ensures answers { (failed : Bool) × AnswersBy P.tells P.log (λ s. after_judging (first_of book.old.limits s.journal entry) machine entry failed s) book.old.entries ports.old book.new.entries ports.new result }
+    ensures answers { (failed : Bool) × AnswersBy P.tells P.log
+        (λ s. after_judging (first_of book.old.limits s.journal entry) machine entry failed s) book.old.entries
+        ports.old book.new.entries ports.new result }
     ensures limits { book.new.limits ≡ book.old.limits }
 {
     let wanted = entry;
@@ -89,7 +92,8 @@ fn take<P: Port, L: Onlooker>(
     ports: &mut Ports<P>,
     onlooker: &mut L,
 ) -> Reply
-    ensures answers { (failed : Bool) × AnswersBy P.tells P.log (after_ask cell.old.limits (to_book entry) failed) cell.old.entries ports.old cell.new.entries ports.new result }
+    ensures answers { (failed : Bool) × AnswersBy P.tells P.log (after_ask cell.old.limits (to_book entry) failed)
+        cell.old.entries ports.old cell.new.entries ports.new result }
     ensures limits { cell.new.limits ≡ cell.old.limits }
 {
     let Some(entry) = entry else {
@@ -110,8 +114,11 @@ pub(crate) fn take_lines<R: TellsFault, W: Write, P: Port, L: Onlooker>(
     writer: &mut W,
     onlooker: &mut L,
 ) -> Result<Close, DriveError>
-    ensures goes { IfOk result (λ _. (s : Stand) → Fits P.tells P.log book.old.entries ports.old s → Goes P.tells P.log book.old.limits s (lines_left R.remaining lines.old) (lines_left R.remaining lines.new) book.new.entries ports.new s.lines s.lost s.rounds (W.contents writer.old) (W.contents writer.new)) }
-    ensures broke { IsErr result → (s : Stand) → Fits P.tells P.log book.old.entries ports.old s → Broke P.tells P.log book.old.limits s (lines_left R.remaining lines.old) book.new.entries ports.new }
+    ensures goes { IfOk result (λ _. (s : Stand) → Fits P.tells P.log book.old.entries ports.old s
+        → Goes P.tells P.log book.old.limits s (lines_left R.remaining lines.old) (lines_left R.remaining lines.new)
+        book.new.entries ports.new s.lines s.lost s.rounds (W.contents writer.old) (W.contents writer.new)) }
+    ensures broke { IsErr result → (s : Stand) → Fits P.tells P.log book.old.entries ports.old s
+        → Broke P.tells P.log book.old.limits s (lines_left R.remaining lines.old) book.new.entries ports.new }
     ensures limits { book.new.limits ≡ book.old.limits }
 {
     for _ in 0..MAX_LINES {

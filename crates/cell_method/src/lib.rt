@@ -1,7 +1,8 @@
-//! The conversation with a control method: the lines that it writes, the answers to them, and the rounds in which it books
-//! entries for the machines of a cell over any ports, reader and writer.
+//! The conversation with a control method: the lines that it writes, the answers to them, and the rounds in which it
+//! books entries for the machines of a cell over any ports, reader and writer.
 //!
-//! A method's line is held only as far as it can be a record, so that the memory of a run is bounded however long a line is.
+//! A method's line is held only as far as it can be a record, so that the memory of a run is bounded however long a
+//! line is.
 #![tactic(auto)]
 
 mod ask;

@@ -1,7 +1,9 @@
 //! The lines of a reader's text.
-ghost use Rattle.std.specs.Prelude.{◌≡◌, ◌⊎◌, ◌∷◌, [], ℕ, List, true, IfOk, IfSome, IsErr, IsNone, None, Some, ◌++◌, option_map};
+ghost use Rattle.std.specs.Prelude.{◌≡◌, ◌⊎◌, ◌∷◌, [], ℕ, List, true, IfOk, IfSome, IsErr, IsNone, None, Some, ◌++◌};
+ghost use Rattle.std.specs.Prelude.{option_map};
 ghost use Rattle.std.specs.Io.KnownBytes.{Consumes, IsAtEnd};
-ghost use Rattle.cell_method.specs.Lines.{EndsLine, Holds, IsEndless, TakesLine, bytes_left, current, has_failed, is_blank, is_within, lines_left, lines_of, without_return};
+ghost use Rattle.cell_method.specs.Lines.{EndsLine, Holds, IsEndless, TakesLine, bytes_left, current, has_failed};
+ghost use Rattle.cell_method.specs.Lines.{is_blank, is_within, lines_left, lines_of, without_return};
 
 use crate::split::record_of;
 use arrayvec::ArrayVec;
@@ -35,8 +37,10 @@ fn without_return(line: &[u8]) -> &[u8]
 
 // Takes the next byte, if there is one.
 fn take_byte<R: TellsFault>(source: &mut R) -> Result<Option<u8>, ReadFault>
-    ensures some { IfOk result (λ byte. IfSome byte (λ b. Consumes (R.remaining source.old) (R.remaining source.new) (b ∷ []))) }
-    ensures none { IfOk result (λ byte. IsNone byte → Consumes (R.remaining source.old) (R.remaining source.new) [] × IsAtEnd (R.remaining source.new)) }
+    ensures some { IfOk result (λ byte. IfSome byte (λ b. Consumes (R.remaining source.old) (R.remaining source.new)
+        (b ∷ []))) }
+    ensures none { IfOk result (λ byte. IsNone byte → Consumes (R.remaining source.old) (R.remaining source.new) []
+        × IsAtEnd (R.remaining source.new)) }
     ensures fault { IsErr result → R.failed source.new ≡ true }
 {
     let mut byte = [0];
@@ -62,7 +66,8 @@ impl<R: TellsFault> LineReader<R> {
     // Keeps one more byte of the line, as far as the line can be a record.
     fn keep(&mut self, byte: u8)
         ensures source { self.new.source ≡ self.old.source }
-        ensures holds { (line : List ℕ) → Holds self.old line → is_within byte ≡ true → Holds self.new (line ++ byte ∷ []) }
+        ensures holds { (line : List ℕ) → Holds self.old line → is_within byte ≡ true
+            → Holds self.new (line ++ byte ∷ []) }
     {
         match self.line.try_push(byte) {
             Ok(()) => {}
@@ -72,8 +77,10 @@ impl<R: TellsFault> LineReader<R> {
 
     // Reads a line, and says whether the text ended with it.
     fn read_line(&mut self) -> Result<bool, ReadFault>
-        ensures line { IfOk result (λ ended. (line : List ℕ) × Holds self.new line × EndsLine (R.remaining self.old.source) (R.remaining self.new.source) line ended) }
-        ensures fault { IsErr result → (has_failed R.failed self.new ≡ true) ⊎ IsEndless (bytes_left R.remaining self.old) (bytes_left R.remaining self.new) }
+        ensures line { IfOk result (λ ended. (line : List ℕ) × Holds self.new line
+            × EndsLine (R.remaining self.old.source) (R.remaining self.new.source) line ended) }
+        ensures fault { IsErr result → (has_failed R.failed self.new ≡ true)
+            ⊎ IsEndless (bytes_left R.remaining self.old) (bytes_left R.remaining self.new) }
     {
         self.line.clear();
         self.is_long = false;
@@ -98,9 +105,11 @@ impl<R: TellsFault> LineReader<R> {
     ///
     /// It reads no further than the line feed, and holds no more of a line than a record can have.
     pub fn advance(&mut self) -> Result<bool, ReadFault>
-        ensures line { IfOk result (TakesLine (lines_left R.remaining self.old) (lines_left R.remaining self.new) (current self.new)) }
+        ensures line { IfOk result (TakesLine (lines_left R.remaining self.old) (lines_left R.remaining self.new)
+            (current self.new)) }
         // It answers an error only where the reader failed, or after more bytes than a count can have.
-        ensures fault { IsErr result → (has_failed R.failed self.new ≡ true) ⊎ IsEndless (bytes_left R.remaining self.old) (bytes_left R.remaining self.new) }
+        ensures fault { IsErr result → (has_failed R.failed self.new ≡ true)
+            ⊎ IsEndless (bytes_left R.remaining self.old) (bytes_left R.remaining self.new) }
     {
         for _count in 0..u64::MAX {
             let ended = self.read_line()?;
@@ -116,7 +125,8 @@ impl<R: TellsFault> LineReader<R> {
 
     /// The record of the line that was read last, if it is one: four fields of at most 20 bytes each, and no quote.
     pub fn four(&self) -> Option<Four<'_>>
-        ensures some { IfSome result (λ four. current self.now ≡ Some (four.first.now ∷ four.second.now ∷ four.third.now ∷ four.fourth.now ∷ [])) }
+        ensures some { IfSome result (λ four. current self.now
+            ≡ Some (four.first.now ∷ four.second.now ∷ four.third.now ∷ four.fourth.now ∷ [])) }
         ensures none { IsNone result → current self.now ≡ None }
     {
         if self.is_long {

@@ -2,8 +2,8 @@
 use cell_types::Entry;
 use plate_book::Refusal;
 
-/// What looks on while a method drives the cell, and is told of each step after it was done. What it does changes nothing of
-/// the run.
+/// What looks on while a method drives the cell, and is told of each step after it was done. What it does changes
+/// nothing of the run.
 pub trait Onlooker {
     /// The round of this number, counted from 1, is open for the method's lines.
     fn opened(&mut self, round: u32);

@@ -140,9 +140,9 @@ impl fmt::Display for Switches {
     }
 }
 
-/// What a machine shows, which is written as one line: `reading,MACHINE,SWITCHES,PRESENCE`, or `missing,MACHINE,,` where the
-/// reading is missing. SWITCHES has a part for each axis of the machine, with `/` between them, which is the poses that the axis
-/// shows, and PRESENCE the stations that show a plate, with `+` between them.
+/// What a machine shows, which is written as one line: `reading,MACHINE,SWITCHES,PRESENCE`, or `missing,MACHINE,,`
+/// where the reading is missing. SWITCHES has a part for each axis of the machine, with `/` between them, which is the
+/// poses that the axis shows, and PRESENCE the stations that show a plate, with `+` between them.
 #[derive(Clone, Copy, Debug, PartialEq, Eq)]
 pub struct ReadingLine {
     pub machine: Machine,

@@ -41,8 +41,11 @@ pub enum End {
 
 // Reads each machine in order, and tells what it shows.
 fn show_readings<P: Port, W: Write>(ports: &mut Ports<P>, writer: &mut W) -> Result<(), DriveError>
-    ensures goes { OnOk result ((l : BookLimits) (s : Stand) (J : List EntryValue) (all : Option (List (Option Row))) → Fits P.tells P.log J ports.old s → Goes P.tells P.log l s all all J ports.new s.lines s.lost s.rounds (W.contents writer.old) (W.contents writer.new)) }
-    ensures broke { IsErr result → (l : BookLimits) (s : Stand) (J : List EntryValue) (all : Option (List (Option Row))) → Fits P.tells P.log J ports.old s → Broke P.tells P.log l s all J ports.new }
+    ensures goes { OnOk result ((l : BookLimits) (s : Stand) (J : List EntryValue) (all : Option (List (Option Row)))
+        → Fits P.tells P.log J ports.old s → Goes P.tells P.log l s all all J ports.new s.lines s.lost s.rounds
+        (W.contents writer.old) (W.contents writer.new)) }
+    ensures broke { IsErr result → (l : BookLimits) (s : Stand) (J : List EntryValue) (all : Option (List (Option Row)))
+        → Fits P.tells P.log J ports.old s → Broke P.tells P.log l s all J ports.new }
 {
     for machine in MACHINES {
         let reading = ports.pick(machine).read();
@@ -83,8 +86,14 @@ fn take_round<R: TellsFault, W: Write, P: Port, O: OperatorPort, L: Onlooker>(
     writer: &mut W,
     onlooker: &mut L,
 ) -> Result<Option<End>, DriveError>
-    ensures goes { IfOk result (λ _. (s : Stand) (rounds : ℕ) → rounds + 1 ≡ number → Fits P.tells P.log book.old.entries ports.old s → FitsDesk desk.old.script desk.old.lost rounds s → Goes P.tells P.log book.old.limits s (lines_left R.remaining lines.old) (lines_left R.remaining lines.new) book.new.entries ports.new desk.new.script desk.new.lost number (W.contents writer.old) (W.contents writer.new)) }
-    ensures broke { IsErr result → (s : Stand) (rounds : ℕ) → rounds + 1 ≡ number → Fits P.tells P.log book.old.entries ports.old s → FitsDesk desk.old.script desk.old.lost rounds s → Broke P.tells P.log book.old.limits s (lines_left R.remaining lines.old) book.new.entries ports.new }
+    ensures goes { IfOk result (λ _. (s : Stand) (rounds : ℕ) → rounds + 1 ≡ number
+        → Fits P.tells P.log book.old.entries ports.old s → FitsDesk desk.old.script desk.old.lost rounds s
+        → Goes P.tells P.log book.old.limits s (lines_left R.remaining lines.old) (lines_left R.remaining lines.new)
+        book.new.entries ports.new desk.new.script desk.new.lost number (W.contents writer.old)
+        (W.contents writer.new)) }
+    ensures broke { IsErr result → (s : Stand) (rounds : ℕ) → rounds + 1 ≡ number
+        → Fits P.tells P.log book.old.entries ports.old s → FitsDesk desk.old.script desk.old.lost rounds s
+        → Broke P.tells P.log book.old.limits s (lines_left R.remaining lines.old) book.new.entries ports.new }
     ensures limits { book.new.limits ≡ book.old.limits }
 {
     show_readings(ports, writer)?;
@@ -112,8 +121,12 @@ fn take_rounds<R: TellsFault, W: Write, P: Port, O: OperatorPort, L: Onlooker>(
     onlooker: &mut L,
 ) -> Result<End, DriveError>
     requires { desk.old.lost ≡ false }
-    ensures run { IfOk result (λ _. Driven P.tells P.log book.old.limits (start P.log book.old.entries ports.old desk.old.script) (lines_left R.remaining lines.old) (lines_left R.remaining lines.new) book.new.entries ports.new (W.contents writer.old) (W.contents writer.new)) }
-    ensures broke { IsErr result → Broke P.tells P.log book.old.limits (start P.log book.old.entries ports.old desk.old.script) (lines_left R.remaining lines.old) book.new.entries ports.new }
+    ensures run { IfOk result (λ _. Driven P.tells P.log book.old.limits
+        (start P.log book.old.entries ports.old desk.old.script) (lines_left R.remaining lines.old)
+        (lines_left R.remaining lines.new) book.new.entries ports.new (W.contents writer.old) (W.contents writer.new)) }
+    ensures broke { IsErr result → Broke P.tells P.log book.old.limits
+        (start P.log book.old.entries ports.old desk.old.script) (lines_left R.remaining lines.old) book.new.entries
+        ports.new }
     ensures limits { book.new.limits ≡ book.old.limits }
 {
     for round in 0..plan.turns {
@@ -147,9 +160,12 @@ pub fn drive<R: TellsFault, W: Write, P: Port, O: OperatorPort, L: Onlooker>(
     onlooker: &mut L,
 ) -> Result<End, DriveError>
     // Events lead from the start to the journal, to what the ports were asked and to what was written.
-    ensures run { IfOk result (λ _. Driven P.tells P.log book.old.limits (start P.log book.old.entries ports.old script) (lines_left R.remaining lines.old) (lines_left R.remaining lines.new) book.new.entries ports.new (W.contents writer.old) (W.contents writer.new)) }
+    ensures run { IfOk result (λ _. Driven P.tells P.log book.old.limits (start P.log book.old.entries ports.old script)
+        (lines_left R.remaining lines.old) (lines_left R.remaining lines.new) book.new.entries ports.new
+        (W.contents writer.old) (W.contents writer.new)) }
     // The same where it breaks off, but for what was written and which lines are left.
-    ensures broke { IsErr result → Broke P.tells P.log book.old.limits (start P.log book.old.entries ports.old script) (lines_left R.remaining lines.old) book.new.entries ports.new }
+    ensures broke { IsErr result → Broke P.tells P.log book.old.limits (start P.log book.old.entries ports.old script)
+        (lines_left R.remaining lines.old) book.new.entries ports.new }
     ensures legal { legal book.new.limits book.new.entries ≡ true }
     ensures safe { IsSafe book.new.entries }
     ensures limits { book.new.limits ≡ book.old.limits }

@@ -24,7 +24,8 @@ fn cut(text: &[u8]) -> Option<(&[u8], &[u8])>
 
 // The fields of a line, if it has four.
 fn split(line: &[u8]) -> Option<Four<'_>>
-    ensures some { IfSome result (λ four. fields_after [] line.now ≡ four.first.now ∷ four.second.now ∷ four.third.now ∷ four.fourth.now ∷ []) }
+    ensures some { IfSome result (λ four. fields_after [] line.now ≡ four.first.now ∷ four.second.now ∷ four.third.now
+        ∷ four.fourth.now ∷ []) }
     ensures none { IsNone result → length (fields_after [] line.now) ≢ 4 }
 {
     let (first, rest) = cut(line)?;
@@ -65,7 +66,8 @@ fn fits(four: &Four<'_>) -> bool
 
 /// The record of a line, if it is one: four fields of at most 20 bytes each, and no quote.
 pub(crate) fn record_of(line: &[u8]) -> Option<Four<'_>>
-    ensures some { IfSome result (λ four. record_of line.now ≡ Some (four.first.now ∷ four.second.now ∷ four.third.now ∷ four.fourth.now ∷ [])) }
+    ensures some { IfSome result (λ four. record_of line.now
+        ≡ Some (four.first.now ∷ four.second.now ∷ four.third.now ∷ four.fourth.now ∷ [])) }
     ensures none { IsNone result → record_of line.now ≡ None }
 {
     if has_quote(line) {

@@ -38,7 +38,8 @@ last_text (Some e) = codes "The last entry: " ++ entry_sentence e
 -- what is shown where no scripts run
 abbrev pub no_scripts_text : List Entry → List ℕ
 no_scripts_text J =
-    codes "<noscript><p class=\"answer\">This page needs scripts to show the states after " ++ (decimal (length J) ++ (codes " entries. "
+    codes "<noscript><p class=\"answer\">This page needs scripts to show the states after "
+    ++ (decimal (length J) ++ (codes " entries. "
     ++ (last_text (last_of J) ++ codes "</p></noscript>\n")))
 
 -- the line of an answer, where there is one
@@ -58,7 +59,8 @@ chart_section None = []
 chart_section (Some chart) = chart_start ++ (chart.now ++ codes "</div>\n</section>\n")
 
 -- the text of a page, whose other parts are its head, its drawing, its lists, its middle, its words and its scripts
-abbrev pub page_text : List ℕ → List ℕ → List ℕ → List ℕ → List ℕ → List ℕ → List Entry → Option AuditError → Option Entry → Option (Bor (List ℕ)) → List ℕ
+abbrev pub page_text : List ℕ → List ℕ → List ℕ → List ℕ → List ℕ → List ℕ → List Entry → Option AuditError
+    → Option Entry → Option (Bor (List ℕ)) → List ℕ
 page_text head drawing lists middle words scripts J answer refused chart =
     head ++ (no_scripts_text J ++ (drawing ++ (answer_line answer ++ (lists ++ (chart_section chart
     ++ (middle ++ (words ++ (refused_line answer refused ++ (codes "\"rows\":[\n" ++ (rows_text J ++ scripts))))))))))
@@ -69,7 +71,8 @@ pub record AppendsSome (old new : Option (List ℕ)) : Type 0 where
   pub whole : Appends old new text
 
 -- a page was written: the text of one with this journal's rows, and with the last step of this answer and refused entry
-pub record WritesPage (old new : Option (List ℕ)) (J : List Entry) (answer : Option AuditError) (refused : Option Entry) (chart : Option (Bor (List ℕ))) : Type 0 where
+pub record WritesPage (old new : Option (List ℕ)) (J : List Entry) (answer : Option AuditError) (refused : Option Entry)
+    (chart : Option (Bor (List ℕ))) : Type 0 where
   pub head : List ℕ
   pub drawing : List ℕ
   pub lists : List ℕ

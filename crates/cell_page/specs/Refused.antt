@@ -3,7 +3,9 @@ use Rattle.std.specs.Prelude.{ℕ, Option, Some, List, [], ◌∷◌, ◌++◌, 
 use Rattle.cell_types.specs.declared.words.Entry.{Entry}
 use Rattle.cell_types.specs.Same.{axis_number, belt_number, machine_number, station_number, zone_number}
 use Rattle.plate_book.specs.declared.refusal.Refusal.{Refusal}
-use Rattle.plate_book.specs.declared.refusal.Refusal.TheVariants.{MachineFailed, MachineHealthy, OwnerFailed, WrongPose, ZoneTaken, NotHolder, StationEmpty, StationFull, LampRed, LampAlready, AlreadyAsked, PlateStillThere}
+use Rattle.plate_book.specs.declared.refusal.Refusal.TheVariants.{MachineFailed, MachineHealthy, OwnerFailed, WrongPose}
+use Rattle.plate_book.specs.declared.refusal.Refusal.TheVariants.{ZoneTaken, NotHolder, StationEmpty, StationFull}
+use Rattle.plate_book.specs.declared.refusal.Refusal.TheVariants.{LampRed, LampAlready, AlreadyAsked, PlateStillThere}
 use Rattle.plate_book.specs.Rules.Words.{refusal_text}
 use Rattle.cell_audit.specs.declared.error.AuditError.{AuditError}
 use Rattle.cell_audit.specs.declared.error.AuditError.TheVariants as error

@@ -97,14 +97,18 @@ expected_number None = 0
 expected_number (Some plate) = plate
 
 abbrev pub count_cells : Facts → List (List ℕ)
-count_cells f = decimal (expected_number f.expected) ∷ decimal f.quarantine ∷ bracketed (with_commas (total_cells f.totals)) ∷ []
+count_cells f = decimal (expected_number f.expected) ∷ decimal f.quarantine
+    ∷ bracketed (with_commas (total_cells f.totals)) ∷ []
 
 -- of the last entry who booked it, its record and its sentence
 abbrev pub entry_cells : Option Entry → List (List ℕ)
 entry_cells None = codes "-1" ∷ quoted [] ∷ quoted [] ∷ []
-entry_cells (Some e) = decimal (actor_place (actor_of e)) ∷ quoted (with_commas (record_of e)) ∷ quoted (entry_sentence e) ∷ []
+entry_cells (Some e) = decimal (actor_place (actor_of e)) ∷ quoted (with_commas (record_of e))
+    ∷ quoted (entry_sentence e) ∷ []
 
 -- a row: its cells in this order
 unfoldable pub row_text : Facts → Option Entry → List ℕ
 row_text f last =
-    bracketed (with_commas (place_cells f) ++ (codes "," ++ (with_commas (machine_cells f) ++ (codes "," ++ (with_commas (count_cells f) ++ (codes "," ++ with_commas (entry_cells last)))))))
+    bracketed (with_commas (place_cells f)
+    ++ (codes "," ++ (with_commas (machine_cells f)
+    ++ (codes "," ++ (with_commas (count_cells f) ++ (codes "," ++ with_commas (entry_cells last)))))))

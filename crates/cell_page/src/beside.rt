@@ -31,7 +31,8 @@ fn write_escaped<W: Write>(writer: &mut W, text: &[u8]) -> Result<(), PageError>
     Ok(())
 }
 
-/// Writes one page in which two pages stand side by side, each in a frame of its own, and by whose controls both are stepped.
+/// Writes one page in which two pages stand side by side, each in a frame of its own, and by whose controls both are
+/// stepped.
 ///
 /// `WriteFault` is meant for a writer that failed; no clause says so. It takes no memory.
 pub fn write_beside<W: Write>(writer: &mut W, first: &[u8], second: &[u8]) -> Result<(), PageError>

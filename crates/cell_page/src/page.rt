@@ -64,13 +64,15 @@ fn write_rows<W: Write>(writer: &mut W, book: &Book) -> Result<(), PageError>
 // Writes what is shown where no scripts run: that the page needs them, and the last entry.
 fn write_for_no_scripts<W: Write>(writer: &mut W, book: &Book) -> Result<(), PageError>
     ensures fault { result ≡ Err PageError.TooManyEntries → ⊥ }
-    ensures text { OnOk result (Appends (W.contents writer.old) (W.contents writer.new) (no_scripts_text book.now.entries)) }
+    ensures text { OnOk result (Appends (W.contents writer.old) (W.contents writer.new)
+        (no_scripts_text book.now.entries)) }
 {
     let entries = book.journal().len();
     let Row { last, .. } = row_after(book, entries);
     write!(
         writer,
-        "<noscript><p class=\"answer\">This page needs scripts to show the states after {entries} entries. {}</p></noscript>\n",
+        "<noscript><p class=\"answer\">This page needs scripts to show the states after {entries} entries. \
+            {}</p></noscript>\n",
         LastText(last)
     )?;
     Ok(())
@@ -112,7 +114,8 @@ fn write_parts<W: Write>(
     chart: Option<&[u8]>,
 ) -> Result<(), PageError>
     ensures fault { result ≡ Err PageError.TooManyEntries → ⊥ }
-    ensures page { OnOk result (WritesPage (W.contents writer.old) (W.contents writer.new) book.now.entries answer refused chart.entry) }
+    ensures page { OnOk result (WritesPage (W.contents writer.old) (W.contents writer.new) book.now.entries answer
+        refused chart.entry) }
 {
     writer.write_all(HEAD.as_bytes())?;
     write_for_no_scripts(writer, book)?;
@@ -131,12 +134,12 @@ fn write_parts<W: Write>(
     Ok(())
 }
 
-/// Writes one page with all states of a book's journal, with the line of an answer where its text isn't legal, and below the
-/// states with a chart, an SVG text, where one is given. An answer that names a record gives the page a last step, with the
-/// refused entry where one is given and the part of the cell that the refusal names.
+/// Writes one page with all states of a book's journal, with the line of an answer where its text isn't legal, and
+/// below the states with a chart, an SVG text, where one is given. An answer that names a record gives the page a last
+/// step, with the refused entry where one is given and the part of the cell that the refusal names.
 ///
-/// `TooManyEntries` comes where the journal has more than 20,000 entries, and then nothing was written. `WriteFault` is meant
-/// for a writer that failed; no clause says so. It takes no memory.
+/// `TooManyEntries` comes where the journal has more than 20,000 entries, and then nothing was written. `WriteFault` is
+/// meant for a writer that failed; no clause says so. It takes no memory.
 pub fn write_page<W: Write>(
     writer: &mut W,
     book: &Book,
@@ -145,8 +148,10 @@ pub fn write_page<W: Write>(
     chart: Option<&[u8]>,
 ) -> Result<(), PageError>
     ensures refused { (result ≡ Err PageError.TooManyEntries) ↔ (20000 < length book.now.entries) }
-    // Its rows are those of the states after each number of the journal's entries, in order, and its last step is the answer's.
-    ensures page { OnOk result (WritesPage (W.contents writer.old) (W.contents writer.new) book.now.entries answer refused chart.entry) }
+    // Its rows are those of the states after each number of the journal's entries, in order, and its last step is the
+    // answer's.
+    ensures page { OnOk result (WritesPage (W.contents writer.old) (W.contents writer.new) book.now.entries answer
+        refused chart.entry) }
     // The chart's text stands in the page as it was given.
     ensures chart { OnOk result (ShowsChart (W.contents writer.old) (W.contents writer.new) chart.entry) }
     ensures nothing { result ≡ Err PageError.TooManyEntries → writer.new ≡ writer.old }

@@ -1,5 +1,5 @@
-//! The last step of a page whose text isn't that of a legal journal: which record isn't booked, why, and which part of the
-//! drawing the refusal names.
+//! The last step of a page whose text isn't that of a legal journal: which record isn't booked, why, and which part of
+//! the drawing the refusal names.
 ghost use Rattle.std.specs.Prelude.{◌≡◌, Err, OnOk};
 ghost use Rattle.std.specs.Io.KnownBytes.{Appends};
 ghost use Rattle.cell_page.specs.Refused.{refused_line};

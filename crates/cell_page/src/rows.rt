@@ -1,9 +1,9 @@
 //! A state of the cell as one row of the page's data: an array of numbers and words in the syntax of JSON.
 //!
-//! A row has, in this order: the plates by station, which of them are forged, the axes' poses, where the axes are going,
-//! the zones' holders, the failed and the asked machines, the lights, the expected plate, the plates in quarantine, the
-//! six totals, and of the last entry its actor, its record and its sentence. A word of a list is written as a letter, `a`
-//! for the first, and `-` stands for none.
+//! A row has, in this order: the plates by station, which of them are forged, the axes' poses, where the axes are
+//! going, the zones' holders, the failed and the asked machines, the lights, the expected plate, the plates in
+//! quarantine, the six totals, and of the last entry its actor, its record and its sentence. A word of a list is
+//! written as a letter, `a` for the first, and `-` stands for none.
 ghost use Rattle.std.specs.Prelude.{◌≡◌, ◌<◌, ◌==◌, ◌∷◌, [], if◌then◌else◌};
 ghost use Rattle.std.specs.Char.{encode_utf8};
 ghost use Rattle.cell_types.specs.Entries.{actor_of};

@@ -1,5 +1,6 @@
 -- What is shown of what a legal journal's first entries leave is what these entries tell
-use Rattle.std.proofs.Common.{◌≡◌, ◌↔◌, ◌<◌, ℕ, Bool, true, false, List, [], ◌∷◌, Option, Some, None, refl, sym, ap, ◌∙◌, arith, cond}
+use Rattle.std.proofs.Common.{◌≡◌, ◌↔◌, ◌<◌, ℕ, Bool, true, false, List, [], ◌∷◌, Option, Some, None, refl, sym, ap}
+use Rattle.std.proofs.Common.{◌∙◌, arith, cond}
 use Rattle.std.specs.Prelude.{not, ◌-◌, if◌then◌else◌}
 use Rattle.std.specs.List.{find}
 use Rattle.std.specs.Option.{option_map}
@@ -36,12 +37,15 @@ shown_each s station.Press2 = refl
 shown_each s station.DepIn = refl
 shown_each s station.DepEnd = refl
 
-plate_alone : (o : Option ℕ) (b : Bool) → option_map (λ (p : ShownPlate). p.plate) (option_map (λ k. record { plate = k; forged = b }) o) ≡ o
+plate_alone : (o : Option ℕ) (b : Bool) → option_map (λ (p : ShownPlate). p.plate)
+    (option_map (λ k. record { plate = k; forged = b }) o) ≡ o
 plate_alone None b = refl
 plate_alone (Some k) b = refl
 
-plate_same : (s : Snapshot) (t : Station) → option_map (λ (p : ShownPlate). p.plate) (plate_shown (facts_of s) t) ≡ (state_of s).plate t
-plate_same s t = ap (option_map (λ (p : ShownPlate). p.plate)) (shown_each s t) ∙ plate_alone ((state_of s).plate t) (is_forged (state_of s).at t)
+plate_same : (s : Snapshot) (t : Station) → option_map (λ (p : ShownPlate). p.plate) (plate_shown (facts_of s) t)
+    ≡ (state_of s).plate t
+plate_same s t = ap (option_map (λ (p : ShownPlate). p.plate)) (shown_each s t)
+    ∙ plate_alone ((state_of s).plate t) (is_forged (state_of s).at t)
 
 lamp_each : (s : Snapshot) (b : Belt) → lamp_shown (facts_of s) b ≡ (state_of s).lamp b
 lamp_each s belt.Feed = refl
@@ -63,7 +67,8 @@ shows_views s J v =
     }
 
 -- a plate that is shown is at its station, and marked as the station and the poses say
-parts : (o : Option ℕ) (b : Bool) (p : ShownPlate) → option_map (λ k. record { plate = k; forged = b }) o ≡ Some p → (o ≡ Some p.plate) × (b ≡ p.forged)
+parts : (o : Option ℕ) (b : Bool) (p : ShownPlate) → option_map (λ k. record { plate = k; forged = b }) o ≡ Some p
+    → (o ≡ Some p.plate) × (b ≡ p.forged)
 parts None b p h = cc
 parts (Some k) b p h =
     let same : (record { plate = k; forged = b }) ≡ p = cc in
@@ -89,7 +94,8 @@ pressed true = grind arith
 pressed false = grind arith
 
 -- a plate's mark says whether the plate was forged
-marks : (J : List Entry) (at : Axis → Pose) (t : Station) → ((a : Axis) → at a ≡ at_of J a) → (is_forged at t ≡ true) ↔ (0 < forged_by_now J t)
+marks : (J : List Entry) (at : Axis → Pose) (t : Station) → ((a : Axis) → at a ≡ at_of J a)
+    → (is_forged at t ≡ true) ↔ (0 < forged_by_now J t)
 marks J at station.FeedIn same = grind arith
 marks J at station.FeedEnd same = grind arith
 marks J at station.Table same = grind arith

@@ -23,21 +23,31 @@ test_same true n h = grind arith
 test_same false n h = grind arith
 
 -- a plate that is shown, where its number and its mark are those that the journal tells
-plate_told : (J : List Entry) (o : Option ShownPlate) (told : Option ℕ) → option_map (λ (p : ShownPlate). p.plate) o ≡ told
+plate_told : (J : List Entry) (o : Option ShownPlate) (told : Option ℕ)
+    → option_map (λ (p : ShownPlate). p.plate) o ≡ told
     → ((p : ShownPlate) → o ≡ Some p → (p.forged ≡ true) ↔ (0 < count_by (is_forged_as p.plate) J))
     → o ≡ option_map (λ k. record { plate = k; forged = nat_lt 0 (count_by (is_forged_as k) J) }) told
 plate_told J None told e marks = rw (← e) refl
 plate_told J (Some p) told e marks =
-    rw (← e) (ap (λ b. Some (record { plate = p.plate; forged = b })) (test_same p.forged (count_by (is_forged_as p.plate) J) (marks p refl)))
+    rw (← e) (ap (λ b. Some (record { plate = p.plate; forged = b }))
+    (test_same p.forged (count_by (is_forged_as p.plate) J) (marks p refl)))
 
 -- facts of the same parts are the same
-same_parts : (f g : Facts) → f.plates ≡ g.plates → f.axes ≡ g.axes → f.holders ≡ g.holders → f.failed ≡ g.failed → f.asked ≡ g.asked
+same_parts : (f g : Facts) → f.plates ≡ g.plates → f.axes ≡ g.axes → f.holders ≡ g.holders → f.failed ≡ g.failed
+    → f.asked ≡ g.asked
     → f.lamps ≡ g.lamps → f.expected ≡ g.expected → f.quarantine ≡ g.quarantine → f.totals ≡ g.totals → f ≡ g
 same_parts f g a b c d e h i j k =
     ap (λ x. record f { plates = x }) a ∙ ap (λ x. record f { plates = g.plates; axes = x }) b
     ∙ ap (λ x. record f { plates = g.plates; axes = g.axes; holders = x }) c
     ∙ ap (λ x. record f { plates = g.plates; axes = g.axes; holders = g.holders; failed = x }) d
-    ∙ ap (λ x. record g { asked = x; lamps = f.lamps; expected = f.expected; quarantine = f.quarantine; totals = f.totals }) e
+    ∙ ap (λ x. record g {
+      asked = x;
+      lamps = f.lamps;
+      expected = f.expected;
+      quarantine = f.quarantine;
+      totals =
+          f.totals;
+    }) e
     ∙ ap (λ x. record g { lamps = x; expected = f.expected; quarantine = f.quarantine; totals = f.totals }) h
     ∙ ap (λ x. record g { expected = x; quarantine = f.quarantine; totals = f.totals }) i
     ∙ ap (λ x. record g { quarantine = x; totals = f.totals }) j ∙ ap (λ x. record g { totals = x }) k
@@ -46,10 +56,16 @@ pub facts_are_told : (f : Facts) (J : List Entry) → IsWhole f → ShowsViews f
 unfolding facts_told
 facts_are_told f J whole views marks =
     same_parts f (facts_told J)
-    (listed station_number (told_at J) f.plates None all_station (refl, (refl, (refl, (refl, (refl, (refl, (refl, (refl, (refl, tt))))))))) (λ t. plate_told J (plate_shown f t) (plate_of J t) (views.plates t) (marks t)) whole.plates)
-    (listed axis_number (pose_of J) f.axes no_axis all_axis (refl, (refl, (refl, (refl, (refl, (refl, (refl, (refl, (refl, tt))))))))) views.axes whole.axes)
-    (listed zone_number (holder_of J) f.holders None all_zone (refl, (refl, (refl, (refl, (refl, tt))))) views.holders whole.holders)
-    (listed machine_number (is_failed J) f.failed false all_machine (refl, (refl, (refl, (refl, (refl, (refl, tt)))))) views.failed whole.failed)
-    (listed machine_number (is_asked J) f.asked false all_machine (refl, (refl, (refl, (refl, (refl, (refl, tt)))))) views.asked whole.asked)
+    (listed station_number (told_at J) f.plates None all_station
+    (refl, (refl, (refl, (refl, (refl, (refl, (refl, (refl, (refl, tt)))))))))
+    (λ t. plate_told J (plate_shown f t) (plate_of J t) (views.plates t) (marks t)) whole.plates)
+    (listed axis_number (pose_of J) f.axes no_axis all_axis
+    (refl, (refl, (refl, (refl, (refl, (refl, (refl, (refl, (refl, tt))))))))) views.axes whole.axes)
+    (listed zone_number (holder_of J) f.holders None all_zone (refl, (refl, (refl, (refl, (refl, tt))))) views.holders
+    whole.holders)
+    (listed machine_number (is_failed J) f.failed false all_machine (refl, (refl, (refl, (refl, (refl, (refl, tt))))))
+    views.failed whole.failed)
+    (listed machine_number (is_asked J) f.asked false all_machine (refl, (refl, (refl, (refl, (refl, (refl, tt))))))
+    views.asked whole.asked)
     (listed belt_number (lamp_of J) f.lamps colour.Red all_belt (refl, (refl, tt)) views.lamps whole.lamps)
     views.expected views.quarantine views.totals

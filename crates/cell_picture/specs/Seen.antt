@@ -28,4 +28,5 @@ pub record ShowsViews (f : Facts) (J : List Entry) : Type 0 where
 
 -- a plate that is shown is marked as forged where the journal books that it was forged, and only there
 abbrev pub MarksForged : Facts → List Entry → Type 0
-MarksForged f J = (t : Station) (p : ShownPlate) → plate_shown f t ≡ Some p → (p.forged ≡ true) ↔ (0 < count_by (is_forged_as p.plate) J)
+MarksForged f J = (t : Station) (p : ShownPlate) → plate_shown f t ≡ Some p
+    → (p.forged ≡ true) ↔ (0 < count_by (is_forged_as p.plate) J)

@@ -14,8 +14,8 @@ use Rattle.cell_picture.specs.declared.facts.Facts.{Facts}
 abbrev pub told_at : List Entry → Station → Option ShownPlate
 told_at J t = option_map (λ k. record { plate = k; forged = nat_lt 0 (count_by (is_forged_as k) J) }) (plate_of J t)
 
--- what a picture shows of a journal: what its views tell of each station, axis, zone, machine and light, in the order of
--- the cell's words, the expected plate, how many plates are in quarantine, and the totals
+-- what a picture shows of a journal: what its views tell of each station, axis, zone, machine and light, in the order
+-- of the cell's words, the expected plate, how many plates are in quarantine, and the totals
 unfoldable pub facts_told : List Entry → Facts
 facts_told J =
     record {

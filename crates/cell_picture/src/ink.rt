@@ -125,7 +125,8 @@ pub fn ink_plate<W: Write>(out: &mut W, centre: Spot, shown: ShownPlate) -> io::
     };
     writeln!(
         out,
-        "<rect x=\"{}\" y=\"{}\" width=\"46\" height=\"26\" rx=\"5\" fill=\"{fill}\" stroke=\"#000000\" stroke-width=\"1.5\"/>",
+        "<rect x=\"{}\" y=\"{}\" width=\"46\" height=\"26\" rx=\"5\" fill=\"{fill}\" stroke=\"#000000\" \
+            stroke-width=\"1.5\"/>",
         centre.x.saturating_sub(23),
         centre.y.saturating_sub(13)
     )?;
@@ -142,7 +143,8 @@ pub fn ink_plate<W: Write>(out: &mut W, centre: Spot, shown: ShownPlate) -> io::
 fn ink_gap<W: Write>(out: &mut W, centre: Spot) -> io::Result<()> {
     writeln!(
         out,
-        "<rect x=\"{}\" y=\"{}\" width=\"46\" height=\"26\" rx=\"5\" fill=\"none\" stroke=\"#8a94a6\" stroke-dasharray=\"2 3\"/>",
+        "<rect x=\"{}\" y=\"{}\" width=\"46\" height=\"26\" rx=\"5\" fill=\"none\" stroke=\"#8a94a6\" \
+            stroke-dasharray=\"2 3\"/>",
         centre.x.saturating_sub(23),
         centre.y.saturating_sub(13)
     )

@@ -23,8 +23,8 @@ pub fn outline_of(facts: &Facts, machine: Machine) -> Outline {
     }
 }
 
-/// The name of a machine, and whether it is booked failed or a stop is asked of it. In a legal journal no stop is asked of
-/// a failed machine.
+/// The name of a machine, and whether it is booked failed or a stop is asked of it. In a legal journal no stop is asked
+/// of a failed machine.
 pub fn draw_name<W: Write>(
     out: &mut W,
     facts: &Facts,

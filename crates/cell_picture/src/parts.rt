@@ -1,6 +1,7 @@
 //! The facts of one station, axis, zone, machine or light.
 ghost use Rattle.std.specs.Prelude.{◌≡◌};
-ghost use Rattle.cell_picture.specs.Parts.{asked_shown, axis_shown, failed_shown, holder_shown, lamp_shown, plate_shown};
+ghost use Rattle.cell_picture.specs.Parts.{asked_shown, axis_shown, failed_shown, holder_shown, lamp_shown};
+ghost use Rattle.cell_picture.specs.Parts.{plate_shown};
 
 use crate::{Facts, ShownPlate};
 use cell_types::{

@@ -11,9 +11,9 @@ use cell_types::{PlateId, ZONES, Zone, owner, visitor};
 use std::io;
 use std::io::Write;
 
-/// Draws a scene as one SVG file of 800 by 480 units: the cell from above, with its plates, the arms, the presses' heights,
-/// the lights and the zones, and beside them the counts and the answer's line. Failed machines, forged plates and the
-/// lights are told by a sign or a word besides their colour.
+/// Draws a scene as one SVG file of 800 by 480 units: the cell from above, with its plates, the arms, the presses'
+/// heights, the lights and the zones, and beside them the counts and the answer's line. Failed machines, forged plates
+/// and the lights are told by a sign or a word besides their colour.
 ///
 /// `WriteFault` is meant for a writer that failed, and no clause says so; a first part of the file was written then.
 pub fn draw_picture<W: Write>(writer: &mut W, scene: &Scene) -> Result<(), WriteFault> {

@@ -65,12 +65,12 @@ const PICTURE_ROWS: usize = 23;
 // The most bytes of an entry's sentence, and more.
 const SENTENCE: usize = 160;
 
-/// Draws a scene as text of at most 24 lines of at most 78 columns: the machines as they stand in the cell, each with its
-/// plates, its axes and what is booked of it, and beside them the zones' holders and the counts. The answer stands in the
-/// last line, where there is one. Frames and arrows are of ASCII, or of Unicode where that is asked for.
+/// Draws a scene as text of at most 24 lines of at most 78 columns: the machines as they stand in the cell, each with
+/// its plates, its axes and what is booked of it, and beside them the zones' holders and the counts. The answer stands
+/// in the last line, where there is one. Frames and arrows are of ASCII, or of Unicode where that is asked for.
 ///
-/// After `WriteFault` a first part of the text was written. That it comes only where a refused write was noted is a clause of
-/// `draw_text_watched`, of which this is the case of a new writer.
+/// After `WriteFault` a first part of the text was written. That it comes only where a refused write was noted is a
+/// clause of `draw_text_watched`, of which this is the case of a new writer.
 pub fn draw_text<W: Write>(writer: &mut W, scene: &Scene, unicode: bool) -> Result<(), WriteFault> {
     draw_text_watched(&mut WatchedWriter::new(writer), scene, unicode)
 }

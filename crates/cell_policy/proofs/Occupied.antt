@@ -6,7 +6,8 @@ use Rattle.cell_types.specs.declared.words.Station.{Station}
 use Rattle.cell_types.specs.declared.words.Entry.{Entry}
 use Rattle.cell_views.specs.Views.{is_at, is_occupied, placed, plate_of}
 
-some_if : {X : Type 0} (b d : Bool) (x : X) (o : Option X) → is_some o ≡ d → is_some (if b then Some x else o) ≡ (b || d)
+some_if : {X : Type 0} (b d : Bool) (x : X) (o : Option X) → is_some o ≡ d
+    → is_some (if b then Some x else o) ≡ (b || d)
 some_if true d x o h = refl
 some_if false d x o h = h
 

@@ -1,5 +1,6 @@
 -- Which press takes the next plate
-use Rattle.std.specs.Prelude.{ℕ, ◌≡◌, ◌≤◌, nat_le, IfSome, IfNone, Bool, true, false, not, ◌&&◌, Option, Some, None, if◌then◌else◌}
+use Rattle.std.specs.Prelude.{ℕ, ◌≡◌, ◌≤◌, nat_le, IfSome, IfNone, Bool, true, false, not, ◌&&◌, Option, Some, None}
+use Rattle.std.specs.Prelude.{if◌then◌else◌}
 use Rattle.cell_types.specs.declared.words.Machine.{Machine}
 use Rattle.cell_types.specs.declared.words.Machine.TheVariants as machine
 use Rattle.cell_types.specs.declared.words.Station.{Station}
@@ -40,5 +41,6 @@ press_chosen c =
 pub record IsChoice (c : Situation) (o : Option Machine) : Type 0 where
   pub ready : IfSome o (λ m. is_ready_press c m ≡ true)
   pub fewest : IfSome o (λ m. (n : Machine) → is_ready_press c n ≡ true → c.forged_by m ≤ c.forged_by n)
-  pub tie : IfSome o (λ m. (n : Machine) → is_ready_press c n ≡ true → c.forged_by m ≡ c.forged_by n → machine_number m ≤ machine_number n)
+  pub tie : IfSome o (λ m. (n : Machine) → is_ready_press c n ≡ true → c.forged_by m ≡ c.forged_by n
+      → machine_number m ≤ machine_number n)
   pub none : IfNone o ((m : Machine) → is_ready_press c m ≡ false)

@@ -18,8 +18,8 @@ fn green_where(condition: bool) -> Colour
 }
 
 /// The colour that the feed light is to have, by this project's profile: green, which lets a plate be laid in, exactly
-/// where Feed is healthy, its belt is at rest, FeedIn and FeedEnd are empty, and fewer than `plan` plates were admitted or
-/// a cleared plate is expected.
+/// where Feed is healthy, its belt is at rest, FeedIn and FeedEnd are empty, and fewer than `plan` plates were admitted
+/// or a cleared plate is expected.
 #[tactic(auto, unfolding(crate::specs::Lights::feed_light))]
 pub fn feed_light_wanted(book: &Book, plan: u32) -> Colour
     ensures { result ≡ feed_light (situation_of book.now.entries) plan }

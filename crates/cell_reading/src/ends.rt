@@ -23,7 +23,8 @@ fn csv_reader<R: Read>(alloc: Global, source: R) -> Reader<R>
 fn next_row<R: Read>(reader: &mut Reader<R>, row: &mut ByteRecord) -> Result<bool, AllocError>
     requires { IsSetUp reader.old }
     ensures open { OnOk result (IsSetUp reader.new) }
-    ensures takes { IfOk result (TakesRow (rows_to_come R.remaining reader.old) (rows_to_come R.remaining reader.new) (fields_of row.new)) }
+    ensures takes { IfOk result (TakesRow (rows_to_come R.remaining reader.old) (rows_to_come R.remaining reader.new)
+        (fields_of row.new)) }
 {
     let Ok(found) = reader.read_byte_record(row) else {
         return Err(AllocError);

@@ -8,8 +8,8 @@ use std::io;
 use std::io::{ErrorKind, Read};
 use std::marker::{Brand, PhantomData};
 
-/// The whole text of a reader, where its bytes are known. It is a type alone: a caller picks what it stands for where it passes
-/// `Brand`.
+/// The whole text of a reader, where its bytes are known. It is a type alone: a caller picks what it stands for where
+/// it passes `Brand`.
 pub(crate) trait Whole {
     ghost use Rattle.std.specs.Prelude.{ℕ, List, Option};
 

@@ -1,5 +1,5 @@
-//! Texts that are read as far as they decide: a journal is judged while it is read, of a script and of settings no more is read
-//! than one that is good can have. What was read is kept, so that a text without end takes no more than that.
+//! Texts that are read as far as they decide: a journal is judged while it is read, of a script and of settings no more
+//! is read than one that is good can have. What was read is kept, so that a text without end takes no more than that.
 #![tactic(auto)]
 
 mod ends;

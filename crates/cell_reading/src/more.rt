@@ -15,7 +15,8 @@ const SIZE: usize = 16384;
 // One read, of so many bytes at most. It appends them to what was read of the text, and says how many came.
 fn read_some<R: Read>(reader: &mut R, text: &mut Vec<u8>, most: usize) -> io::Result<usize>
     requires { 0 < most }
-    ensures whole { Keeps (prepend_known text.old.items (R.remaining reader.old)) (prepend_known text.new.items (R.remaining reader.new)) }
+    ensures whole { Keeps (prepend_known text.old.items (R.remaining reader.old))
+        (prepend_known text.new.items (R.remaining reader.new)) }
     ensures appends { StartsWith text.new.items text.old.items }
     ensures nothing { IsErr result → length text.new.items ≡ length text.old.items }
     ensures count { IfOk result (λ count. (length text.new.items ≡ length text.old.items + count) × (count ≤ most)) }
@@ -31,13 +32,15 @@ fn read_some<R: Read>(reader: &mut R, text: &mut Vec<u8>, most: usize) -> io::Re
     Ok(count)
 }
 
-/// Reads so many bytes of a text, or to its end, and says whether it ended. What was read is appended to what was read before, also
-/// where an error comes later. A read that was interrupted is tried again.
+/// Reads so many bytes of a text, or to its end, and says whether it ended. What was read is appended to what was read
+/// before, also where an error comes later. A read that was interrupted is tried again.
 pub(crate) fn read_on<R: Read>(reader: &mut R, text: &mut Vec<u8>, most: usize) -> io::Result<bool>
     // What was read, followed by what is left, is the same text.
-    ensures whole { Keeps (prepend_known text.old.items (R.remaining reader.old)) (prepend_known text.new.items (R.remaining reader.new)) }
+    ensures whole { Keeps (prepend_known text.old.items (R.remaining reader.old))
+        (prepend_known text.new.items (R.remaining reader.new)) }
     ensures appends { StartsWith text.new.items text.old.items }
-    ensures ended { IfOk result (λ ended. ended ≡ true → IsAtEnd (R.remaining reader.new) × (length text.new.items < length text.old.items + most)) }
+    ensures ended { IfOk result (λ ended. ended ≡ true → IsAtEnd (R.remaining reader.new)
+        × (length text.new.items < length text.old.items + most)) }
     ensures full { IfOk result (λ ended. ended ≡ false → length text.new.items ≡ length text.old.items + most) }
 {
     let mut left = most;

@@ -1,5 +1,6 @@
 //! The text of a script.
-ghost use Rattle.std.specs.Prelude.{◌≡◌, ◌≢◌, ◌<◌, ◌+◌, ◌↔◌, ℕ, true, false, count_by, Err, IfOk, IfSome, IsNone, IsTrue};
+ghost use Rattle.std.specs.Prelude.{◌≡◌, ◌≢◌, ◌<◌, ◌+◌, ◌↔◌, ℕ, true, false, count_by, Err, IfOk, IfSome, IsNone};
+ghost use Rattle.std.specs.Prelude.{IsTrue};
 ghost use Rattle.cell_rows.specs.Rows.{rows_of};
 ghost use Rattle.cell_rows.specs.Scripts.{lines_of};
 ghost use Rattle.cell_reading.specs.Ends.{CutsLine};
@@ -27,7 +28,8 @@ pub struct ScriptText {
 impl ScriptText {
     /// Whether the first record that is no line goes on behind what was read.
     pub fn cuts_record<L: ScriptLine + Drop>(&self, alloc: Global) -> Result<bool, AllocError>
-        ensures { IfOk result (λ cuts. IsTrue cuts ↔ CutsLine self.now.is_whole (lines_of L.line_of (rows_of self.now.bytes.items)) self.now.bytes.items) }
+        ensures { IfOk result (λ cuts. IsTrue cuts ↔ CutsLine self.now.is_whole
+            (lines_of L.line_of (rows_of self.now.bytes.items)) self.now.bytes.items) }
     {
         if self.is_whole {
             return Ok(false);
@@ -42,8 +44,10 @@ impl ScriptText {
 
 // The number, counted from 0, of the first record of a script that is no line, if there is one among its first 1,000.
 fn first_unread<L: ScriptLine + Drop>(alloc: Global, text: &[u8]) -> Result<Option<u32>, AllocError>
-    ensures some { IfOk result (λ found. IfSome found (λ number. lines_of L.line_of (rows_of text.now) ≡ Err (LineError.Unreadable (number + 1)))) }
-    ensures none { IfOk result (λ found. IsNone found → (number : ℕ) → lines_of L.line_of (rows_of text.now) ≢ Err (LineError.Unreadable number)) }
+    ensures some { IfOk result (λ found. IfSome found (λ number. lines_of L.line_of (rows_of text.now)
+        ≡ Err (LineError.Unreadable (number + 1)))) }
+    ensures none { IfOk result (λ found. IsNone found → (number : ℕ)
+        → lines_of L.line_of (rows_of text.now) ≢ Err (LineError.Unreadable number)) }
 {
     match read_script::<L>(alloc, text) {
         Ok(_) | Err(LineError::TooManyLines) => return Ok(None),
@@ -68,12 +72,12 @@ fn count_in_lines(bytes: &[u8]) -> usize
 
 /// Reads a script as far as it decides.
 ///
-/// A field of a line that can be read has at most 20 bytes, which two quotes and another quote before each write in at most 42,
-/// and so the line has at most 171 bytes; a byte order mark has three. So a text that has more than 171,003 bytes but for line ends
-/// has a record that is no line, or 1,001 records, and the first of them begins among those bytes. The text is read to its end, or
-/// until it has more than 262,144 such bytes: 91,141 behind the last place at which that record may begin. It is no line as far as
-/// it was read either, since it has more than 171 bytes there, or has ended. So what is read decides as the whole text does. No
-/// clause says so, and `reading_tests` look at it.
+/// A field of a line that can be read has at most 20 bytes, which two quotes and another quote before each write in at
+/// most 42, and so the line has at most 171 bytes; a byte order mark has three. So a text that has more than 171,003
+/// bytes but for line ends has a record that is no line, or 1,001 records, and the first of them begins among those
+/// bytes. The text is read to its end, or until it has more than 262,144 such bytes: 91,141 behind the last place at
+/// which that record may begin. It is no line as far as it was read either, since it has more than 171 bytes there, or
+/// has ended. So what is read decides as the whole text does. No clause says so, and `reading_tests` look at it.
 pub fn script_text<R: Read + Drop>(alloc: Global, mut reader: R) -> io::Result<ScriptText>
     ensures first { IfOk result (λ script. IsFirstPart (R.remaining reader) script.bytes.items) }
     ensures whole { IfOk result (λ script. script.is_whole ≡ true → IsWhole (R.remaining reader) script.bytes.items) }

@@ -10,7 +10,8 @@ use std::io::Read;
 // The most bytes that settings may have.
 const MAX_SETTINGS: usize = 1_048_576;
 
-/// Reads settings, of which there may be 1,048,576 bytes: their text, or `None` where it is longer. It reads one byte more at most.
+/// Reads settings, of which there may be 1,048,576 bytes: their text, or `None` where it is longer. It reads one byte
+/// more at most.
 pub fn settings_text<R: Read + Drop>(alloc: Global, mut reader: R) -> io::Result<Option<Vec<u8>>>
     ensures whole { IfOk result (λ read. IfSome read (λ text. IsWhole (R.remaining reader) text.items)) }
     ensures short { IfOk result (λ read. IfSome read (λ text. length text.items ≤ 1048576)) }

@@ -23,28 +23,35 @@ rest-text [] p = refl
 rest-text (field ∷ fields) p =
     rw (as_it_is field (All-head (λ f. needs_quotes default_writer f ≡ false) field fields p))
     (ap (λ (t : List ℕ). 44 ∷ t) (append_assoc field (fields_text default_writer fields) (10 ∷ [])
-    ∙ ap (λ (t : List ℕ). field ++ t) (rest-text fields (All-tail (λ f. needs_quotes default_writer f ≡ false) field fields p))))
+    ∙ ap (λ (t : List ℕ). field ++ t) (rest-text fields
+    (All-tail (λ f. needs_quotes default_writer f ≡ false) field fields p))))
 
 row-line : (x y : List ℕ) (ys : Row) → AllPlain (x ∷ y ∷ ys) → row_text default_writer (x ∷ y ∷ ys) ≡ line (x ∷ y ∷ ys)
 unfolding is_blank
 row-line x y ys p =
     rw (as_it_is x (All-head (λ f. needs_quotes default_writer f ≡ false) x (y ∷ ys) p))
     (append_assoc x (fields_text default_writer (y ∷ ys)) (10 ∷ [])
-    ∙ ap (λ (t : List ℕ). x ++ t) (rest-text (y ∷ ys) (All-tail (λ f. needs_quotes default_writer f ≡ false) x (y ∷ ys) p)))
+    ∙ ap (λ (t : List ℕ). x ++ t) (rest-text (y ∷ ys) (All-tail (λ f. needs_quotes default_writer f ≡ false) x (y ∷ ys)
+    p)))
 
 -- one record
-pub one : (row : Row) (tail : List ℕ) → IsPlain row → rows_from st.StartRecord (line row ++ tail) ≡ row ∷ rows_from st.StartRecord tail
+pub one : (row : Row) (tail : List ℕ) → IsPlain row
+    → rows_from st.StartRecord (line row ++ tail) ≡ row ∷ rows_from st.StartRecord tail
 one [] tail p = absurd (omega (arith, p.0))
 one (x ∷ []) tail p = absurd (omega (arith, p.0))
 one (x ∷ y ∷ ys) tail p =
-    subst (λ (t : List ℕ). rows_from st.StartRecord (t ++ tail) ≡ (x ∷ y ∷ ys) ∷ rows_from st.StartRecord tail) (row-line x y ys p.1)
-    (rows-some st.StartRecord (row_text default_writer (x ∷ y ∷ ys) ++ tail) (x ∷ y ∷ ys, st.StartRecord, tail) (read-write-many x y ys tail))
+    subst (λ (t : List ℕ). rows_from st.StartRecord (t ++ tail) ≡ (x ∷ y ∷ ys) ∷ rows_from st.StartRecord tail)
+    (row-line x y ys p.1)
+    (rows-some st.StartRecord (row_text default_writer (x ∷ y ∷ ys) ++ tail) (x ∷ y ∷ ys, st.StartRecord, tail)
+    (read-write-many x y ys tail))
 
 pub lines-back : (rows : List Row) → All IsPlain rows → rows_from st.StartRecord (lines_of rows) ≡ rows
 unfolding lines_of
 lines-back [] p = ended default_config 1
 lines-back (row ∷ rows) p =
-    one row (lines_of rows) (All-head IsPlain row rows p) ∙ ap (λ (t : List Row). row ∷ t) (lines-back rows (All-tail IsPlain row rows p))
+    one row (lines_of rows) (All-head IsPlain row rows p)
+    ∙ ap (λ (t : List Row). row ∷ t) (lines-back rows (All-tail IsPlain row rows p))
 
-pub read-back : (rows : List Row) → All IsPlain rows → strip_bom (lines_of rows) ≡ lines_of rows → rows_of (lines_of rows) ≡ rows
+pub read-back : (rows : List Row) → All IsPlain rows → strip_bom (lines_of rows) ≡ lines_of rows
+    → rows_of (lines_of rows) ≡ rows
 read-back rows p b = rw b (lines-back rows p)

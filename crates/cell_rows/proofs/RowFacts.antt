@@ -1,11 +1,13 @@
 -- The records that a text has, one record at a time.
-use Rattle.std.proofs.Common.{◌≡◌, ◌≢◌, ◌⊎◌, inl, inr, ◌<◌, ◌+◌, ◌∙◌, ℕ, zero, suc, List, [], ◌∷◌, ◌++◌, length, Option, Some, None, Bool, true, false, refl, sym, ap, subst, arith, add-one}
+use Rattle.std.proofs.Common.{◌≡◌, ◌≢◌, ◌⊎◌, inl, inr, ◌<◌, ◌+◌, ◌∙◌, ℕ, zero, suc, List, [], ◌∷◌, ◌++◌, length, Option}
+use Rattle.std.proofs.Common.{Some, None, Bool, true, false, refl, sym, ap, subst, arith, add-one}
 use Rattle.std.proofs.lemmas.Bool.{cases_Bool}
 use Rattle.std.specs.Prelude.{option_map, ◌==◌}
 use Rattle.std.proofs.lemmas.Bool.Decides.{nat_tests}
 use Rattle.csv.specs.Records.{field_at}
 use Rattle.csv.specs.Machine.{Read, ends_at_end, fields_after, is_end, next_record, step}
-use Rattle.csv.specs.Reading.{NextIs, ReadRecord, ReadsNext, default_config, pending_of, records_from, records_next, source_of, strip_bom}
+use Rattle.csv.specs.Reading.{NextIs, ReadRecord, ReadsNext, default_config, pending_of, records_from, records_next}
+use Rattle.csv.specs.Reading.{source_of, strip_bom}
 use Rattle.csv.specs.declared.parser.Config.{Config}
 use Rattle.csv.specs.declared.parser.State.{State}
 use Rattle.csv.specs.declared.parser.State.TheVariants as st
@@ -40,14 +42,16 @@ ended cfg zero = refl
 ended cfg (suc n) = refl
 
 -- how many records are asked for makes no difference, where there are bytes for no more
-pub enough : (cfg : Config) (n m : ℕ) (s : State) (xs : List ℕ) → length xs < n → length xs < m → records_from cfg n s xs ≡ records_from cfg m s xs
+pub enough : (cfg : Config) (n m : ℕ) (s : State) (xs : List ℕ) → length xs < n → length xs < m
+    → records_from cfg n s xs ≡ records_from cfg m s xs
 unfolding records_from
 enough cfg zero m s xs a b = absurd (omega arith)
 enough cfg (suc n) zero s xs a b = absurd (omega arith)
 enough cfg (suc n) (suc m) s xs a b = by (next_record cfg s [] [] xs) refl (λ t ys x y. enough cfg n m t ys x y)
   where
     by : (o : Option Read) → next_record cfg s [] [] xs ≡ o
-        → ((t : State) (ys : List ℕ) → length ys < n → length ys < m → records_from cfg n t ys ≡ records_from cfg m t ys)
+        → ((t : State) (ys : List ℕ) → length ys < n → length ys < m
+        → records_from cfg n t ys ≡ records_from cfg m t ys)
         → records_next (records_from cfg n) o ≡ records_next (records_from cfg m) o
     by None e more = refl
     by (Some p) e more = elim (shrinks cfg s [] [] xs p e) [
@@ -60,20 +64,24 @@ pub rows-none : (s : State) (xs : List ℕ) → next_record default_config s [] 
 unfolding records_from
 rows-none s xs e = rw (add-one, e) refl
 
-pub rows-some : (s : State) (xs : List ℕ) (p : Read) → next_record default_config s [] [] xs ≡ Some p → rows_from s xs ≡ p.0 ∷ rows_from p.1 p.2
+pub rows-some : (s : State) (xs : List ℕ) (p : Read) → next_record default_config s [] [] xs ≡ Some p
+    → rows_from s xs ≡ p.0 ∷ rows_from p.1 p.2
 unfolding records_from
 rows-some s xs p e = rw (add-one (length xs), e) (elim (shrinks default_config s [] [] xs p e) [
-  | inl less ↦ ap (λ (t : List Row). p.0 ∷ t) (enough default_config (length xs) (length p.2 + 1) p.1 p.2 less (omega arith))
+  | inl less ↦ ap (λ (t : List Row). p.0 ∷ t) (enough default_config (length xs) (length p.2 + 1) p.1 p.2 less
+      (omega arith))
   | inr last ↦ rw (last.0, last.1, ended default_config (length xs), ended default_config 1) refl
 ])
 
 -- what csv says of a read, in records
 reads : (s : State) (xs : List ℕ) (after : Option (List ℕ)) (found : Bool) (row : List (List ℕ)) (t : State)
-    → ReadsNext default_config s (Some xs) after found row t → Takes (rows_from s xs) (option_map (rows_from t) after) row found
+    → ReadsNext default_config s (Some xs) after found row t
+    → Takes (rows_from s xs) (option_map (rows_from t) after) row found
 reads s xs None found row t h = absurd h
 reads s xs (Some ys) found row t h = by (next_record default_config s [] [] xs) refl found h
   where
-    by : (o : Option Read) → next_record default_config s [] [] xs ≡ o → (b : Bool) → NextIs o b row t ys → Takes (rows_from s xs) (Some (rows_from t ys)) row b
+    by : (o : Option Read) → next_record default_config s [] [] xs ≡ o → (b : Bool) → NextIs o b row t ys
+        → Takes (rows_from s xs) (Some (rows_from t ys)) row b
     by None e true n = cc n
     by None e false n = rows-none s xs e
     by (Some p) e true n = rows-some s xs p e ∙ rw (n.1, n.2, n.3) refl
@@ -82,19 +90,25 @@ reads s xs (Some ys) found row t h = by (next_record default_config s [] [] xs) 
 takes-none : (new : Option (List Row)) (row : Row) (found : Bool) → TakesRow None new row found
 takes-none new row found = tt
 
-pub takes : {R : Type 0} (rem : R → Option (List ℕ)) (a b : Reader R) (found : Bool) (row : List (List ℕ)) → a.config ≡ default_config → ReadRecord rem a b found row
-    → TakesRow (option_map (rows_from a.state) (source_of rem a)) (option_map (rows_from b.state) (source_of rem b)) row found
-takes rem a b found row config r = rw r.1 (by (source_of rem a) (pending_of (rem b.rdr) b) (step (source_of rem a) (pending_of (rem b.rdr) b) r.0))
+pub takes : {R : Type 0} (rem : R → Option (List ℕ)) (a b : Reader R) (found : Bool) (row : List (List ℕ))
+    → a.config ≡ default_config → ReadRecord rem a b found row
+    → TakesRow (option_map (rows_from a.state) (source_of rem a)) (option_map (rows_from b.state) (source_of rem b)) row
+    found
+takes rem a b found row config r = rw r.1
+    (by (source_of rem a) (pending_of (rem b.rdr) b) (step (source_of rem a) (pending_of (rem b.rdr) b) r.0))
   where
-    step : (x y : Option (List ℕ)) → ReadsNext a.config a.state x y found row b.state → ReadsNext default_config a.state x y found row b.state
+    step : (x y : Option (List ℕ)) → ReadsNext a.config a.state x y found row b.state
+        → ReadsNext default_config a.state x y found row b.state
     step x y h = subst (λ (k : Config). ReadsNext k a.state x y found row b.state) config h
 
-    by : (x y : Option (List ℕ)) → ReadsNext default_config a.state x y found row b.state → TakesRow (option_map (rows_from a.state) x) (option_map (rows_from b.state) y) row found
+    by : (x y : Option (List ℕ)) → ReadsNext default_config a.state x y found row b.state
+        → TakesRow (option_map (rows_from a.state) x) (option_map (rows_from b.state) y) row found
     by None y h = tt
     by (Some xs) y h = reads a.state xs y found row b.state h
 
 -- a record of four fields, field by field
-pub four-fields : (fs : List (List ℕ)) (a b c d : List ℕ) → length fs ≡ 4 → field_at fs 0 ≡ Some a → field_at fs 1 ≡ Some b → field_at fs 2 ≡ Some c → field_at fs 3 ≡ Some d
+pub four-fields : (fs : List (List ℕ)) (a b c d : List ℕ) → length fs ≡ 4 → field_at fs 0 ≡ Some a
+    → field_at fs 1 ≡ Some b → field_at fs 2 ≡ Some c → field_at fs 3 ≡ Some d
     → fs ≡ a ∷ b ∷ c ∷ d ∷ []
 unfolding field_at
 four-fields [] a b c d n p q r s = absurd (omega arith)
@@ -124,13 +138,15 @@ pub unmarked : (c : ℕ) (xs : List ℕ) → c ≢ 0xEF → rows_of (c ∷ xs) �
 unmarked c xs h = rw (no_mark c xs h) refl
 
 -- a line feed before a text gives no record, and no byte order mark is taken off after it
-skip_feed : (xs : List ℕ) → next_record default_config st.StartRecord [] [] (10 ∷ xs) ≡ next_record default_config st.StartRecord [] [] xs
+skip_feed : (xs : List ℕ) → next_record default_config st.StartRecord [] [] (10 ∷ xs) ≡ next_record default_config
+    st.StartRecord [] [] xs
 unfolding next_record
 skip_feed xs = refl
 
 pub after_feed : (xs : List ℕ) → rows_of (10 ∷ xs) ≡ rows_from st.StartRecord xs
 after_feed xs = unmarked 10 xs (λ e. cc e) ∙ by (next_record default_config st.StartRecord [] [] xs) refl
   where
-    by : (o : Option Read) → next_record default_config st.StartRecord [] [] xs ≡ o → rows_from st.StartRecord (10 ∷ xs) ≡ rows_from st.StartRecord xs
+    by : (o : Option Read) → next_record default_config st.StartRecord [] [] xs ≡ o
+        → rows_from st.StartRecord (10 ∷ xs) ≡ rows_from st.StartRecord xs
     by None e = rows-none st.StartRecord (10 ∷ xs) (skip_feed xs ∙ e) ∙ sym (rows-none st.StartRecord xs e)
     by (Some p) e = rows-some st.StartRecord (10 ∷ xs) p (skip_feed xs ∙ e) ∙ sym (rows-some st.StartRecord xs p e)

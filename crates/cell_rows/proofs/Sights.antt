@@ -1,5 +1,6 @@
 -- The bytes in sight after a read
-use Rattle.std.proofs.Common.{◌≡◌, ◌≤◌, ◌+◌, ◌-◌, ◌∙◌, ℕ, List, [], ◌++◌, length, take, drop, min, Option, Some, None, Result, sym, ap, refl, arith, append_assoc}
+use Rattle.std.proofs.Common.{◌≡◌, ◌≤◌, ◌+◌, ◌-◌, ◌∙◌, ℕ, List, [], ◌++◌, length, take, drop, min, Option, Some, None}
+use Rattle.std.proofs.Common.{Result, sym, ap, refl, arith, append_assoc}
 use Rattle.std.specs.Prelude.{◌∷◌, option_map, slice_range}
 use Rattle.cell_rows.specs.Rows.{rows_of}
 use Rattle.cell_rows.specs.Sights.{FeedsTwice}
@@ -14,13 +15,15 @@ use borrow.Rule.Slice.PartMut.{post_of, put_mid}
 
 -- the bytes in sight were moved to the front, and n bytes were read behind them
 pub sight_after : (xs new : List ℕ) (at filled m n : ℕ) → at ≤ filled → filled ≤ length xs → n ≤ length new
-    → slice_range (put_mid (filled - at) m (copy_within xs at filled 0) new) 0 (filled - at + n) ≡ slice_range xs at filled ++ take n new
+    → slice_range (put_mid (filled - at) m (copy_within xs at filled 0) new) 0 (filled - at + n)
+    ≡ slice_range xs at filled ++ take n new
 sight_after xs new at filled m n low high few =
     let front = slice_range xs at filled in
     let moved = copy_within xs at filled 0 in
     let post = post_of (filled - at) m moved in
     let len : length front ≡ filled - at = length-between xs at filled high in
-    let first : take (filled - at) moved ≡ front = ap (λ (k : ℕ). take k moved) (sym len) ∙ take-append_seam front (drop (0 + (filled - at)) xs) in
+    let first : take (filled - at) moved ≡ front = ap (λ (k : ℕ). take k moved) (sym len)
+    ∙ take-append_seam front (drop (0 + (filled - at)) xs) in
     between_from_start (put_mid (filled - at) m moved new) (filled - at + n)
     ∙ ap (λ (l : List ℕ). take (filled - at + n) (l ++ (new ++ post))) first
     ∙ ap (λ (k : ℕ). take (k + n) (front ++ (new ++ post))) (sym len)
@@ -28,7 +31,8 @@ sight_after xs new at filled m n low high few =
     ∙ ap (λ (l : List ℕ). front ++ l) (take-append-le n new post few)
 
 -- what was read is left, before what the reader has left
-pub read_on : (before after : Option (List ℕ)) (xs ys zs : List ℕ) → Consumes before after ys → zs ≡ xs ++ ys → Keeps (prepend_known xs before) (prepend_known zs after)
+pub read_on : (before after : Option (List ℕ)) (xs ys zs : List ℕ) → Consumes before after ys → zs ≡ xs ++ ys
+    → Keeps (prepend_known xs before) (prepend_known zs after)
 read_on None after xs ys zs h e = tt
 read_on (Some bs) None xs ys zs h e = h
 read_on (Some bs) (Some cs) xs ys zs h e = rw (e, h) (append_assoc xs ys cs)
@@ -38,12 +42,14 @@ prepend_nothing None = refl
 prepend_nothing (Some xs) = refl
 
 -- a read with no byte in sight is the reader's
-pub read_through : {E : Type 0} (before after : Option (List ℕ)) (xs : List ℕ) (r : Result ℕ E) (buf : List ℕ) → xs ≡ [] → ReadConsumes before after r buf
+pub read_through : {E : Type 0} (before after : Option (List ℕ)) (xs : List ℕ) (r : Result ℕ E) (buf : List ℕ) → xs ≡ []
+    → ReadConsumes before after r buf
     → ReadConsumes (prepend_known xs before) (prepend_known xs after) r buf
 read_through before after xs r buf none h = rw (none, prepend_nothing before, prepend_nothing after) h
 
 -- a part of the bytes in sight is handed out
-pub handed_out : (known : Option (List ℕ)) (xs ys zs : List ℕ) → xs ≡ ys ++ zs → Consumes (prepend_known xs known) (prepend_known zs known) ys
+pub handed_out : (known : Option (List ℕ)) (xs ys zs : List ℕ) → xs ≡ ys ++ zs
+    → Consumes (prepend_known xs known) (prepend_known zs known) ys
 handed_out None xs ys zs e = tt
 handed_out (Some bs) xs ys zs e = rw e (append_assoc ys zs bs)
 
@@ -51,11 +57,13 @@ handed_out (Some bs) xs ys zs e = rw e (append_assoc ys zs bs)
 pub none_in_sight : (xs : List ℕ) (at filled : ℕ) → min filled (length xs) ≤ at → slice_range xs at filled ≡ []
 none_in_sight xs at filled h =
     let none : min (filled - at) (length xs - at) ≡ 0 = omega arith in
-    nil_from_length (slice_range xs at filled) (length-take (filled - at) (drop at xs) ∙ ap (λ (n : ℕ). min (filled - at) n) (length-drop at xs) ∙ none)
+    nil_from_length (slice_range xs at filled) (length-take (filled - at) (drop at xs)
+    ∙ ap (λ (n : ℕ). min (filled - at) n) (length-drop at xs) ∙ none)
 
 -- a blank line is passed over
 pub blank_passed : (known : Option (List ℕ)) (xs : List ℕ) (at filled : ℕ) → FeedsTwice xs at filled
-    → option_map rows_of (prepend_known (slice_range xs (at + 1) filled) known) ≡ option_map rows_of (prepend_known (slice_range xs at filled) known)
+    → option_map rows_of (prepend_known (slice_range xs (at + 1) filled) known)
+    ≡ option_map rows_of (prepend_known (slice_range xs at filled) known)
 blank_passed None xs at filled feeds = refl
 blank_passed (Some bs) xs at filled (more, first, second) =
     let rest = slice_range xs (at + 2) filled ++ bs in

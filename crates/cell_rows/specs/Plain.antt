@@ -34,7 +34,8 @@ pub record IsLineAt (text : List ℕ) (start to : ℕ) (p : Places) : Type 0 whe
 -- a field begins at `from` that has more bytes than one of a record that fits, none of which needs quotes
 abbrev pub BeginsLong : List ℕ → ℕ → ℕ → Type 0
 BeginsLong text from to =
-    (at : ℕ) × (needs_quotes default_writer (slice_range text from at) ≡ false) × (longest_field < length (slice_range text from at))
+    (at : ℕ) × (needs_quotes default_writer (slice_range text from at) ≡ false)
+    × (longest_field < length (slice_range text from at))
     × (slice_range text from to ≡ slice_range text from at ++ slice_range text at to)
 
 -- the plain field that begins at `from` ends at a comma
@@ -52,11 +53,13 @@ IsUnfitAt text at to = (tail : List ℕ) → BeginsUnfit (rows_of (slice_range t
 -- the next record of the text from `at` to `to`, whatever comes after it, begins a line at `start`
 pub record BeginsLine (text : List ℕ) (at to start : ℕ) : Type 0 where
   pub before : start ≤ to
-  pub same : (tail : List ℕ) → rows_of (slice_range text at to ++ tail) ≡ rows_from st.StartRecord (slice_range text start to ++ tail)
+  pub same : (tail : List ℕ) → rows_of (slice_range text at to ++ tail)
+      ≡ rows_from st.StartRecord (slice_range text start to ++ tail)
 
--- the next record of the text from `at` to `to`, whatever comes after it, stands at these places; the rest begins with its
--- line feed, which gives no record
+-- the next record of the text from `at` to `to`, whatever comes after it, stands at these places; the rest begins with
+-- its line feed, which gives no record
 pub record TakesLine (text : List ℕ) (at to : ℕ) (p : Places) : Type 0 where
   pub before : p.fourth < to
   pub fits : Fits (row_at text p)
-  pub takes : (tail : List ℕ) → rows_of (slice_range text at to ++ tail) ≡ row_at text p ∷ rows_of (slice_range text p.fourth to ++ tail)
+  pub takes : (tail : List ℕ) → rows_of (slice_range text at to ++ tail) ≡ row_at text p
+      ∷ rows_of (slice_range text p.fourth to ++ tail)

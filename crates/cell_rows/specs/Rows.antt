@@ -1,6 +1,7 @@
 -- The records that a reader of records has left, and the one that it read last
 use Rattle.std.specs.Prelude.{◌≡◌, Bool, true, false, ℕ, List, [], ◌∷◌, Option, Some, None, option_map, ⊤}
-use Rattle.csv.specs.Reading.{Ready, default_config, is_flexible, reader_config, reader_source, reader_state, reader_trim, source_of}
+use Rattle.csv.specs.Reading.{Ready, default_config, is_flexible, reader_config, reader_source, reader_state}
+use Rattle.csv.specs.Reading.{reader_trim, source_of}
 use Rattle.csv.specs.Records.{fields_of}
 use Rattle.csv.specs.declared.reader.Trim.TheVariants as trim
 use Rattle.cell_rows.specs.declared.rows.RowReader.{RowReader}
@@ -38,7 +39,8 @@ device_failed failed r = failed_in failed r.source
 
 abbrev pub open_in : {R : Type 0} → Source R → Type 0
 open_in (Plain ahead) = InSight ahead
-open_in (Csv reader) = (reader_trim reader ≡ trim.None) × Ready reader × (reader_config reader ≡ default_config) × (is_flexible reader ≡ true)
+open_in (Csv reader) = (reader_trim reader ≡ trim.None) × Ready reader × (reader_config reader ≡ default_config)
+    × (is_flexible reader ≡ true)
 open_in Moved = ⊥
 
 abbrev pub is_csv : {R : Type 0} → Source R → Bool

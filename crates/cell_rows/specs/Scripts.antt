@@ -1,5 +1,6 @@
 -- Scripts: texts each of whose records is a line, and what the answer of their reader says
-use Rattle.std.specs.Prelude.{◌≡◌, ◌≤◌, ◌+◌, ℕ, List, [], ◌∷◌, ◌++◌, length, nat_lt, Option, Some, None, IsSome, Result, Ok, Err, ⊤, if◌then◌else◌}
+use Rattle.std.specs.Prelude.{◌≡◌, ◌≤◌, ◌+◌, ℕ, List, [], ◌∷◌, ◌++◌, length, nat_lt, Option, Some, None, IsSome, Result}
+use Rattle.std.specs.Prelude.{Ok, Err, ⊤, if◌then◌else◌}
 use Rattle.cell_rows.specs.Texts.{Row}
 use Rattle.cell_rows.specs.Fitting.{Fits}
 use Rattle.cell_rows.specs.declared.script.LineError.{LineError}
@@ -16,7 +17,8 @@ line_of_row read before _ = None
 
 -- the fields that write a line are short
 abbrev pub FitLines : {L : Type 0} → Reading L → Type 0
-FitLines {L} read = (before : List L) (first second third fourth : List ℕ) → IsSome (read before first second third fourth) → Fits (first ∷ second ∷ third ∷ fourth ∷ [])
+FitLines {L} read = (before : List L) (first second third fourth : List ℕ)
+    → IsSome (read before first second third fourth) → Fits (first ∷ second ∷ third ∷ fourth ∷ [])
 
 -- the most lines that a script may have
 abbrev pub max_lines : ℕ
@@ -31,7 +33,8 @@ with_line place (Some line) more = more line
 unfoldable pub lines_after : {L : Type 0} → Reading L → List L → List Row → Result (List L) LineError
 lines_after read lines [] = Ok lines
 lines_after read lines (row ∷ rest) =
-    if nat_lt (length lines) max_lines then with_line (length lines + 1) (line_of_row read lines row) (λ line. lines_after read (lines ++ line ∷ []) rest)
+    if nat_lt (length lines) max_lines then with_line (length lines + 1) (line_of_row read lines row)
+    (λ line. lines_after read (lines ++ line ∷ []) rest)
     else Err error.TooManyLines
 
 -- the lines of a text's records, or the first fault
@@ -48,13 +51,15 @@ Gives (Err error.OutOfMemory) due = ⊤
 -- each of these records, read after the lines that come before it, is the next of these lines
 abbrev pub AreLines : {L : Type 0} → Reading L → List L → List Row → List L → Type 0
 AreLines read before [] [] = ⊤
-AreLines read before (row ∷ rows) (line ∷ lines) = (line_of_row read before row ≡ Some line) × AreLines read (before ++ line ∷ []) rows lines
+AreLines read before (row ∷ rows) (line ∷ lines) = (line_of_row read before row ≡ Some line)
+    × AreLines read (before ++ line ∷ []) rows lines
 AreLines read before _ _ = ⊥
 
 -- the record at a place, counted from 1 and at most 1,000, is no line, and those before it are lines
 abbrev pub StopsUnread : {L : Type 0} → Reading L → List Row → ℕ → Type 0
 StopsUnread {L} read rows place = (before : List Row) × (row : Row) × (rest : List Row) × (lines : List L)
-    × (rows ≡ before ++ row ∷ rest) × AreLines read [] before lines × (line_of_row read lines row ≡ None) × (length lines + 1 ≡ place) × (place ≤ max_lines)
+    × (rows ≡ before ++ row ∷ rest) × AreLines read [] before lines × (line_of_row read lines row ≡ None)
+    × (length lines + 1 ≡ place) × (place ≤ max_lines)
 
 -- 1,000 records are lines, and one more follows
 abbrev pub HasMore : {L : Type 0} → Reading L → List Row → Type 0

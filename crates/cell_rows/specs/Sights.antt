@@ -29,4 +29,5 @@ KeepsRows (Some xs) (Some ys) = ys ≡ xs
 
 -- two line feeds come next
 abbrev pub FeedsTwice : List ℕ → ℕ → ℕ → Type 0
-FeedsTwice text at to = (at + 1 < to) × (slice_range text at to ≡ 10 ∷ slice_range text (at + 1) to) × (slice_range text (at + 1) to ≡ 10 ∷ slice_range text (at + 2) to)
+FeedsTwice text at to = (at + 1 < to) × (slice_range text at to ≡ 10 ∷ slice_range text (at + 1) to)
+    × (slice_range text (at + 1) to ≡ 10 ∷ slice_range text (at + 2) to)

@@ -1,5 +1,6 @@
 //! A reader whose next bytes are in sight, so that plain lines are taken straight from them.
-ghost use Rattle.std.specs.Prelude.{◌≡◌, ◌≤◌, length, true, false, IfOk, IfSome, IsErr, IsErrOf, OnOk, ◌∷◌, [], slice_range};
+ghost use Rattle.std.specs.Prelude.{◌≡◌, ◌≤◌, length, true, false, IfOk, IfSome, IsErr, IsErrOf, OnOk, ◌∷◌, []};
+ghost use Rattle.std.specs.Prelude.{slice_range};
 ghost use Rattle.std.specs.Io.KnownBytes.{Keeps, ReadConsumes};
 ghost use Rattle.std.specs.Io.{ReadsAtMost};
 ghost use Rattle.cell_rows.specs.Rows.{TakesRow};
@@ -83,7 +84,8 @@ impl<R: TellsFault> ReadAhead<R> {
     fn take_line(&mut self) -> Result<(), Stop>
         requires { InSight self.old }
         ensures sight { InSight self.new }
-        ensures takes { OnOk result (TakesRow (rows_ahead R.remaining self.old) (rows_ahead R.remaining self.new) (plain_row self.new) true) }
+        ensures takes { OnOk result (TakesRow (rows_ahead R.remaining self.old) (rows_ahead R.remaining self.new)
+            (plain_row self.new) true) }
         ensures fits { OnOk result (Fits (plain_row self.new)) }
         ensures kept { IsErr result → self.new ≡ self.old }
         ensures unfit { IsErrOf result Stop.Unfit → IfSome (rows_ahead R.remaining self.old) BeginsUnfit }
@@ -109,15 +111,17 @@ impl<R: TellsFault> ReadAhead<R> {
         Ok(count > 0)
     }
 
-    /// Takes the next line, if it is plain, over as many reads as it takes. It reads no more of a line that is plain so far
-    /// and none of a record that fits.
+    /// Takes the next line, if it is plain, over as many reads as it takes. It reads no more of a line that is plain so
+    /// far and none of a record that fits.
     #[inline(always)]
     pub(crate) fn advance(&mut self) -> Result<bool, RowError>
         requires { InSight self.old }
         ensures sight { OnOk result (InSight self.new) }
-        ensures takes { IfOk result (λ found. found ≡ true → TakesRow (rows_ahead R.remaining self.old) (rows_ahead R.remaining self.new) (plain_row self.new) true) }
+        ensures takes { IfOk result (λ found. found ≡ true
+            → TakesRow (rows_ahead R.remaining self.old) (rows_ahead R.remaining self.new) (plain_row self.new) true) }
         ensures fits { IfOk result (λ found. found ≡ true → Fits (plain_row self.new)) }
-        ensures kept { IfOk result (λ found. found ≡ false → KeepsRows (rows_ahead R.remaining self.old) (rows_ahead R.remaining self.new)) }
+        ensures kept { IfOk result (λ found. found ≡ false
+            → KeepsRows (rows_ahead R.remaining self.old) (rows_ahead R.remaining self.new)) }
         ensures unfit { IsErrOf result RowError.Unfit → IfSome (rows_ahead R.remaining self.old) BeginsUnfit }
         ensures fault { IsErrOf result RowError.ReadFault → R.failed self.new.source ≡ true }
     {
@@ -140,7 +144,8 @@ impl<R: TellsFault> ReadAhead<R> {
     /// The fields of the line that was taken last.
     #[inline(always)]
     pub(crate) fn four(&self) -> Four<'_>
-        ensures { plain_row self.now ≡ result.first.now ∷ result.second.now ∷ result.third.now ∷ result.fourth.now ∷ [] }
+        ensures { plain_row self.now ≡ result.first.now ∷ result.second.now ∷ result.third.now ∷ result.fourth.now
+            ∷ [] }
     {
         let Places {
             start,
@@ -165,7 +170,8 @@ impl<R: TellsFault> Read for ReadAhead<R> {
 
     fn read(&mut self, buf: &mut [u8]) -> io::Result<usize>
         ensures bound { ReadsAtMost result buf.new }
-        ensures bytes { ReadConsumes (bytes_left R.remaining self.old) (bytes_left R.remaining self.new) result buf.new }
+        ensures bytes { ReadConsumes (bytes_left R.remaining self.old) (bytes_left R.remaining self.new) result
+            buf.new }
     {
         let filled = self.filled.min(SIZE);
         if self.at >= filled {

@@ -9,7 +9,8 @@ use crate::rows::RowReader;
 /// Records of several fields that need no quotes are read back from their lines, unless these begin with a byte order
 /// mark.
 pub fn plain_lines_are_read_back()
-    ensures { (rows : List Row) → All IsPlain rows → strip_bom (lines_of rows) ≡ lines_of rows → rows_of (lines_of rows) ≡ rows }
+    ensures { (rows : List Row) → All IsPlain rows → strip_bom (lines_of rows) ≡ lines_of rows
+        → rows_of (lines_of rows) ≡ rows }
 {}
 
 /// A text in memory can always be read: no read of it fails.

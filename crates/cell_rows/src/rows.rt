@@ -1,7 +1,9 @@
 //! The records of a reader's text.
-ghost use Rattle.std.specs.Prelude.{◌≡◌, ◌<◌, Some, ◌≢◌, ◌∷◌, [], true, false, length, Err, IfOk, IfSome, IsErrOf, IsNone, OnOk, option_map};
+ghost use Rattle.std.specs.Prelude.{◌≡◌, ◌<◌, Some, ◌≢◌, ◌∷◌, [], true, false, length, Err, IfOk, IfSome, IsErrOf};
+ghost use Rattle.std.specs.Prelude.{IsNone, OnOk, option_map};
 ghost use Rattle.csv.specs.Records.{field_at, fields_of};
-ghost use Rattle.cell_rows.specs.Rows.{IsOpen, TakesRow, current_row, device_failed, failed_in, is_csv, open_in, rows_in, rows_left, rows_of};
+ghost use Rattle.cell_rows.specs.Rows.{IsOpen, TakesRow, current_row, device_failed, failed_in, is_csv, open_in};
+ghost use Rattle.cell_rows.specs.Rows.{rows_in, rows_left, rows_of};
 ghost use Rattle.cell_rows.specs.Fitting.{BeginsUnfit, Fits};
 ghost use Rattle.cell_rows.specs.Sights.{bytes_left};
 ghost use Rattle.cell_rows.specs.declared.rows.Source.TheVariants as Source;
@@ -45,9 +47,9 @@ enum Source<R> {
 
 /// The records of a reader's text, with the one that was read last.
 ///
-/// Lines of four plain fields are taken straight from the bytes, which is what csv reads there. From the first line on that
-/// has a quote, a carriage return or fewer fields, csv reads all that is left, and all of a text that begins with a byte
-/// order mark.
+/// Lines of four plain fields are taken straight from the bytes, which is what csv reads there. From the first line on
+/// that has a quote, a carriage return or fewer fields, csv reads all that is left, and all of a text that begins with
+/// a byte order mark.
 #[derive(Drop)]
 pub struct RowReader<R> {
     alloc: Global,
@@ -74,7 +76,8 @@ fn read_next<R: TellsFault>(
 ) -> Result<bool, RowError>
     requires { open_in (Source.Csv reader.old) }
     ensures open { OnOk result (open_in (Source.Csv reader.new)) }
-    ensures takes { IfOk result (TakesRow (rows_in R.remaining (Source.Csv reader.old)) (rows_in R.remaining (Source.Csv reader.new)) (fields_of row.new)) }
+    ensures takes { IfOk result (TakesRow (rows_in R.remaining (Source.Csv reader.old))
+        (rows_in R.remaining (Source.Csv reader.new)) (fields_of row.new)) }
     ensures fault { IsErrOf result RowError.ReadFault → failed_in R.failed (Source.Csv reader.new) ≡ true }
     ensures fits { result ≢ Err RowError.Unfit }
 {
@@ -150,7 +153,8 @@ impl<R: TellsFault> RowReader<R> {
         requires open { IsOpen self.old }
         requires csv { is_csv self.old.source ≡ true }
         ensures open { OnOk result (IsOpen self.new) }
-        ensures takes { IfOk result (TakesRow (rows_left R.remaining self.old) (rows_left R.remaining self.new) (current_row self.new)) }
+        ensures takes { IfOk result (TakesRow (rows_left R.remaining self.old) (rows_left R.remaining self.new)
+            (current_row self.new)) }
         ensures fault { IsErrOf result RowError.ReadFault → device_failed R.failed self.new ≡ true }
         ensures csv { is_csv self.new.source ≡ true }
         ensures fits { result ≢ Err RowError.Unfit }
@@ -163,17 +167,19 @@ impl<R: TellsFault> RowReader<R> {
 
     /// Reads the next record, and says whether there was one.
     ///
-    /// A line that is plain up to its fourth comma, or to the 21st byte of a field of it, is `Unfit`: no end of it is looked
-    /// for. After an error the reader may stand inside a record, and is open no more.
+    /// A line that is plain up to its fourth comma, or to the 21st byte of a field of it, is `Unfit`: no end of it is
+    /// looked for. After an error the reader may stand inside a record, and is open no more.
     #[inline(always)]
     pub fn advance(&mut self) -> Result<bool, RowError>
         requires { IsOpen self.old }
         ensures open { OnOk result (IsOpen self.new) }
-        ensures takes { IfOk result (TakesRow (rows_left R.remaining self.old) (rows_left R.remaining self.new) (current_row self.new)) }
+        ensures takes { IfOk result (TakesRow (rows_left R.remaining self.old) (rows_left R.remaining self.new)
+            (current_row self.new)) }
         // The next record, which there is, isn't one of four short fields.
         ensures unfit { IsErrOf result RowError.Unfit → IfSome (rows_left R.remaining self.old) BeginsUnfit }
         // As long as csv doesn't read, a record that comes is one of four short fields.
-        ensures fits { IfOk result (λ found. found ≡ true → is_csv self.new.source ≡ false → Fits (current_row self.new)) }
+        ensures fits { IfOk result (λ found. found ≡ true → is_csv self.new.source ≡ false
+            → Fits (current_row self.new)) }
         ensures fault { IsErrOf result RowError.ReadFault → device_failed R.failed self.new ≡ true }
     {
         if let Source::Plain(ahead) = &mut self.source {
@@ -189,7 +195,8 @@ impl<R: TellsFault> RowReader<R> {
     /// The fields of the record that was read last, if it has four.
     #[inline(always)]
     pub fn four(&self) -> Option<Four<'_>>
-        ensures some { IfSome result (λ four. current_row self.now ≡ four.first.now ∷ four.second.now ∷ four.third.now ∷ four.fourth.now ∷ []) }
+        ensures some { IfSome result (λ four. current_row self.now ≡ four.first.now ∷ four.second.now ∷ four.third.now
+            ∷ four.fourth.now ∷ []) }
         ensures none { IsNone result → length (current_row self.now) ≢ 4 }
     {
         match &self.source {
@@ -201,7 +208,8 @@ impl<R: TellsFault> RowReader<R> {
 
 // The fields of a record, if it has four.
 fn four_of(row: &ByteRecord) -> Option<Four<'_>>
-    ensures some { IfSome result (λ four. fields_of row.now ≡ four.first.now ∷ four.second.now ∷ four.third.now ∷ four.fourth.now ∷ []) }
+    ensures some { IfSome result (λ four. fields_of row.now ≡ four.first.now ∷ four.second.now ∷ four.third.now
+        ∷ four.fourth.now ∷ []) }
     ensures none { IsNone result → length (fields_of row.now) ≢ 4 }
 {
     if row.len() != 4 {

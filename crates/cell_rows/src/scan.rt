@@ -1,7 +1,9 @@
 //! Finding the four fields of a plain line.
-ghost use Rattle.std.specs.Prelude.{◌≡◌, ◌≢◌, ◌≤◌, ◌<◌, ◌+◌, ◌⊎◌, true, false, length, take, get_or, slice_range, Err, IfOk, IsErrOf};
+ghost use Rattle.std.specs.Prelude.{◌≡◌, ◌≢◌, ◌≤◌, ◌<◌, ◌+◌, ◌⊎◌, true, false, length, take, get_or, slice_range, Err};
+ghost use Rattle.std.specs.Prelude.{IfOk, IsErrOf};
 ghost use Rattle.csv.specs.Writing.{default_writer, needs_byte, needs_quotes};
-ghost use Rattle.cell_rows.specs.Plain.{BeginsLine, BeginsLong, EndsField, HasComma, IsLineAt, IsUnfitAt, IsUnfitLine, TakesLine};
+ghost use Rattle.cell_rows.specs.Plain.{BeginsLine, BeginsLong, EndsField, HasComma, IsLineAt, IsUnfitAt, IsUnfitLine};
+ghost use Rattle.cell_rows.specs.Plain.{TakesLine};
 
 use crate::places::Places;
 
@@ -62,8 +64,8 @@ fn plain_run(text: &[u8], from: usize, to: usize, roomy: bool) -> usize
     }
 }
 
-// Where the plain field that begins at a place ends. If it is known to have room for a field that is too long (`roomy`), no
-// end of what is in sight is looked for.
+// Where the plain field that begins at a place ends. If it is known to have room for a field that is too long
+// (`roomy`), no end of what is in sight is looked for.
 #[inline(always)]
 fn field_end(text: &[u8], from: usize, to: usize, roomy: bool) -> Result<usize, Stop>
     requires range { (from ≤ to) × (to ≤ length text.now) }
@@ -151,8 +153,8 @@ fn places_of(text: &[u8], start: usize, to: usize) -> Result<Places, Stop>
     }
 }
 
-// Where the next line begins: after the line feed that ended the last one, if there is one. A line that might begin with
-// a byte order mark is odd.
+// Where the next line begins: after the line feed that ended the last one, if there is one. A line that might begin
+// with a byte order mark is odd.
 #[inline(always)]
 fn line_start(text: &[u8], at: usize, to: usize) -> Result<usize, Stop>
     requires { (at ≤ to) × (to ≤ length text.now) }

@@ -32,7 +32,8 @@ pub trait ScriptLine: Sized {
 
     /// The line that these fields write after these lines; `None` where they write none.
     fn read_line(before: &[Self], fields: Four<'_>) -> Option<Self>
-        ensures { result ≡ line_of before.now fields.entry.first.now fields.entry.second.now fields.entry.third.now fields.entry.fourth.now };
+        ensures { result ≡ line_of before.now fields.entry.first.now fields.entry.second.now fields.entry.third.now
+            fields.entry.fourth.now };
 
     /// Fields that write a line are short: the contract is this law, and a body does nothing.
     fn lines_fit()

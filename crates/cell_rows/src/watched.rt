@@ -69,7 +69,8 @@ impl<R: Read> Read for Watched<R> {
 
     fn read(&mut self, buf: &mut [u8]) -> io::Result<usize>
         ensures bound { ReadsAtMost result buf.new }
-        ensures bytes { ReadConsumes (bytes_under R.remaining self.old) (bytes_under R.remaining self.new) result buf.new }
+        ensures bytes { ReadConsumes (bytes_under R.remaining self.old) (bytes_under R.remaining self.new) result
+            buf.new }
         // A failure is noted where an error is answered, and only there, and a note stays.
         ensures noted { read_failed self.new ≡ true → (read_failed self.old ≡ true) ⊎ IsErr result }
         ensures notes { IsErr result → read_failed self.new ≡ true }

@@ -1,5 +1,7 @@
 -- What the steps of a round lead to
-use Rattle.std.proofs.Common.{◌≡◌, ◌≢◌, ◌⊎◌, inl, inr, ℕ, ◌+◌, ◌<◌, List, [], ◌∷◌, ◌++◌, map, length, Bool, true, false, not, Option, Some, None, refl, sym, ap, subst, ◌∙◌, append_assoc, append-nil, arith, length-append, Result, Ok, Err, IfErr, option_to_list, eqb-true}
+use Rattle.std.proofs.Common.{◌≡◌, ◌≢◌, ◌⊎◌, inl, inr, ℕ, ◌+◌, ◌<◌, List, [], ◌∷◌, ◌++◌, map, length, Bool, true, false}
+use Rattle.std.proofs.Common.{not, Option, Some, None, refl, sym, ap, subst, ◌∙◌, append_assoc, append-nil, arith}
+use Rattle.std.proofs.Common.{length-append, Result, Ok, Err, IfErr, option_to_list, eqb-true}
 use Rattle.std.specs.Prelude.{if◌then◌else◌, nat_eq}
 use Rattle.std.specs.Result.{IsErrAnd}
 use Rattle.std.proofs.Math.Nat.{zero-add}
@@ -21,7 +23,8 @@ use Rattle.cell_turns.specs.Logs.{ActLog}
 use Rattle.cell_turns.specs.Minds.{Mind, first_mind}
 use Rattle.cell_turns.specs.Six.{at, each}
 use Rattle.cell_turns.specs.Schedules.{Now, now, Leads, FitAll, Led, Scheduled, Grown, entries_of, same_actor}
-use Rattle.cell_turns.specs.Schedules.Leads.{stays, turns as one_turn, refuses as one_refused, hands as one_hand, spares as one_spared, fails as one_failed}
+use Rattle.cell_turns.specs.Schedules.Leads.{stays, turns as one_turn, refuses as one_refused, hands as one_hand}
+use Rattle.cell_turns.specs.Schedules.Leads.{spares as one_spared, fails as one_failed}
 use Rattle.cell_turns.proofs.Joined.{leads_join, led_join}
 use Rattle.cell_workers.specs.Ends.{IsDone, is_idle}
 use Rattle.cell_workers.specs.declared.ends.End.{End}
@@ -29,7 +32,9 @@ use Rattle.cell_workers.specs.declared.ends.End.TheVariants as end
 use Rattle.operator_desk.specs.Next.{next_of, left_after, entry_of}
 use Rattle.operator_desk.specs.declared.action.Action.{Action}
 use Rattle.operator_desk.specs.declared.line.Line.{Line}
-use Rattle.cell_runs.specs.Rounds.{turn_of, turns_of, history, machines, round_steps, Place, place, Operates, Round, Rounds, Breaks, Stops, ComesToRest, EndsIn, Ends, Ended, Takes, TakesTurns, Reaches, start}
+use Rattle.cell_runs.specs.Rounds.{turn_of, turns_of, history, machines, round_steps, Place, place, Operates, Round}
+use Rattle.cell_runs.specs.Rounds.{Rounds, Breaks, Stops, ComesToRest, EndsIn, Ends, Ended, Takes, TakesTurns, Reaches}
+use Rattle.cell_runs.specs.Rounds.{start}
 use Rattle.cell_runs.specs.Rounds.Operates.{rests, waits, books, fails}
 use Rattle.cell_runs.specs.Rounds.Rounds.{none as no_round, more as one_more}
 
@@ -44,7 +49,8 @@ no_snoc : {A : Type 0} (xs : List A) (x : A) → xs ++ x ∷ [] ≡ [] → ⊥
 no_snoc [] x h = cc
 no_snoc (a ∷ xs) x h = cc
 
-leads_nowhere : (l : BookLimits) (p : Plan) (s t : Now) (zs : List Step) (r f : ℕ) → Leads l p s zs r f t → zs ≡ [] → s ≡ t
+leads_nowhere : (l : BookLimits) (p : Plan) (s t : Now) (zs : List Step) (r f : ℕ) → Leads l p s zs r f t → zs ≡ []
+    → s ≡ t
 leads_nowhere l p s _ _ _ _ stays h = refl
 leads_nowhere l p s t _ r f (one_turn {steps = ys} m x b d) h = absurd (no_snoc ys (Turn m x) h)
 leads_nowhere l p s t _ _ f (one_refused {steps = ys} m x why b d) h = absurd (no_snoc ys (Turn m x) h)
@@ -52,7 +58,8 @@ leads_nowhere l p s _ _ r f (one_hand {steps = ys} e b d) h = absurd (no_snoc ys
 leads_nowhere l p s t _ r f (one_spared {steps = ys} e b d) h = absurd (no_snoc ys (Hand e) h)
 leads_nowhere l p s t _ r _ (one_failed {steps = ys} e b d c) h = absurd (no_snoc ys (Hand e) h)
 
-none_refused : (l : BookLimits) (p : Plan) (s t : Now) (zs : List Step) (r f : ℕ) → Leads l p s zs r f t → zs ≡ [] → r ≡ 0
+none_refused : (l : BookLimits) (p : Plan) (s t : Now) (zs : List Step) (r f : ℕ) → Leads l p s zs r f t → zs ≡ []
+    → r ≡ 0
 none_refused l p s _ _ _ _ stays h = refl
 none_refused l p s t _ r f (one_turn {steps = ys} m x b d) h = absurd (no_snoc ys (Turn m x) h)
 none_refused l p s t _ _ f (one_refused {steps = ys} m x why b d) h = absurd (no_snoc ys (Turn m x) h)
@@ -64,19 +71,27 @@ none_refused l p s t _ r _ (one_failed {steps = ys} e b d c) h = absurd (no_snoc
 not_refused : (r : ℕ) → r ≡ 0 → 0 < r → ⊥
 not_refused r none some = omega (arith, none, some)
 
-refused_still : (l : BookLimits) (p : Plan) (s t : Now) (zs : List Step) (r f : ℕ) (x : Step) → Leads l p s zs r f t → zs ≡ x ∷ [] → 0 < r → s ≡ t
+refused_still : (l : BookLimits) (p : Plan) (s t : Now) (zs : List Step) (r f : ℕ) (x : Step) → Leads l p s zs r f t
+    → zs ≡ x ∷ [] → 0 < r → s ≡ t
 refused_still l p s _ _ _ _ x stays h some = refl
-refused_still l p s t _ r f x (one_turn {t = v} {steps = ys} m y b d) h some = absurd (not_refused r (none_refused l p s v ys r f b (one_of ys (Turn m y) x h).0) some)
-refused_still l p s t _ _ f x (one_refused {steps = ys} {refused = r} m y why b d) h some = leads_nowhere l p s t ys r f b (one_of ys (Turn m y) x h).0
-refused_still l p s _ _ r f x (one_hand {t = v} {steps = ys} e b d) h some = absurd (not_refused r (none_refused l p s v ys r f b (one_of ys (Hand e) x h).0) some)
-refused_still l p s t _ r f x (one_spared {steps = ys} e b d) h some = absurd (not_refused r (none_refused l p s t ys r f b (one_of ys (Hand e) x h).0) some)
-refused_still l p s t _ r _ x (one_failed {steps = ys} {failed = f} e b d c) h some = absurd (not_refused r (none_refused l p s t ys r f b (one_of ys (Hand e) x h).0) some)
+refused_still l p s t _ r f x (one_turn {t = v} {steps = ys} m y b d) h some =
+    absurd (not_refused r (none_refused l p s v ys r f b (one_of ys (Turn m y) x h).0) some)
+refused_still l p s t _ _ f x (one_refused {steps = ys} {refused = r} m y why b d) h some =
+    leads_nowhere l p s t ys r f b (one_of ys (Turn m y) x h).0
+refused_still l p s _ _ r f x (one_hand {t = v} {steps = ys} e b d) h some =
+    absurd (not_refused r (none_refused l p s v ys r f b (one_of ys (Hand e) x h).0) some)
+refused_still l p s t _ r f x (one_spared {steps = ys} e b d) h some =
+    absurd (not_refused r (none_refused l p s t ys r f b (one_of ys (Hand e) x h).0) some)
+refused_still l p s t _ r _ x (one_failed {steps = ys} {failed = f} e b d c) h some =
+    absurd (not_refused r (none_refused l p s t ys r f b (one_of ys (Hand e) x h).0) some)
 
-pub unchanged_if_refused : (p : Plan) (x : Step) (refused : ℕ) (a b : History) (ws ws' : Six Watch) (told : Bool) (acts acts' : ActLog) (minds : Six Mind)
+pub unchanged_if_refused : (p : Plan) (x : Step) (refused : ℕ) (a b : History) (ws ws' : Six Watch) (told : Bool)
+    (acts acts' : ActLog) (minds : Six Mind)
     → 0 < refused → Scheduled p (x ∷ []) refused a b ws ws' told acts acts' → FitAll ws minds → b.entries ≡ a.entries
 unchanged_if_refused p x refused a b ws ws' told acts acts' minds some s fits =
     let led = s.led minds fits in
-    ap (λ (u : Now). u.journal) (sym (refused_still a.limits p (now a.entries minds) (now b.entries led.minds) (x ∷ []) refused s.failed x led.leads refl some))
+    ap (λ (u : Now). u.journal) (sym (refused_still a.limits p (now a.entries minds) (now b.entries led.minds) (x ∷ [])
+    refused s.failed x led.leads refl some))
 
 -- memory that is refused at a first step leaves all as it was
 before_first : (x y : Step) (done left : List Step) → x ∷ [] ≡ done ++ y ∷ left → done ≡ []
@@ -84,17 +99,21 @@ before_first x y [] left h = refl
 before_first x y (z ∷ []) left h = cc
 before_first x y (z ∷ w ∷ done) left h = cc
 
-pub unchanged_if_stopped : (p : Plan) (x y : Step) (done left : List Step) (refused : ℕ) (a b : History) (ws ws' : Six Watch) (told : Bool) (acts acts' : ActLog) (minds : Six Mind)
-    → x ∷ [] ≡ done ++ y ∷ left → Scheduled p done refused a b ws ws' told acts acts' → FitAll ws minds → b.entries ≡ a.entries
+pub unchanged_if_stopped : (p : Plan) (x y : Step) (done left : List Step) (refused : ℕ) (a b : History)
+    (ws ws' : Six Watch) (told : Bool) (acts acts' : ActLog) (minds : Six Mind)
+    → x ∷ [] ≡ done ++ y ∷ left → Scheduled p done refused a b ws ws' told acts acts' → FitAll ws minds
+    → b.entries ≡ a.entries
 unchanged_if_stopped p x y done left refused a b ws ws' told acts acts' minds is s fits =
     let led = s.led minds fits in
-    ap (λ (u : Now). u.journal) (sym (leads_nowhere a.limits p (now a.entries minds) (now b.entries led.minds) done refused s.failed led.leads (before_first x y done left is)))
+    ap (λ (u : Now). u.journal) (sym (leads_nowhere a.limits p (now a.entries minds) (now b.entries led.minds) done
+    refused s.failed led.leads (before_first x y done left is)))
 
 -- one step by hand books that entry, which is the operator's, or nothing
 abbrev HandsOver : Now → Now → Entry → Type 0
 HandsOver s t e = ((t.journal ≡ s.journal ++ e ∷ []) × (actor_of e ≡ actor.Operator)) ⊎ (t.journal ≡ s.journal)
 
-by_hand : (l : BookLimits) (p : Plan) (s t : Now) (zs : List Step) (r f : ℕ) (e : Entry) → Leads l p s zs r f t → zs ≡ Hand e ∷ [] → HandsOver s t e
+by_hand : (l : BookLimits) (p : Plan) (s t : Now) (zs : List Step) (r f : ℕ) (e : Entry) → Leads l p s zs r f t
+    → zs ≡ Hand e ∷ [] → HandsOver s t e
 by_hand l p s _ _ _ _ e stays h = cc
 by_hand l p s t _ r f e (one_turn {steps = ys} m x b d) h = absurd (no_hand (one_of ys (Turn m x) (Hand e) h).1)
   where
@@ -108,51 +127,81 @@ by_hand l p s _ _ r f e (one_hand {t = v} {steps = ys} x b d) h =
     let one = one_of ys (Hand x) (Hand e) h in
     let is = same_entry one.1 in
     let from = leads_nowhere l p s v ys r f b one.0 in
-    inl (ap (λ (u : Now). u.journal ++ x ∷ []) (sym from) ∙ ap (λ (y : Entry). s.journal ++ y ∷ []) is, sym (ap actor_of is) ∙ d.actor)
+    inl (
+      ap (λ (u : Now). u.journal ++ x ∷ []) (sym from) ∙ ap (λ (y : Entry). s.journal ++ y ∷ []) is,
+      sym (ap actor_of is) ∙ d.actor,
+    )
   where
     same_entry : Hand x ≡ Hand e → x ≡ e
     same_entry q = cc
-by_hand l p s t _ r f e (one_spared {steps = ys} x b d) h = inr (ap (λ (u : Now). u.journal) (sym (leads_nowhere l p s t ys r f b (one_of ys (Hand x) (Hand e) h).0)))
-by_hand l p s t _ r _ e (one_failed {steps = ys} {failed = f} x b d c) h = inr (ap (λ (u : Now). u.journal) (sym (leads_nowhere l p s t ys r f b (one_of ys (Hand x) (Hand e) h).0)))
+by_hand l p s t _ r f e (one_spared {steps = ys} x b d) h =
+    inr (ap (λ (u : Now). u.journal) (sym (leads_nowhere l p s t ys r f b (one_of ys (Hand x) (Hand e) h).0)))
+by_hand l p s t _ r _ e (one_failed {steps = ys} {failed = f} x b d c) h =
+    inr (ap (λ (u : Now). u.journal) (sym (leads_nowhere l p s t ys r f b (one_of ys (Hand x) (Hand e) h).0)))
 
 -- one step books one entry at most
-pub one_booked : (l : BookLimits) (p : Plan) (s t : Now) (zs : List Step) (r f : ℕ) (x : Step) → Leads l p s zs r f t → zs ≡ x ∷ [] → (b : Option Entry) × (t.journal ≡ s.journal ++ option_to_list b)
+pub one_booked : (l : BookLimits) (p : Plan) (s t : Now) (zs : List Step) (r f : ℕ) (x : Step) → Leads l p s zs r f t
+    → zs ≡ x ∷ [] → (b : Option Entry) × (t.journal ≡ s.journal ++ option_to_list b)
 one_booked l p s _ _ _ _ x stays h = (None, sym (append-nil s.journal))
-one_booked l p s t _ r f x (one_turn {t = v} {steps = ys} m y b d) h =
-    (d.booked, d.journal ∙ ap (λ (u : Now). u.journal ++ option_to_list d.booked) (sym (leads_nowhere l p s v ys r f b (one_of ys (Turn m y) x h).0)))
-one_booked l p s t _ _ f x (one_refused {steps = ys} {refused = r} m y why b d) h =
-    (None, ap (λ (u : Now). u.journal) (sym (leads_nowhere l p s t ys r f b (one_of ys (Turn m y) x h).0)) ∙ sym (append-nil s.journal))
+one_booked l p s t _ r f x (one_turn {t = v} {steps = ys} m y b d) h = (
+  d.booked,
+  d.journal ∙ ap (λ (u : Now). u.journal ++ option_to_list d.booked)
+      (sym (leads_nowhere l p s v ys r f b (one_of ys (Turn m y) x h).0)),
+)
+one_booked l p s t _ _ f x (one_refused {steps = ys} {refused = r} m y why b d) h = (
+  None,
+  ap (λ (u : Now). u.journal) (sym (leads_nowhere l p s t ys r f b (one_of ys (Turn m y) x h).0))
+      ∙ sym (append-nil s.journal),
+)
 one_booked l p s _ _ r f x (one_hand {t = v} {steps = ys} e b d) h =
     (Some e, ap (λ (u : Now). u.journal ++ e ∷ []) (sym (leads_nowhere l p s v ys r f b (one_of ys (Hand e) x h).0)))
-one_booked l p s t _ r f x (one_spared {steps = ys} e b d) h =
-    (None, ap (λ (u : Now). u.journal) (sym (leads_nowhere l p s t ys r f b (one_of ys (Hand e) x h).0)) ∙ sym (append-nil s.journal))
-one_booked l p s t _ r _ x (one_failed {steps = ys} {failed = f} e b d c) h =
-    (None, ap (λ (u : Now). u.journal) (sym (leads_nowhere l p s t ys r f b (one_of ys (Hand e) x h).0)) ∙ sym (append-nil s.journal))
+one_booked l p s t _ r f x (one_spared {steps = ys} e b d) h = (
+  None,
+  ap (λ (u : Now). u.journal) (sym (leads_nowhere l p s t ys r f b (one_of ys (Hand e) x h).0))
+      ∙ sym (append-nil s.journal),
+)
+one_booked l p s t _ r _ x (one_failed {steps = ys} {failed = f} e b d c) h = (
+  None,
+  ap (λ (u : Now). u.journal) (sym (leads_nowhere l p s t ys r f b (one_of ys (Hand e) x h).0))
+      ∙ sym (append-nil s.journal),
+)
 
 own_entry : (e : Entry) → actor_of e ≡ actor.Operator → entries_of actor.Operator (e ∷ []) ≡ e ∷ []
 own_entry e h = ap (λ (a : Actor). if same_actor actor.Operator a then e ∷ [] else []) h
 
 -- whether the entry was booked is whether the operator's list has an entry
-pub booked_if : (J J' added his : List Entry) (e : Entry) (booked : Bool) → J' ≡ J ++ added → his ≡ entries_of actor.Operator added → (booked ≡ true → his ≢ []) → (booked ≡ false → his ≡ [])
+pub booked_if : (J J' added his : List Entry) (e : Entry) (booked : Bool) → J' ≡ J ++ added
+    → his ≡ entries_of actor.Operator added → (booked ≡ true → his ≢ []) → (booked ≡ false → his ≡ [])
     → ((J' ≡ J ++ e ∷ []) × (actor_of e ≡ actor.Operator)) ⊎ (J' ≡ J) → J' ≡ J ++ (if booked then e ∷ [] else [])
 booked_if J J' added his e true grew is some lacks (inl h) = h.0
 booked_if J J' added his e true grew is some lacks (inr h) =
-    absurd (some refl (is ∙ ap (entries_of actor.Operator) (append_cancel_left J added [] (sym grew ∙ h ∙ sym (append-nil J)))))
+    absurd (some refl (is ∙ ap (entries_of actor.Operator)
+    (append_cancel_left J added [] (sym grew ∙ h ∙ sym (append-nil J)))))
 booked_if J J' added his e false grew is some lacks (inl h) =
-    absurd (no_entry (sym (own_entry e h.1) ∙ ap (entries_of actor.Operator) (sym (append_cancel_left J added (e ∷ []) (sym grew ∙ h.0))) ∙ sym is ∙ lacks refl))
+    absurd (no_entry (sym (own_entry e h.1)
+    ∙ ap (entries_of actor.Operator) (sym (append_cancel_left J added (e ∷ []) (sym grew ∙ h.0))) ∙ sym is
+    ∙ lacks refl))
   where
     no_entry : e ∷ [] ≡ [] → ⊥
     no_entry q = cc
 booked_if J J' added his e false grew is some lacks (inr h) = h ∙ sym (append-nil J)
 
 -- a schedule without a refused turn
-pub takes_of : (p : Plan) (steps : List Step) (refused : ℕ) (a b : History) (ws ws' : Six Watch) (told : Bool) (acts acts' : ActLog) (minds : Six Mind)
-    → refused ≡ 0 → Scheduled p steps refused a b ws ws' told acts acts' → FitAll ws minds → Takes a.limits p steps (now a.entries minds) b.entries ws'
-takes_of p steps refused a b ws ws' told acts acts' minds zero_refused s fits = (s.failed, subst (λ (r : ℕ). Led a.limits p (now a.entries minds) steps r s.failed b.entries ws') zero_refused (s.led minds fits))
+pub takes_of : (p : Plan) (steps : List Step) (refused : ℕ) (a b : History) (ws ws' : Six Watch) (told : Bool)
+    (acts acts' : ActLog) (minds : Six Mind)
+    → refused ≡ 0 → Scheduled p steps refused a b ws ws' told acts acts' → FitAll ws minds
+    → Takes a.limits p steps (now a.entries minds) b.entries ws'
+takes_of p steps refused a b ws ws' told acts acts' minds zero_refused s fits = (
+  s.failed,
+  subst (λ (r : ℕ). Led a.limits p (now a.entries minds) steps r s.failed b.entries ws') zero_refused
+      (s.led minds fits),
+)
 
 -- a schedule of a first part of some steps
-pub breaks_of : (p : Plan) (steps done left : List Step) (refused : ℕ) (a b : History) (ws ws' : Six Watch) (told : Bool) (acts acts' : ActLog) (minds : Six Mind)
-    → steps ≡ done ++ left → Scheduled p done refused a b ws ws' told acts acts' → FitAll ws minds → Breaks a.limits p (map turn_of steps) (now a.entries minds) b.entries refused
+pub breaks_of : (p : Plan) (steps done left : List Step) (refused : ℕ) (a b : History) (ws ws' : Six Watch)
+    (told : Bool) (acts acts' : ActLog) (minds : Six Mind)
+    → steps ≡ done ++ left → Scheduled p done refused a b ws ws' told acts acts' → FitAll ws minds
+    → Breaks a.limits p (map turn_of steps) (now a.entries minds) b.entries refused
 breaks_of p steps done left refused a b ws ws' told acts acts' minds is s fits =
     let led = s.led minds fits in
     record {
@@ -164,8 +213,10 @@ breaks_of p steps done left refused a b ws ws' told acts acts' minds is s fits =
       leads = led.leads;
     }
 
-pub breaks_at_end : (p : Plan) (steps : List Step) (refused : ℕ) (a b : History) (ws ws' : Six Watch) (told : Bool) (acts acts' : ActLog) (minds : Six Mind)
-    → Scheduled p steps refused a b ws ws' told acts acts' → FitAll ws minds → Breaks a.limits p (map turn_of steps) (now a.entries minds) b.entries refused
+pub breaks_at_end : (p : Plan) (steps : List Step) (refused : ℕ) (a b : History) (ws ws' : Six Watch) (told : Bool)
+    (acts acts' : ActLog) (minds : Six Mind)
+    → Scheduled p steps refused a b ws ws' told acts acts' → FitAll ws minds
+    → Breaks a.limits p (map turn_of steps) (now a.entries minds) b.entries refused
 breaks_at_end p steps refused a b ws ws' told acts acts' minds s fits =
     let led = s.led minds fits in
     record {
@@ -178,7 +229,8 @@ breaks_at_end p steps refused a b ws ws' told acts acts' minds s fits =
     }
 
 -- an end within steps that come after others
-breaks_after : (l : BookLimits) (p : Plan) (s t : Now) (xs : List Step) (f r : ℕ) (part post whole : List (Option Machine)) (J : List Entry)
+breaks_after : (l : BookLimits) (p : Plan) (s t : Now) (xs : List Step) (f r : ℕ)
+    (part post whole : List (Option Machine)) (J : List Entry)
     → map turn_of xs ++ (part ++ post) ≡ whole → Leads l p s xs 0 f t → Breaks l p part t J r → Breaks l p whole s J r
 breaks_after l p s t xs f r part post whole J is a b = record {
   steps = xs ++ b.steps;
@@ -188,27 +240,34 @@ breaks_after l p s t xs f r part post whole J is a b = record {
   first =
       ap (λ (q : List (Option Machine)). q ++ (b.left ++ post)) (map-append turn_of xs b.steps)
       ∙ append_assoc (map turn_of xs) (map turn_of b.steps) (b.left ++ post)
-      ∙ ap (λ (q : List (Option Machine)). map turn_of xs ++ q) (sym (append_assoc (map turn_of b.steps) b.left post) ∙ ap (λ (q : List (Option Machine)). q ++ post) b.first)
+      ∙ ap (λ (q : List (Option Machine)). map turn_of xs ++ q) (sym (append_assoc (map turn_of b.steps) b.left post)
+      ∙ ap (λ (q : List (Option Machine)). q ++ post) b.first)
       ∙ is;
-  leads = subst (λ (k : ℕ). Leads l p s (xs ++ b.steps) k (f + b.failed) (now J b.minds)) (zero-add r) (leads_join l p s t (now J b.minds) xs b.steps 0 r f b.failed a b.leads);
+  leads = subst (λ (k : ℕ). Leads l p s (xs ++ b.steps) k (f + b.failed) (now J b.minds)) (zero-add r)
+      (leads_join l p s t (now J b.minds) xs b.steps 0 r f b.failed a b.leads);
 }
 
-pub stops_after : (l : BookLimits) (p : Plan) (s t : Now) (xs : List Step) (f : ℕ) (part post whole : List (Option Machine)) (J : List Entry) (e : End)
+pub stops_after : (l : BookLimits) (p : Plan) (s t : Now) (xs : List Step) (f : ℕ)
+    (part post whole : List (Option Machine)) (J : List Entry) (e : End)
     → map turn_of xs ++ (part ++ post) ≡ whole → Leads l p s xs 0 f t → Stops l p part t J e → Stops l p whole s J e
-stops_after l p s t xs f part post whole J end.Full is a b = (b.0, b.1, breaks_after l p s t xs f b.0 part post whole J is a b.2)
-stops_after l p s t xs f part post whole J end.Memory is a b = (b.0, breaks_after l p s t xs f b.0 part post whole J is a b.1)
+stops_after l p s t xs f part post whole J end.Full is a b =
+    (b.0, b.1, breaks_after l p s t xs f b.0 part post whole J is a b.2)
+stops_after l p s t xs f part post whole J end.Memory is a b =
+    (b.0, breaks_after l p s t xs f b.0 part post whole J is a b.1)
 stops_after l p s t xs f part post whole J end.Finished is a b = b
 stops_after l p s t xs f part post whole J end.Stalled is a b = b
 stops_after l p s t xs f part post whole J end.TurnLimit is a b = b
 
-pub ends_in : (l : BookLimits) (p : Plan) (s : Place) (J : List Entry) (e : End) → Stops l p round_steps s.now J e → EndsIn l p s J e
+pub ends_in : (l : BookLimits) (p : Plan) (s : Place) (J : List Entry) (e : End) → Stops l p round_steps s.now J e
+    → EndsIn l p s J e
 ends_in l p s J end.Full h = h
 ends_in l p s J end.Memory h = h
 ends_in l p s J end.TurnLimit h = h
 ends_in l p s J end.Finished h = absurd h
 ends_in l p s J end.Stalled h = absurd h
 
-pub ends : (l : BookLimits) (p : Plan) (n : ℕ) (s : Place) (J : List Entry) (e : End) → EndsIn l p s J e → Ends l p n s J e
+pub ends : (l : BookLimits) (p : Plan) (n : ℕ) (s : Place) (J : List Entry) (e : End) → EndsIn l p s J e
+    → Ends l p n s J e
 ends l p n s J end.Full h = h
 ends l p n s J end.Memory h = h
 ends l p n s J end.TurnLimit h = absurd h
@@ -216,29 +275,46 @@ ends l p n s J end.Finished h = h
 ends l p n s J end.Stalled h = h
 
 -- one turn more
-pub takes_more : (l l' : BookLimits) (p : Plan) (ms ms' : List Machine) (m : Machine) (x : Step) (s : Now) (J J' : List Entry) (ws ws' : Six Watch)
-    → l' ≡ l → ms' ≡ ms ++ m ∷ [] → turn_of x ≡ Some m → ((minds : Six Mind) → FitAll ws minds → Takes l' p (x ∷ []) (now J minds) J' ws') → TakesTurns l p ms s J ws → TakesTurns l p ms' s J' ws'
+pub takes_more : (l l' : BookLimits) (p : Plan) (ms ms' : List Machine) (m : Machine) (x : Step) (s : Now)
+    (J J' : List Entry) (ws ws' : Six Watch)
+    → l' ≡ l → ms' ≡ ms ++ m ∷ [] → turn_of x ≡ Some m
+    → ((minds : Six Mind) → FitAll ws minds → Takes l' p (x ∷ []) (now J minds) J' ws') → TakesTurns l p ms s J ws
+    → TakesTurns l p ms' s J' ws'
 takes_more l l' p ms ms' m x s J J' ws ws' same grew is next (steps, each, (f, led)) =
     let (g, one) = next led.minds led.fits in (
       steps ++ x ∷ [],
-      map-append turn_of steps (x ∷ []) ∙ ap (λ (q : List (Option Machine)). q ++ turn_of x ∷ []) each ∙ ap (λ (q : Option Machine). turns_of ms ++ q ∷ []) is ∙ sym (map-append (λ (n : Machine). Some n) ms (m ∷ [])) ∙ ap turns_of (sym grew),
-      (f + g, led_join l p s steps (x ∷ []) 0 0 f g J J' ws ws' led (subst (λ (k : BookLimits). Led k p (now J led.minds) (x ∷ []) 0 g J' ws') same one)),
+      map-append turn_of steps (x ∷ []) ∙ ap (λ (q : List (Option Machine)). q ++ turn_of x ∷ []) each
+          ∙ ap (λ (q : Option Machine). turns_of ms ++ q ∷ []) is
+          ∙ sym (map-append (λ (n : Machine). Some n) ms (m ∷ [])) ∙ ap turns_of (sym grew),
+      (
+        f + g,
+        led_join l p s steps (x ∷ []) 0 0 f g J J' ws ws' led
+            (subst (λ (k : BookLimits). Led k p (now J led.minds) (x ∷ []) 0 g J' ws') same one),
+      ),
     )
 
 -- an end within one turn more
-pub stopped_turn : (l l' : BookLimits) (p : Plan) (ms ms' rest all : List Machine) (m : Machine) (x : Step) (s : Now) (J J' : List Entry) (ws : Six Watch) (e : End)
-    → l' ≡ l → ms' ≡ ms ++ m ∷ [] → ms' ++ rest ≡ all → turn_of x ≡ Some m → TakesTurns l p ms s J ws → ((minds : Six Mind) → FitAll ws minds → Stops l' p (turn_of x ∷ []) (now J minds) J' e) → Stops l p (turns_of all) s J' e
+pub stopped_turn : (l l' : BookLimits) (p : Plan) (ms ms' rest all : List Machine) (m : Machine) (x : Step) (s : Now)
+    (J J' : List Entry) (ws : Six Watch) (e : End)
+    → l' ≡ l → ms' ≡ ms ++ m ∷ [] → ms' ++ rest ≡ all → turn_of x ≡ Some m → TakesTurns l p ms s J ws
+    → ((minds : Six Mind) → FitAll ws minds → Stops l' p (turn_of x ∷ []) (now J minds) J' e)
+    → Stops l p (turns_of all) s J' e
 stopped_turn l l' p ms ms' rest all m x s J J' ws e same grew whole is (steps, each, (f, led)) next =
     stops_after l p s (now J led.minds) steps f (turn_of x ∷ []) (turns_of rest) (turns_of all) J' e
-    (ap (λ (q : List (Option Machine)). q ++ (turn_of x ∷ turns_of rest)) each ∙ ap (λ (q : Option Machine). turns_of ms ++ (q ∷ turns_of rest)) is ∙ sym (map-append (λ (n : Machine). Some n) ms (m ∷ rest))
+    (ap (λ (q : List (Option Machine)). q ++ (turn_of x ∷ turns_of rest)) each
+    ∙ ap (λ (q : Option Machine). turns_of ms ++ (q ∷ turns_of rest)) is
+    ∙ sym (map-append (λ (n : Machine). Some n) ms (m ∷ rest))
     ∙ ap turns_of (sym (append_assoc ms (m ∷ []) rest) ∙ ap (λ (q : List Machine). q ++ rest) (sym grew) ∙ whole))
-    led.leads (subst (λ (k : BookLimits). Stops k p (turn_of x ∷ []) (now J led.minds) J' e) same (next led.minds led.fits))
+    led.leads (subst (λ (k : BookLimits). Stops k p (turn_of x ∷ []) (now J led.minds) J' e) same
+    (next led.minds led.fits))
 
 -- where nothing is booked, the operator has nothing to do
-pub rested : (l : BookLimits) (p : Plan) (s t : Place) → Operates l p s t → t.now.journal ≡ s.now.journal → (t.lost ≡ true) ⊎ (next_of t.lines (history l t.now.journal) ≡ None)
+pub rested : (l : BookLimits) (p : Plan) (s t : Place) → Operates l p s t → t.now.journal ≡ s.now.journal
+    → (t.lost ≡ true) ⊎ (next_of t.lines (history l t.now.journal) ≡ None)
 rested l p _ _ rests h = inl refl
 rested l p _ _ (waits n) h = inr n
-rested l p _ _ (books {s = s} {t = t} a n b grew) h = absurd (no_entry (append_cancel_left s.journal _ [] (sym grew ∙ h ∙ sym (append-nil s.journal))))
+rested l p _ _ (books {s = s} {t = t} a n b grew) h =
+    absurd (no_entry (append_cancel_left s.journal _ [] (sym grew ∙ h ∙ sym (append-nil s.journal))))
   where
     no_entry : entry_of a ∷ [] ≡ [] → ⊥
     no_entry q = cc
@@ -257,34 +333,47 @@ vacant [] empty is h = refl
 vacant (x ∷ xs) true is h = absurd (omega (arith, eqb-true (length (x ∷ xs)) 0 (sym is)))
 vacant (x ∷ xs) false is h = cc
 
-pub step_booked : (p : Plan) (a b : History) (h h' : Held) (machines : Six (List Entry)) (his : List Entry) (x : Step) (refused : ℕ) (ws ws' : Six Watch) (told : Bool) (acts acts' : ActLog) (empty : Bool) (minds : Six Mind) (e : Entry)
-    → Grown a b h h' machines his → Scheduled p (x ∷ []) refused a b ws ws' told acts acts' → FitAll ws minds → x ≡ Hand e → empty ≡ nat_eq (length his) 0 → b.entries ≡ a.entries ++ (if not empty then e ∷ [] else [])
+pub step_booked : (p : Plan) (a b : History) (h h' : Held) (machines : Six (List Entry)) (his : List Entry) (x : Step)
+    (refused : ℕ) (ws ws' : Six Watch) (told : Bool) (acts acts' : ActLog) (empty : Bool) (minds : Six Mind) (e : Entry)
+    → Grown a b h h' machines his → Scheduled p (x ∷ []) refused a b ws ws' told acts acts' → FitAll ws minds
+    → x ≡ Hand e → empty ≡ nat_eq (length his) 0 → b.entries ≡ a.entries ++ (if not empty then e ∷ [] else [])
 step_booked p a b h h' lists his x refused ws ws' told acts acts' empty minds e g s fits is test =
     let led = s.led minds fits in
-    booked_if a.entries b.entries g.added his e (not empty) (ap (λ (k : History). k.entries) g.journal) g.by_operator (filled his empty test) (vacant his empty test)
-    (by_hand a.limits p (now a.entries minds) (now b.entries led.minds) (x ∷ []) refused s.failed e led.leads (ap (λ (y : Step). y ∷ []) is))
+    booked_if a.entries b.entries g.added his e (not empty) (ap (λ (k : History). k.entries) g.journal) g.by_operator
+    (filled his empty test) (vacant his empty test)
+    (by_hand a.limits p (now a.entries minds) (now b.entries led.minds) (x ∷ []) refused s.failed e led.leads
+    (ap (λ (y : Step). y ∷ []) is))
 
 -- what the operator does
-pub act_rests : (l : BookLimits) (p : Plan) (s : Now) (lines : List Line) (lost : Bool) → lost ≡ true → Operates l p (place s lines lost) (place s lines lost)
+pub act_rests : (l : BookLimits) (p : Plan) (s : Now) (lines : List Line) (lost : Bool) → lost ≡ true
+    → Operates l p (place s lines lost) (place s lines lost)
 act_rests l p s lines lost is = rw is rests
 
-pub act_waits : (l : BookLimits) (p : Plan) (s : Now) (lines : List Line) (lost : Bool) → lost ≡ false → next_of lines (history l s.journal) ≡ None → Operates l p (place s lines lost) (place s lines lost)
+pub act_waits : (l : BookLimits) (p : Plan) (s : Now) (lines : List Line) (lost : Bool) → lost ≡ false
+    → next_of lines (history l s.journal) ≡ None → Operates l p (place s lines lost) (place s lines lost)
 act_waits l p s lines lost is h = rw is (waits h)
 
-pub act_books : (l : BookLimits) (p : Plan) (J J' : List Entry) (minds : Six Mind) (ws' : Six Watch) (lines lines' lines'' : List Line) (lost lost' : Bool) (a : Action) (e : Entry) (booked : Bool)
-    → lost ≡ false → next_of lines (history l J) ≡ Some a → e ≡ entry_of a → booked ≡ true → lines' ≡ lines → lost' ≡ lost → lines'' ≡ left_after lines'
-    → J' ≡ J ++ (if booked then e ∷ [] else []) → Takes l p (Hand e ∷ []) (now J minds) J' ws' → Reaches (Operates l p (place (now J minds) lines lost)) J' ws' lines'' lost'
-act_books l p J J' minds ws' lines lines' lines'' lost lost' a e booked free next is did same still left grew (f, led) = (
-  led.minds,
-  led.fits,
-  rw (left, same, still, free)
-      (books a next (subst (λ (x : Entry). Leads l p (now J minds) (Hand x ∷ []) 0 f (now J' led.minds)) is led.leads)
-      (grew ∙ ap (λ (b : Bool). J ++ (if b then e ∷ [] else [])) did ∙ ap (λ (x : Entry). J ++ x ∷ []) is)),
-)
+pub act_books : (l : BookLimits) (p : Plan) (J J' : List Entry) (minds : Six Mind) (ws' : Six Watch)
+    (lines lines' lines'' : List Line) (lost lost' : Bool) (a : Action) (e : Entry) (booked : Bool)
+    → lost ≡ false → next_of lines (history l J) ≡ Some a → e ≡ entry_of a → booked ≡ true → lines' ≡ lines
+    → lost' ≡ lost → lines'' ≡ left_after lines'
+    → J' ≡ J ++ (if booked then e ∷ [] else []) → Takes l p (Hand e ∷ []) (now J minds) J' ws'
+    → Reaches (Operates l p (place (now J minds) lines lost)) J' ws' lines'' lost'
+act_books l p J J' minds ws' lines lines' lines'' lost lost' a e booked free next is did same still left grew
+    (f, led) = (
+      led.minds,
+      led.fits,
+      rw (left, same, still, free)
+          (books a next
+          (subst (λ (x : Entry). Leads l p (now J minds) (Hand x ∷ []) 0 f (now J' led.minds)) is led.leads)
+          (grew ∙ ap (λ (b : Bool). J ++ (if b then e ∷ [] else [])) did ∙ ap (λ (x : Entry). J ++ x ∷ []) is)),
+    )
 
-pub act_fails : (l : BookLimits) (p : Plan) (J J' : List Entry) (minds : Six Mind) (ws' : Six Watch) (lines lines' : List Line) (lost : Bool) (a : Action) (e : Entry) (booked : Bool)
+pub act_fails : (l : BookLimits) (p : Plan) (J J' : List Entry) (minds : Six Mind) (ws' : Six Watch)
+    (lines lines' : List Line) (lost : Bool) (a : Action) (e : Entry) (booked : Bool)
     → lost ≡ false → next_of lines (history l J) ≡ Some a → e ≡ entry_of a → booked ≡ false → lines' ≡ lines
-    → J' ≡ J ++ (if booked then e ∷ [] else []) → Takes l p (Hand e ∷ []) (now J minds) J' ws' → Reaches (Operates l p (place (now J minds) lines lost)) J' ws' lines' true
+    → J' ≡ J ++ (if booked then e ∷ [] else []) → Takes l p (Hand e ∷ []) (now J minds) J' ws'
+    → Reaches (Operates l p (place (now J minds) lines lost)) J' ws' lines' true
 act_fails l p J J' minds ws' lines lines' lost a e booked free next is idle same grew (f, led) = (
   led.minds,
   led.fits,
@@ -294,27 +383,74 @@ act_fails l p J J' minds ws' lines lines' lost a e booked free next is idle same
 )
 
 -- a round
-pub turns_start : (l : BookLimits) (p : Plan) (J : List Entry) (ws : Six Watch) (minds : Six Mind) → FitAll ws minds → TakesTurns l p [] (now J minds) J ws
+pub turns_start : (l : BookLimits) (p : Plan) (J : List Entry) (ws : Six Watch) (minds : Six Mind) → FitAll ws minds
+    → TakesTurns l p [] (now J minds) J ws
 turns_start l p J ws minds fits = ([], refl, (0, record { minds = minds; leads = stays; fits = fits }))
 
-pub rounds_start : (l : BookLimits) (p : Plan) (J : List Entry) (ws : Six Watch) (lines : List Line) (lost : Bool) (minds : Six Mind) → FitAll ws minds → Reaches (Rounds l p (place (now J minds) lines lost) 0) J ws lines lost
+pub rounds_start : (l : BookLimits) (p : Plan) (J : List Entry) (ws : Six Watch) (lines : List Line) (lost : Bool)
+    (minds : Six Mind) → FitAll ws minds → Reaches (Rounds l p (place (now J minds) lines lost) 0) J ws lines lost
 rounds_start l p J ws lines lost minds fits = (minds, fits, no_round)
 
 -- the turns of a round, and then what the operator does
-pub whole_round : (l l' : BookLimits) (p : Plan) (s : Now) (J J' : List Entry) (ws ws' : Six Watch) (lines lines1 lines' : List Line) (lost lost1 lost' : Bool)
-    → l' ≡ l → lines1 ≡ lines → lost1 ≡ lost → TakesTurns l p machines s J ws → ((minds : Six Mind) → FitAll ws minds → Reaches (Operates l' p (place (now J minds) lines1 lost1)) J' ws' lines' lost') → Reaches (Round l p (place s lines lost)) J' ws' lines' lost'
+pub whole_round : (l l' : BookLimits) (p : Plan) (s : Now) (J J' : List Entry) (ws ws' : Six Watch)
+    (lines lines1 lines' : List Line) (lost lost1 lost' : Bool)
+    → l' ≡ l → lines1 ≡ lines → lost1 ≡ lost → TakesTurns l p machines s J ws
+    → ((minds : Six Mind) → FitAll ws minds
+    → Reaches (Operates l' p (place (now J minds) lines1 lost1)) J' ws' lines' lost')
+    → Reaches (Round l p (place s lines lost)) J' ws' lines' lost'
 whole_round l l' p s J J' ws ws' lines lines1 lines' lost lost1 lost' is same still (steps, each, (f, led)) next =
-    let (minds, fits, operates) = next led.minds led.fits in
-    (minds, fits, record { steps = steps; failed = f; turned = now J led.minds; turns = each; leads = led.leads; operates = rw (← is, ← same, ← still) operates })
+    let (minds, fits, operates) = next led.minds led.fits in (
+      minds,
+      fits,
+      record {
+        steps = steps;
+        failed = f;
+        turned = now J led.minds;
+        turns = each;
+        leads =
+            led.leads;
+        operates = rw (← is, ← same, ← still) operates;
+      },
+    )
 
 pub stopped_act : (l l' : BookLimits) (p : Plan) (s : Now) (J J' : List Entry) (ws : Six Watch) (e : End)
-    → l' ≡ l → TakesTurns l p machines s J ws → ((minds : Six Mind) → FitAll ws minds → Stops l' p (None ∷ []) (now J minds) J' e) → Stops l p round_steps s J' e
+    → l' ≡ l → TakesTurns l p machines s J ws
+    → ((minds : Six Mind) → FitAll ws minds → Stops l' p (None ∷ []) (now J minds) J' e)
+    → Stops l p round_steps s J' e
 stopped_act l l' p s J J' ws e is (steps, each, (f, led)) next =
-    stops_after l p s (now J led.minds) steps f (None ∷ []) [] round_steps J' e (ap (λ (q : List (Option Machine)). q ++ (None ∷ [])) each) led.leads (subst (λ (k : BookLimits). Stops k p (None ∷ []) (now J led.minds) J' e) is (next led.minds led.fits))
+    stops_after l p s (now J led.minds) steps f (None ∷ []) [] round_steps J' e
+    (ap (λ (q : List (Option Machine)). q ++ (None ∷ [])) each) led.leads
+    (subst (λ (k : BookLimits). Stops k p (None ∷ []) (now J led.minds) J' e) is (next led.minds led.fits))
 
-pub stopped_turns : (l : BookLimits) (p : Plan) (s : Now) (J : List Entry) (e : End) → Stops l p (turns_of machines) s J e → Stops l p round_steps s J e
-stopped_turns l p s J end.Full (r, pos, b) = (r, pos, record { steps = b.steps; left = b.left ++ (None ∷ []); failed = b.failed; minds = b.minds; first = sym (append_assoc (map turn_of b.steps) b.left (None ∷ [])) ∙ ap (λ (q : List (Option Machine)). q ++ (None ∷ [])) b.first; leads = b.leads })
-stopped_turns l p s J end.Memory (r, b) = (r, record { steps = b.steps; left = b.left ++ (None ∷ []); failed = b.failed; minds = b.minds; first = sym (append_assoc (map turn_of b.steps) b.left (None ∷ [])) ∙ ap (λ (q : List (Option Machine)). q ++ (None ∷ [])) b.first; leads = b.leads })
+pub stopped_turns : (l : BookLimits) (p : Plan) (s : Now) (J : List Entry) (e : End)
+    → Stops l p (turns_of machines) s J e → Stops l p round_steps s J e
+stopped_turns l p s J end.Full (r, pos, b) = (
+  r,
+  pos,
+  record {
+    steps = b.steps;
+    left = b.left ++ (None ∷ []);
+    failed = b.failed;
+    minds = b.minds;
+    first =
+        sym (append_assoc (map turn_of b.steps) b.left (None ∷ []))
+        ∙ ap (λ (q : List (Option Machine)). q ++ (None ∷ [])) b.first;
+    leads = b.leads;
+  },
+)
+stopped_turns l p s J end.Memory (r, b) = (
+  r,
+  record {
+    steps = b.steps;
+    left = b.left ++ (None ∷ []);
+    failed = b.failed;
+    minds = b.minds;
+    first =
+        sym (append_assoc (map turn_of b.steps) b.left (None ∷ []))
+        ∙ ap (λ (q : List (Option Machine)). q ++ (None ∷ [])) b.first;
+    leads = b.leads;
+  },
+)
 stopped_turns l p s J end.Finished h = h
 stopped_turns l p s J end.Stalled h = h
 stopped_turns l p s J end.TurnLimit h = h
@@ -325,11 +461,15 @@ err_of (Ok x) e Q is h = absurd is
 err_of (Err x) e Q is h = subst Q (sym is) h
 
 -- what the steps add
-leads_grow : (l : BookLimits) (p : Plan) (s t : Now) (zs : List Step) (r f : ℕ) → Leads l p s zs r f t → (added : List Entry) × (t.journal ≡ s.journal ++ added)
+leads_grow : (l : BookLimits) (p : Plan) (s t : Now) (zs : List Step) (r f : ℕ) → Leads l p s zs r f t
+    → (added : List Entry) × (t.journal ≡ s.journal ++ added)
 leads_grow l p s _ _ _ _ stays = ([], sym (append-nil s.journal))
 leads_grow l p s t _ r f (one_turn {t = v} {steps = ys} m x b d) =
-    let (added, is) = leads_grow l p s v ys r f b in
-    (added ++ option_to_list d.booked, d.journal ∙ ap (λ (J : List Entry). J ++ option_to_list d.booked) is ∙ append_assoc s.journal added (option_to_list d.booked))
+    let (added, is) = leads_grow l p s v ys r f b in (
+      added ++ option_to_list d.booked,
+      d.journal ∙ ap (λ (J : List Entry). J ++ option_to_list d.booked) is
+          ∙ append_assoc s.journal added (option_to_list d.booked),
+    )
 leads_grow l p s t _ _ f (one_refused {steps = ys} {refused = r} m x why b d) = leads_grow l p s t ys r f b
 leads_grow l p s _ _ r f (one_hand {t = v} {steps = ys} e b d) =
     let (added, is) = leads_grow l p s v ys r f b in
@@ -337,7 +477,8 @@ leads_grow l p s _ _ r f (one_hand {t = v} {steps = ys} e b d) =
 leads_grow l p s t _ r f (one_spared {steps = ys} e b d) = leads_grow l p s t ys r f b
 leads_grow l p s t _ r _ (one_failed {steps = ys} {failed = f} e b d c) = leads_grow l p s t ys r f b
 
-operates_grow : (l : BookLimits) (p : Plan) (s t : Place) → Operates l p s t → (more : List Entry) × (t.now.journal ≡ s.now.journal ++ more)
+operates_grow : (l : BookLimits) (p : Plan) (s t : Place) → Operates l p s t
+    → (more : List Entry) × (t.now.journal ≡ s.now.journal ++ more)
 operates_grow l p _ _ (rests {s = s}) = ([], sym (append-nil s.journal))
 operates_grow l p _ _ (waits {s = s} n) = ([], sym (append-nil s.journal))
 operates_grow l p _ _ (books a n b grew) = (entry_of a ∷ [], grew)
@@ -349,26 +490,34 @@ nothing_more [] (y ∷ b) h = absurd (omega (arith, h))
 nothing_more (x ∷ a) b h = absurd (omega (arith, h))
 
 -- a round that booked nothing, after which all are idle, is the run's end
-pub at_rest : (l : BookLimits) (p : Plan) (s : Now) (lines lines' : List Line) (lost lost' : Bool) (J' : List Entry) (ws' : Six Watch) (e : End)
-    → Reaches (Round l p (place s lines lost)) J' ws' lines' lost' → length J' ≡ length s.journal → ((minds : Six Mind) → FitAll ws' minds → (m : Machine) → is_idle J' m p (at minds m) ≡ true)
-    → (e ≡ end.Finished → IsDone p.plates J') → (IsDone p.plates J' → e ≡ end.Finished) → (e ≡ end.Finished) ⊎ (e ≡ end.Stalled) → EndsIn l p (place s lines lost) J' e
+pub at_rest : (l : BookLimits) (p : Plan) (s : Now) (lines lines' : List Line) (lost lost' : Bool) (J' : List Entry)
+    (ws' : Six Watch) (e : End)
+    → Reaches (Round l p (place s lines lost)) J' ws' lines' lost' → length J' ≡ length s.journal
+    → ((minds : Six Mind) → FitAll ws' minds → (m : Machine) → is_idle J' m p (at minds m) ≡ true)
+    → (e ≡ end.Finished → IsDone p.plates J') → (IsDone p.plates J' → e ≡ end.Finished)
+    → (e ≡ end.Finished) ⊎ (e ≡ end.Stalled) → EndsIn l p (place s lines lost) J' e
 at_rest l p s lines lines' lost lost' J' ws' e (minds, fits, r) short idle done must which =
     let (a, grew) = leads_grow l p s r.turned r.steps 0 r.failed r.leads in
     let (b, more) = operates_grow l p (place r.turned lines lost) (place (now J' minds) lines' lost') r.operates in
     let all : J' ≡ s.journal ++ (a ++ b) = more ∙ ap (λ (J : List Entry). J ++ b) grew ∙ append_assoc s.journal a b in
-    let sizes : length J' ≡ length s.journal + length (a ++ b) = ap (λ (J : List Entry). length J) all ∙ length-append s.journal (a ++ b) in
+    let sizes : length J' ≡ length s.journal + length (a ++ b) = ap (λ (J : List Entry). length J) all
+    ∙ length-append s.journal (a ++ b) in
     let nil = nothing_more a b (omega (arith, sizes, short)) in
     let rest : ComesToRest l p (place s lines lost) J' = record {
       last = place (now J' minds) lines' lost';
       round = r;
       journal = refl;
-      unchanged = all ∙ ap (λ (q : List Entry). s.journal ++ q) (ap (λ (q : List Entry). q ++ b) nil.0 ∙ nil.1) ∙ append-nil s.journal;
+      unchanged = all ∙ ap (λ (q : List Entry). s.journal ++ q) (ap (λ (q : List Entry). q ++ b) nil.0 ∙ nil.1)
+          ∙ append-nil s.journal;
       idle = idle minds fits;
-      operator = rested l p (place r.turned lines lost) (place (now J' minds) lines' lost') r.operates (more ∙ ap (λ (q : List Entry). r.turned.journal ++ q) nil.1 ∙ append-nil r.turned.journal);
+      operator = rested l p (place r.turned lines lost) (place (now J' minds) lines' lost') r.operates
+          (more ∙ ap (λ (q : List Entry). r.turned.journal ++ q) nil.1 ∙ append-nil r.turned.journal);
     } in
     finishes e rest done must which
   where
-    finishes : (x : End) → ComesToRest l p (place s lines lost) J' → (x ≡ end.Finished → IsDone p.plates J') → (IsDone p.plates J' → x ≡ end.Finished) → (x ≡ end.Finished) ⊎ (x ≡ end.Stalled) → EndsIn l p (place s lines lost) J' x
+    finishes : (x : End) → ComesToRest l p (place s lines lost) J' → (x ≡ end.Finished → IsDone p.plates J')
+        → (IsDone p.plates J' → x ≡ end.Finished) → (x ≡ end.Finished) ⊎ (x ≡ end.Stalled)
+        → EndsIn l p (place s lines lost) J' x
     finishes end.Finished rest done must which = (rest, done refl)
     finishes end.Stalled rest done must which = (rest, λ d. absurd (stalled (must d)))
       where
@@ -400,38 +549,61 @@ at_rest l p s lines lines' lost lost' J' ws' e (minds, fits, r) short idle done 
         other q = cc
 
 -- the same, of a book that has this journal
-pub book_at_rest : (l : BookLimits) (p : Plan) (s : Now) (lines lines' : List Line) (lost lost' : Bool) (K J' : List Entry) (ws' : Six Watch) (e : End)
-    → K ≡ J' → Reaches (Round l p (place s lines lost)) J' ws' lines' lost' → length J' ≡ length s.journal → ((minds : Six Mind) → FitAll ws' minds → (m : Machine) → is_idle K m p (at minds m) ≡ true)
-    → (e ≡ end.Finished → IsDone p.plates K) → (IsDone p.plates K → e ≡ end.Finished) → (e ≡ end.Finished) ⊎ (e ≡ end.Stalled) → EndsIn l p (place s lines lost) J' e
+pub book_at_rest : (l : BookLimits) (p : Plan) (s : Now) (lines lines' : List Line) (lost lost' : Bool)
+    (K J' : List Entry) (ws' : Six Watch) (e : End)
+    → K ≡ J' → Reaches (Round l p (place s lines lost)) J' ws' lines' lost' → length J' ≡ length s.journal
+    → ((minds : Six Mind) → FitAll ws' minds → (m : Machine) → is_idle K m p (at minds m) ≡ true)
+    → (e ≡ end.Finished → IsDone p.plates K) → (IsDone p.plates K → e ≡ end.Finished)
+    → (e ≡ end.Finished) ⊎ (e ≡ end.Stalled) → EndsIn l p (place s lines lost) J' e
 book_at_rest l p s lines lines' lost lost' K J' ws' e same r short idle done must which =
-    at_rest l p s lines lines' lost lost' J' ws' e r short (λ minds fits m. subst (λ (J : List Entry). is_idle J m p (at minds m) ≡ true) same (idle minds fits m)) (λ h. subst (λ (J : List Entry). IsDone p.plates J) same (done h))
+    at_rest l p s lines lines' lost lost' J' ws' e r short
+    (λ minds fits m. subst (λ (J : List Entry). is_idle J m p (at minds m) ≡ true) same (idle minds fits m))
+    (λ h. subst (λ (J : List Entry). IsDone p.plates J) same (done h))
     (λ d. must (subst (λ (J : List Entry). IsDone p.plates J) (sym same) d)) which
 
 -- one round more, and the end
-pub more_rounds : (l l' : BookLimits) (p : Plan) (from : Place) (n : ℕ) (J J' : List Entry) (ws ws' : Six Watch) (lines lines' : List Line) (lost lost' : Bool)
-    → l' ≡ l → Reaches (Rounds l p from n) J ws lines lost → ((minds : Six Mind) → FitAll ws minds → Reaches (Round l' p (place (now J minds) lines lost)) J' ws' lines' lost') → Reaches (Rounds l p from (n + 1)) J' ws' lines' lost'
+pub more_rounds : (l l' : BookLimits) (p : Plan) (from : Place) (n : ℕ) (J J' : List Entry) (ws ws' : Six Watch)
+    (lines lines' : List Line) (lost lost' : Bool)
+    → l' ≡ l → Reaches (Rounds l p from n) J ws lines lost
+    → ((minds : Six Mind) → FitAll ws minds
+    → Reaches (Round l' p (place (now J minds) lines lost)) J' ws' lines' lost')
+    → Reaches (Rounds l p from (n + 1)) J' ws' lines' lost'
 more_rounds l l' p from n J J' ws ws' lines lines' lost lost' is (minds, fits, led) next =
-    let (after, fits', r) = next minds fits in
-    (after, fits', one_more led (subst (λ (k : BookLimits). Round k p (place (now J minds) lines lost) (place (now J' after) lines' lost')) is r))
+    let (after, fits', r) = next minds fits in (
+      after,
+      fits',
+      one_more led (subst (λ (k : BookLimits). Round k p (place (now J minds) lines lost)
+          (place (now J' after) lines' lost')) is r),
+    )
 
-pub ended_in : (l l' : BookLimits) (p : Plan) (from : Place) (n : ℕ) (J J' : List Entry) (ws : Six Watch) (lines : List Line) (lost : Bool) (e : End)
-    → l' ≡ l → Reaches (Rounds l p from n) J ws lines lost → ((minds : Six Mind) → FitAll ws minds → EndsIn l' p (place (now J minds) lines lost) J' e) → Ended l p from J' e
+pub ended_in : (l l' : BookLimits) (p : Plan) (from : Place) (n : ℕ) (J J' : List Entry) (ws : Six Watch)
+    (lines : List Line) (lost : Bool) (e : End)
+    → l' ≡ l → Reaches (Rounds l p from n) J ws lines lost
+    → ((minds : Six Mind) → FitAll ws minds → EndsIn l' p (place (now J minds) lines lost) J' e)
+    → Ended l p from J' e
 ended_in l l' p from n J J' ws lines lost e is (minds, fits, led) next = record {
   rounds = n;
   last = place (now J minds) lines lost;
   led = led;
-  ends = ends l p n (place (now J minds) lines lost) J' e (subst (λ (k : BookLimits). EndsIn k p (place (now J minds) lines lost) J' e) is (next minds fits));
+  ends = ends l p n (place (now J minds) lines lost) J' e
+      (subst (λ (k : BookLimits). EndsIn k p (place (now J minds) lines lost) J' e) is (next minds fits));
 }
 
-pub ended_by_turns : (l : BookLimits) (p : Plan) (from : Place) (n : ℕ) (J : List Entry) (ws : Six Watch) (lines : List Line) (lost : Bool)
+pub ended_by_turns : (l : BookLimits) (p : Plan) (from : Place) (n : ℕ) (J : List Entry) (ws : Six Watch)
+    (lines : List Line) (lost : Bool)
     → n ≡ p.turns → Reaches (Rounds l p from n) J ws lines lost → Ended l p from J end.TurnLimit
-ended_by_turns l p from n J ws lines lost is (minds, fits, led) = record { rounds = n; last = place (now J minds) lines lost; led = led; ends = (is, refl) }
+ended_by_turns l p from n J ws lines lost is (minds, fits, led) =
+    record { rounds = n; last = place (now J minds) lines lost; led = led; ends = (is, refl) }
 
 -- a run that began with an empty book started where runs start
-pub ended_started : (l k : BookLimits) (p : Plan) (script : List Line) (B K J J' : List Entry) (ws : Six Watch) (e : End)
-    → K ≡ B → B ≡ [] → k ≡ l → J' ≡ J → FitAll ws (each (λ m. first_mind B m)) → ((minds : Six Mind) → FitAll ws minds → Ended k p (place (now K minds) script false) J e) → Ended l p (start script) J' e
+pub ended_started : (l k : BookLimits) (p : Plan) (script : List Line) (B K J J' : List Entry) (ws : Six Watch)
+    (e : End)
+    → K ≡ B → B ≡ [] → k ≡ l → J' ≡ J → FitAll ws (each (λ m. first_mind B m))
+    → ((minds : Six Mind) → FitAll ws minds → Ended k p (place (now K minds) script false) J e)
+    → Ended l p (start script) J' e
 ended_started l k p script B K J J' ws e is empty same after fits next =
     subst (λ (x : BookLimits). Ended x p (start script) J' e) same
     (subst (λ (x : List Entry). Ended k p (start script) x e) (sym after)
     (subst (λ (x : List Entry). Ended k p (place (now x (each (λ m. first_mind x m))) script false) J e) empty
-    (subst (λ (x : List Entry). Ended k p (place (now x (each (λ m. first_mind B m))) script false) J e) is (next (each (λ m. first_mind B m)) fits))))
+    (subst (λ (x : List Entry). Ended k p (place (now x (each (λ m. first_mind B m))) script false) J e) is
+    (next (each (λ m. first_mind B m)) fits))))

@@ -12,18 +12,36 @@ use Rattle.operator_desk.specs.declared.line.Line.{Line}
 use Rattle.cell_runs.specs.Rounds.{IsRun}
 use Rattle.cell_runs.specs.Runs.{PartOfRounds, PrintsOrStops, WritesReport, WritesRounds, kept, limits_of, shown}
 
-pub report-printed : {E : Type 0} (r : Result ℕ E) (journal : Bool) (e : End) (J : List Entry) (t : Totals) (ws : List (List Entry × Totals)) (old new : Option (List ℕ))
-    → IfOk r (PrintsOrStops journal e t J old new) → IfOk r (λ status. (plan : Plan) → IsReport (limits_of plan) J t ws → WritesReport journal plan old new status (Some (kept J e plan)))
+pub report-printed : {E : Type 0} (r : Result ℕ E) (journal : Bool) (e : End) (J : List Entry) (t : Totals)
+    (ws : List (List Entry × Totals)) (old new : Option (List ℕ))
+    → IfOk r (PrintsOrStops journal e t J old new) → IfOk r (λ status. (plan : Plan) → IsReport (limits_of plan) J t ws
+    → WritesReport journal plan old new status (Some (kept J e plan)))
 report-printed (Ok status) journal e J t ws old new printed = λ plan is. inl (e, J, t, ws, is, printed, refl)
 report-printed (Err error) journal e J t ws old new printed = printed
 
-pub rounds-printed : {E : Type 0} (r : Result ℕ E) (journal : Bool) (e : End) (J K : List Entry) (t : Totals) (old new : Option (List ℕ))
-    → K ≡ J → t ≡ count_of J → IfOk r (PrintsOrStops journal e t K old new) → IfOk r (λ status. (plan : Plan) (script : List Line) → IsRun (limits_of plan) plan script J e → WritesRounds journal plan script old new status (Some (kept J e plan)))
+pub rounds-printed : {E : Type 0} (r : Result ℕ E) (journal : Bool) (e : End) (J K : List Entry) (t : Totals)
+    (old new : Option (List ℕ))
+    → K ≡ J → t ≡ count_of J → IfOk r (PrintsOrStops journal e t K old new)
+    → IfOk r (λ status. (plan : Plan) (script : List Line) → IsRun (limits_of plan) plan script J e
+    → WritesRounds journal plan script old new status (Some (kept J e plan)))
 rounds-printed (Ok status) journal e J K t old new same counts printed = λ plan script run.
-    inl (e, J, run, subst (λ (L : List Entry). PrintsOrStops journal e (count_of J) L old new status) same (subst (λ (u : Totals). PrintsOrStops journal e u K old new status) counts printed), refl)
+    inl (
+      e,
+      J,
+      run,
+      subst (λ (L : List Entry). PrintsOrStops journal e (count_of J) L old new status) same
+          (subst (λ (u : Totals). PrintsOrStops journal e u K old new status) counts printed),
+      refl,
+    )
 rounds-printed (Err error) journal e J K t old new same counts printed = printed
 
 pub rounds-in-part : (journal : Bool) (e : End) (J K : List Entry) (t : Totals) (old new : Option (List ℕ))
-    → K ≡ J → t ≡ count_of J → WritesPart old new (shown journal e t K) → (plan : Plan) (script : List Line) → IsRun (limits_of plan) plan script J e → PartOfRounds journal plan script old new
-rounds-in-part journal e J K t old new same counts part = λ plan script run.
-    (e, J, run, subst (λ (L : List Entry). WritesPart old new (shown journal e (count_of J) L)) same (subst (λ (u : Totals). WritesPart old new (shown journal e u K)) counts part))
+    → K ≡ J → t ≡ count_of J → WritesPart old new (shown journal e t K) → (plan : Plan) (script : List Line)
+    → IsRun (limits_of plan) plan script J e → PartOfRounds journal plan script old new
+rounds-in-part journal e J K t old new same counts part = λ plan script run. (
+  e,
+  J,
+  run,
+  subst (λ (L : List Entry). WritesPart old new (shown journal e (count_of J) L)) same
+      (subst (λ (u : Totals). WritesPart old new (shown journal e u K)) counts part),
+)

@@ -37,7 +37,8 @@ AreInputs settings faults operator (Err (input.Settings e)) = AnswersText settin
 AreInputs settings faults operator (Err (input.Faults e)) =
     (numbers : Numbers) × AreSettings settings numbers × GivesFaults (Err e) (faults_of (rows_of faults))
 AreInputs settings faults operator (Err (input.Operator e)) =
-    (numbers : Numbers) × AreSettings settings numbers × ((planned : List PlannedFault) × AreFaults faults planned × GivesLines (Err e) (lines_of (rows_of operator)))
+    (numbers : Numbers) × AreSettings settings numbers
+    × ((planned : List PlannedFault) × AreFaults faults planned × GivesLines (Err e) (lines_of (rows_of operator)))
 
 abbrev pub fault_line : FaultError → List ℕ
 fault_line (fault.Unreadable i) = number_line (codes "faults unreadable") i

@@ -41,8 +41,8 @@ round_steps = turns_of machines ++ None ∷ []
 abbrev pub history : BookLimits → List Entry → History
 history l J = record { limits = l; entries = J }
 
--- where a run stands between two rounds: the script's lines that aren't done yet, and whether the operator's hands failed, after
--- which he does nothing more
+-- where a run stands between two rounds: the script's lines that aren't done yet, and whether the operator's hands
+-- failed, after which he does nothing more
 pub record Place : Type 0 where
   pub now : Now
   pub lines : List Line
@@ -51,13 +51,19 @@ pub record Place : Type 0 where
 abbrev pub place : Now → List Line → Bool → Place
 place now lines lost = record { now = now; lines = lines; lost = lost }
 
--- what the operator does after the turns of a round: nothing where his hands failed before, or where his script has nothing to
--- do now; else the entry that it has is a step by hand. Where that is booked, the line is done, and else his hands failed.
+-- what the operator does after the turns of a round: nothing where his hands failed before, or where his script has
+-- nothing to do now; else the entry that it has is a step by hand. Where that is booked, the line is done, and else his
+-- hands failed.
 pub data Operates (l : BookLimits) (p : Plan) : Place → Place → Type 0 where
   rests : {s : Now} {lines : List Line} → Operates l p (place s lines true) (place s lines true)
-  waits : {s : Now} {lines : List Line} → next_of lines (history l s.journal) ≡ None → Operates l p (place s lines false) (place s lines false)
-  books : {s t : Now} {lines : List Line} {failed : ℕ} (a : Action) → next_of lines (history l s.journal) ≡ Some a → Leads l p s (Hand (entry_of a) ∷ []) 0 failed t → t.journal ≡ s.journal ++ entry_of a ∷ [] → Operates l p (place s lines false) (place t (left_after lines) false)
-  fails : {s t : Now} {lines : List Line} {failed : ℕ} (a : Action) → next_of lines (history l s.journal) ≡ Some a → Leads l p s (Hand (entry_of a) ∷ []) 0 failed t → t.journal ≡ s.journal → Operates l p (place s lines false) (place t lines true)
+  waits : {s : Now} {lines : List Line} → next_of lines (history l s.journal) ≡ None
+      → Operates l p (place s lines false) (place s lines false)
+  books : {s t : Now} {lines : List Line} {failed : ℕ} (a : Action) → next_of lines (history l s.journal) ≡ Some a
+      → Leads l p s (Hand (entry_of a) ∷ []) 0 failed t → t.journal ≡ s.journal ++ entry_of a ∷ []
+      → Operates l p (place s lines false) (place t (left_after lines) false)
+  fails : {s t : Now} {lines : List Line} {failed : ℕ} (a : Action) → next_of lines (history l s.journal) ≡ Some a
+      → Leads l p s (Hand (entry_of a) ∷ []) 0 failed t → t.journal ≡ s.journal
+      → Operates l p (place s lines false) (place t lines true)
 
 -- one round: a turn of each machine in their order, none of which is refused, and then what the operator does
 pub record Round (l : BookLimits) (p : Plan) (s t : Place) : Type 0 where
@@ -77,8 +83,8 @@ pub data Rounds (l : BookLimits) (p : Plan) (s : Place) : ℕ → Place → Type
 abbrev pub start : List Line → Place
 start lines = place (now [] (each (λ m. first_mind [] m))) lines false
 
--- a round that books nothing ends the run: after it each machine is idle, and the operator's hands have failed or his script has
--- nothing to do
+-- a round that books nothing ends the run: after it each machine is idle, and the operator's hands have failed or his
+-- script has nothing to do
 pub record ComesToRest (l : BookLimits) (p : Plan) (s : Place) (J : List Entry) : Type 0 where
   pub last : Place
   pub round : Round l p s last
@@ -88,7 +94,8 @@ pub record ComesToRest (l : BookLimits) (p : Plan) (s : Place) (J : List Entry) 
   pub operator : (last.lost ≡ true) ⊎ (next_of last.lines (history l J) ≡ None)
 
 -- the first of such steps lead to this journal, and so many of their turns are refused
-pub record Breaks (l : BookLimits) (p : Plan) (whole : List (Option Machine)) (s : Now) (J : List Entry) (refused : ℕ) : Type 0 where
+pub record Breaks (l : BookLimits) (p : Plan) (whole : List (Option Machine)) (s : Now) (J : List Entry)
+    (refused : ℕ) : Type 0 where
   pub steps : List Step
   pub left : List (Option Machine)
   pub failed : ℕ
@@ -141,4 +148,5 @@ Reaches Q J ws lines lost = (minds : Six Mind) × FitAll ws minds × Q (place (n
 abbrev pub RunsAreSchedules : Type 0
 RunsAreSchedules =
     (l : BookLimits) (p : Plan) (script : List Line) (J : List Entry) (e : End) → IsRun l p script J e
-    → (steps : List Step) × (refused : ℕ) × (failed : ℕ) × (minds : Six Mind) × Leads l p (start script).now steps refused failed (now J minds)
+    → (steps : List Step) × (refused : ℕ) × (failed : ℕ) × (minds : Six Mind)
+    × Leads l p (start script).now steps refused failed (now J minds)

@@ -1,5 +1,6 @@
 -- What is printed of a run, and the status with which it ends
-use Rattle.std.specs.Prelude.{◌≡◌, ◌⊎◌, ℕ, Bool, true, false, List, [], ◌∷◌, ◌++◌, Option, Some, None, Result, Ok, Err, codes}
+use Rattle.std.specs.Prelude.{◌≡◌, ◌⊎◌, ℕ, Bool, true, false, List, [], ◌∷◌, ◌++◌, Option, Some, None, Result, Ok, Err}
+use Rattle.std.specs.Prelude.{codes}
 use Rattle.std.specs.Io.KnownBytes.{Appends}
 use Rattle.cell_types.specs.declared.words.Entry.{Entry}
 use Rattle.cell_types.specs.declared.words.Totals.{Totals}
@@ -60,7 +61,8 @@ abbrev pub StopsPrinting : Bool → End → Totals → List Entry → Option (Li
 StopsPrinting journal e t J old new status = WritesPart old new (shown journal e t J) × (status ≡ 4)
 
 abbrev pub PrintsOrStops : Bool → End → Totals → List Entry → Option (List ℕ) → Option (List ℕ) → ℕ → Type 0
-PrintsOrStops journal e t J old new status = Prints journal e t J old new status ⊎ StopsPrinting journal e t J old new status
+PrintsOrStops journal e t J old new status = Prints journal e t J old new status
+    ⊎ StopsPrinting journal e t J old new status
 
 abbrev pub limits_of : Plan → BookLimits
 limits_of plan = record { entries = plan.journal_limit; plates = plan.plates }
@@ -84,17 +86,19 @@ kept_of left.Nothing = None
 abbrev pub LacksThread : Left → Option (List ℕ) → Option (List ℕ) → ℕ → Type 0
 LacksThread what old new status = what ≡ left.NoThread → WritesError old new [] 4 status
 
--- a run on one thread, by this plan and this script of the operator, leads in rounds to a journal and an end, which are printed,
--- and it is kept; or memory was refused before it, and nothing was written
+-- a run on one thread, by this plan and this script of the operator, leads in rounds to a journal and an end, which are
+-- printed, and it is kept; or memory was refused before it, and nothing was written
 abbrev pub WritesRounds : Bool → Plan → List Line → Option (List ℕ) → Option (List ℕ) → ℕ → Option Kept → Type 0
 WritesRounds journal plan script old new status run =
-    ((e : End) × (J : List Entry) × IsRun (limits_of plan) plan script J e × PrintsOrStops journal e (count_of J) J old new status × (run ≡ Some (kept J e plan)))
+    ((e : End) × (J : List Entry) × IsRun (limits_of plan) plan script J e
+    × PrintsOrStops journal e (count_of J) J old new status × (run ≡ Some (kept J e plan)))
     ⊎ (WritesError old new [] 4 status × (run ≡ None))
 
 -- a first part of what is printed of such a run was written, and not all of it
 abbrev pub PartOfRounds : Bool → Plan → List Line → Option (List ℕ) → Option (List ℕ) → Type 0
 PartOfRounds journal plan script old new =
-    (e : End) × (J : List Entry) × IsRun (limits_of plan) plan script J e × WritesPart old new (shown journal e (count_of J) J)
+    (e : End) × (J : List Entry) × IsRun (limits_of plan) plan script J e
+    × WritesPart old new (shown journal e (count_of J) J)
 
 -- the line where some actor's entries in the journal aren't its worker's
 abbrev pub disagrees_line : List ℕ
@@ -106,16 +110,19 @@ WritesRunError old new error.OutOfMemory status = WritesError old new [] 4 statu
 WritesRunError old new error.ThreadRefused status = WritesError old new [] 4 status
 WritesRunError old new error.JournalDisagrees status = WritesError old new disagrees_line 1 status
 
--- a run on threads by this plan has a report, which is printed with the run's end, and it is kept; or why there is none is told
+-- a run on threads by this plan has a report, which is printed with the run's end, and it is kept; or why there is none
+-- is told
 abbrev pub WritesReport : Bool → Plan → Option (List ℕ) → Option (List ℕ) → ℕ → Option Kept → Type 0
 WritesReport journal plan old new status run =
-    ((e : End) × (J : List Entry) × (t : Totals) × (ws : List (List Entry × Totals)) × IsReport (limits_of plan) J t ws × PrintsOrStops journal e t J old new status × (run ≡ Some (kept J e plan)))
+    ((e : End) × (J : List Entry) × (t : Totals) × (ws : List (List Entry × Totals)) × IsReport (limits_of plan) J t ws
+    × PrintsOrStops journal e t J old new status × (run ≡ Some (kept J e plan)))
     ⊎ ((why : RunError) × WritesRunError old new why status × (run ≡ None))
 
 -- a first part of what is printed of a report, or of the line where there is none, was written, and not all of it
 abbrev pub PartOfReport : Bool → BookLimits → Option (List ℕ) → Option (List ℕ) → Type 0
 PartOfReport journal limits old new =
-    ((e : End) × (J : List Entry) × (t : Totals) × (ws : List (List Entry × Totals)) × IsReport limits J t ws × WritesPart old new (shown journal e t J))
+    ((e : End) × (J : List Entry) × (t : Totals) × (ws : List (List Entry × Totals)) × IsReport limits J t ws
+    × WritesPart old new (shown journal e t J))
     ⊎ WritesPart old new disagrees_line
 
 abbrev pub WritesRun : Bool → Bool → Inputs → Option (List ℕ) → Option (List ℕ) → ℕ → Option Kept → Type 0
@@ -123,15 +130,19 @@ WritesRun false journal inputs old new status run = WritesRounds journal inputs.
 WritesRun true journal inputs old new status run = WritesReport journal inputs.plan old new status run
 
 -- what is printed of a run's texts, or of the first that is refused; a run is kept
-abbrev pub WritesInputs : Bool → Bool → Option (List ℕ) → Option (List ℕ) → ℕ → Option Kept → Result Inputs InputError → Type 0
+abbrev pub WritesInputs : Bool → Bool → Option (List ℕ) → Option (List ℕ) → ℕ → Option Kept → Result Inputs InputError
+    → Type 0
 WritesInputs threads journal old new status run (Ok inputs) = WritesRun threads journal inputs old new status run
-WritesInputs threads journal old new status run (Err e) = WritesError old new (input_line e) (input_status e) status × (run ≡ None)
+WritesInputs threads journal old new status run (Err e) = WritesError old new (input_line e) (input_status e) status
+    × (run ≡ None)
 
--- what was written is the line of the first text that is refused, in the order settings, faults, operator, or is of a run
--- within the settings' limits, on threads or on one, whose journal, end and plan are kept
-abbrev pub KeepsRun : List ℕ → List ℕ → List ℕ → Bool → Bool → Option (List ℕ) → Option (List ℕ) → ℕ → Option Kept → Type 0
+-- what was written is the line of the first text that is refused, in the order settings, faults, operator, or is of a
+-- run within the settings' limits, on threads or on one, whose journal, end and plan are kept
+abbrev pub KeepsRun : List ℕ → List ℕ → List ℕ → Bool → Bool → Option (List ℕ) → Option (List ℕ) → ℕ → Option Kept
+    → Type 0
 KeepsRun settings faults operator threads journal old new status run =
-    (inputs : Result Inputs InputError) × AreInputs settings faults operator inputs × WritesInputs threads journal old new status run inputs
+    (inputs : Result Inputs InputError) × AreInputs settings faults operator inputs
+    × WritesInputs threads journal old new status run inputs
 
 -- the same, and nothing is handed on
 abbrev pub TellsRun : List ℕ → List ℕ → List ℕ → Bool → Bool → Option (List ℕ) → Option (List ℕ) → ℕ → Type 0
@@ -149,4 +160,5 @@ PartOfInputs threads journal old new (Err e) = WritesPart old new (input_line e)
 -- a first part of what is printed of these texts was written, and not all of it
 abbrev pub TellsPart : List ℕ → List ℕ → List ℕ → Bool → Bool → Option (List ℕ) → Option (List ℕ) → Type 0
 TellsPart settings faults operator threads journal old new =
-    (inputs : Result Inputs InputError) × AreInputs settings faults operator inputs × PartOfInputs threads journal old new inputs
+    (inputs : Result Inputs InputError) × AreInputs settings faults operator inputs
+    × PartOfInputs threads journal old new inputs

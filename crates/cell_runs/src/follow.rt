@@ -1,4 +1,5 @@
-//! A run on one thread that follows a journal: for each of its entries the entry's actor alone acts, until he books one.
+//! A run on one thread that follows a journal: for each of its entries the entry's actor alone acts, until he books
+//! one.
 ghost use Rattle.std.specs.Prelude.{◌≡◌, ◌<◌, ◌+◌, ◌++◌, [], false, Some, IfOk, IfErr, option_to_list};
 ghost use Rattle.cell_types.specs.Entries.{actor_of};
 ghost use Rattle.cell_types.specs.declared.words.Machine.{Machine as MachineValue};
@@ -43,7 +44,8 @@ pub struct Following {
     pub followed: Followed,
 }
 
-// Turns of a machine, each at a reading of its port, until one books an entry, and at most the plan's. It answers the entry.
+// Turns of a machine, each at a reading of its port, until one books an entry, and at most the plan's. It answers the
+// entry.
 fn work<P: Port, O: OperatorPort, R: Run>(
     machine: Machine,
     ports: &mut Ports<P>,
@@ -54,10 +56,17 @@ fn work<P: Port, O: OperatorPort, R: Run>(
     requires { (m : MachineValue) → machine_of_watch (at cell.old.watches m) ≡ m }
     ensures machines { (m : MachineValue) → machine_of_watch (at cell.new.watches m) ≡ m }
     ensures limits { cell.new.kept.limits ≡ cell.old.kept.limits }
-    ensures works { IfOk result (λ booked. (minds : SixValue Mind) → FitAll cell.old.watches minds → Reaches (Acts cell.old.kept.limits plan.now (actors.Machine machine) (place (now cell.old.kept.entries minds) cell.old.script cell.old.lost) booked) cell.new.kept.entries cell.new.watches cell.new.script cell.new.lost) }
-    ensures grown { IfOk result (λ booked. (minds : SixValue Mind) → FitAll cell.old.watches minds → cell.new.kept.entries ≡ cell.old.kept.entries ++ option_to_list booked) }
-    ensures halts { IfErr result (λ e. (minds : SixValue Mind) → FitAll cell.old.watches minds → Halts cell.old.kept.limits plan.now (actors.Machine machine) (place (now cell.old.kept.entries minds) cell.old.script cell.old.lost) cell.new.kept.entries e) }
-    ensures unchanged { IfErr result (λ _. (minds : SixValue Mind) → FitAll cell.old.watches minds → cell.new.kept.entries ≡ cell.old.kept.entries) }
+    ensures works { IfOk result (λ booked. (minds : SixValue Mind) → FitAll cell.old.watches minds
+        → Reaches (Acts cell.old.kept.limits plan.now (actors.Machine machine)
+        (place (now cell.old.kept.entries minds) cell.old.script cell.old.lost) booked) cell.new.kept.entries
+        cell.new.watches cell.new.script cell.new.lost) }
+    ensures grown { IfOk result (λ booked. (minds : SixValue Mind) → FitAll cell.old.watches minds
+        → cell.new.kept.entries ≡ cell.old.kept.entries ++ option_to_list booked) }
+    ensures halts { IfErr result (λ e. (minds : SixValue Mind) → FitAll cell.old.watches minds
+        → Halts cell.old.kept.limits plan.now (actors.Machine machine)
+        (place (now cell.old.kept.entries minds) cell.old.script cell.old.lost) cell.new.kept.entries e) }
+    ensures unchanged { IfErr result (λ _. (minds : SixValue Mind) → FitAll cell.old.watches minds
+        → cell.new.kept.entries ≡ cell.old.kept.entries) }
 {
     let before = cell.kept.book().journal().len();
     for _turn in 0..plan.turns {
@@ -81,10 +90,17 @@ fn operate<P: Port, O: OperatorPort, R: Run>(
     requires { (m : MachineValue) → machine_of_watch (at cell.old.watches m) ≡ m }
     ensures machines { (m : MachineValue) → machine_of_watch (at cell.new.watches m) ≡ m }
     ensures limits { cell.new.kept.limits ≡ cell.old.kept.limits }
-    ensures operates { IfOk result (λ booked. (minds : SixValue Mind) → FitAll cell.old.watches minds → Reaches (Acts cell.old.kept.limits plan.now actors.Operator (place (now cell.old.kept.entries minds) cell.old.script cell.old.lost) booked) cell.new.kept.entries cell.new.watches cell.new.script cell.new.lost) }
-    ensures grown { IfOk result (λ booked. (minds : SixValue Mind) → FitAll cell.old.watches minds → cell.new.kept.entries ≡ cell.old.kept.entries ++ option_to_list booked) }
-    ensures halts { IfErr result (λ e. (minds : SixValue Mind) → FitAll cell.old.watches minds → Halts cell.old.kept.limits plan.now actors.Operator (place (now cell.old.kept.entries minds) cell.old.script cell.old.lost) cell.new.kept.entries e) }
-    ensures unchanged { IfErr result (λ _. (minds : SixValue Mind) → FitAll cell.old.watches minds → cell.new.kept.entries ≡ cell.old.kept.entries) }
+    ensures operates { IfOk result (λ booked. (minds : SixValue Mind) → FitAll cell.old.watches minds
+        → Reaches (Acts cell.old.kept.limits plan.now actors.Operator
+        (place (now cell.old.kept.entries minds) cell.old.script cell.old.lost) booked) cell.new.kept.entries
+        cell.new.watches cell.new.script cell.new.lost) }
+    ensures grown { IfOk result (λ booked. (minds : SixValue Mind) → FitAll cell.old.watches minds
+        → cell.new.kept.entries ≡ cell.old.kept.entries ++ option_to_list booked) }
+    ensures halts { IfErr result (λ e. (minds : SixValue Mind) → FitAll cell.old.watches minds
+        → Halts cell.old.kept.limits plan.now actors.Operator
+        (place (now cell.old.kept.entries minds) cell.old.script cell.old.lost) cell.new.kept.entries e) }
+    ensures unchanged { IfErr result (λ _. (minds : SixValue Mind) → FitAll cell.old.watches minds
+        → cell.new.kept.entries ≡ cell.old.kept.entries) }
 {
     let before = cell.kept.book().journal().len();
     act(ports, hands, cell, plan)?;
@@ -102,10 +118,17 @@ fn let_act<P: Port, O: OperatorPort, R: Run>(
     requires { (m : MachineValue) → machine_of_watch (at cell.old.watches m) ≡ m }
     ensures machines { (m : MachineValue) → machine_of_watch (at cell.new.watches m) ≡ m }
     ensures limits { cell.new.kept.limits ≡ cell.old.kept.limits }
-    ensures acts { IfOk result (λ booked. (minds : SixValue Mind) → FitAll cell.old.watches minds → Reaches (Acts cell.old.kept.limits plan.now (actor_of wanted.now) (place (now cell.old.kept.entries minds) cell.old.script cell.old.lost) booked) cell.new.kept.entries cell.new.watches cell.new.script cell.new.lost) }
-    ensures grown { IfOk result (λ booked. (minds : SixValue Mind) → FitAll cell.old.watches minds → cell.new.kept.entries ≡ cell.old.kept.entries ++ option_to_list booked) }
-    ensures halts { IfErr result (λ e. (minds : SixValue Mind) → FitAll cell.old.watches minds → Halts cell.old.kept.limits plan.now (actor_of wanted.now) (place (now cell.old.kept.entries minds) cell.old.script cell.old.lost) cell.new.kept.entries e) }
-    ensures unchanged { IfErr result (λ _. (minds : SixValue Mind) → FitAll cell.old.watches minds → cell.new.kept.entries ≡ cell.old.kept.entries) }
+    ensures acts { IfOk result (λ booked. (minds : SixValue Mind) → FitAll cell.old.watches minds
+        → Reaches (Acts cell.old.kept.limits plan.now (actor_of wanted.now)
+        (place (now cell.old.kept.entries minds) cell.old.script cell.old.lost) booked) cell.new.kept.entries
+        cell.new.watches cell.new.script cell.new.lost) }
+    ensures grown { IfOk result (λ booked. (minds : SixValue Mind) → FitAll cell.old.watches minds
+        → cell.new.kept.entries ≡ cell.old.kept.entries ++ option_to_list booked) }
+    ensures halts { IfErr result (λ e. (minds : SixValue Mind) → FitAll cell.old.watches minds
+        → Halts cell.old.kept.limits plan.now (actor_of wanted.now)
+        (place (now cell.old.kept.entries minds) cell.old.script cell.old.lost) cell.new.kept.entries e) }
+    ensures unchanged { IfErr result (λ _. (minds : SixValue Mind) → FitAll cell.old.watches minds
+        → cell.new.kept.entries ≡ cell.old.kept.entries) }
 {
     match actor_of(*wanted) {
         Actor::Machine(machine) => work(machine, ports, hands, cell, plan),
@@ -124,7 +147,8 @@ fn parted(number: u32, wanted: &Entry, booked: Option<Entry>) -> Followed
     }
 }
 
-// Follows one entry of a journal, of this number. The error is how the journal was followed where this entry wasn't booked.
+// Follows one entry of a journal, of this number. The error is how the journal was followed where this entry wasn't
+// booked.
 fn follow_entry<P: Port, O: OperatorPort, R: Run>(
     number: u32,
     wanted: &Entry,
@@ -136,8 +160,13 @@ fn follow_entry<P: Port, O: OperatorPort, R: Run>(
     requires { (m : MachineValue) → machine_of_watch (at cell.old.watches m) ≡ m }
     ensures machines { (m : MachineValue) → machine_of_watch (at cell.new.watches m) ≡ m }
     ensures limits { cell.new.kept.limits ≡ cell.old.kept.limits }
-    ensures acts { IfOk result (λ _. (minds : SixValue Mind) → FitAll cell.old.watches minds → Reaches (Acts cell.old.kept.limits plan.now (actor_of wanted.now) (place (now cell.old.kept.entries minds) cell.old.script cell.old.lost) (Some wanted.now)) cell.new.kept.entries cell.new.watches cell.new.script cell.new.lost) }
-    ensures ends { IfErr result (λ how. (minds : SixValue Mind) → FitAll cell.old.watches minds → EndsAt cell.old.kept.limits plan.now (place (now cell.old.kept.entries minds) cell.old.script cell.old.lost) number wanted.now cell.new.kept.entries how) }
+    ensures acts { IfOk result (λ _. (minds : SixValue Mind) → FitAll cell.old.watches minds
+        → Reaches (Acts cell.old.kept.limits plan.now (actor_of wanted.now)
+        (place (now cell.old.kept.entries minds) cell.old.script cell.old.lost) (Some wanted.now)) cell.new.kept.entries
+        cell.new.watches cell.new.script cell.new.lost) }
+    ensures ends { IfErr result (λ how. (minds : SixValue Mind) → FitAll cell.old.watches minds
+        → EndsAt cell.old.kept.limits plan.now (place (now cell.old.kept.entries minds) cell.old.script cell.old.lost)
+        number wanted.now cell.new.kept.entries how) }
 {
     match let_act(wanted, ports, hands, cell, plan) {
         Ok(Some(booked)) => {
@@ -164,7 +193,9 @@ fn follow_entries<P: Port, O: OperatorPort, R: Run>(
     requires { (m : MachineValue) → machine_of_watch (at cell.old.watches m) ≡ m }
     ensures machines { (m : MachineValue) → machine_of_watch (at cell.new.watches m) ≡ m }
     ensures limits { cell.new.kept.limits ≡ cell.old.kept.limits }
-    ensures ends { (minds : SixValue Mind) → FitAll cell.old.watches minds → Ends cell.old.kept.limits plan.now (place (now cell.old.kept.entries minds) cell.old.script cell.old.lost) journal.now.entries cell.new.kept.entries result }
+    ensures ends { (minds : SixValue Mind) → FitAll cell.old.watches minds
+        → Ends cell.old.kept.limits plan.now (place (now cell.old.kept.entries minds) cell.old.script cell.old.lost)
+        journal.now.entries cell.new.kept.entries result }
 {
     for i in 0..journal.len() {
         let wanted = journal.at(i);
@@ -175,9 +206,9 @@ fn follow_entries<P: Port, O: OperatorPort, R: Run>(
     Followed::Whole
 }
 
-/// Follows a journal over these ports on one thread: for each of its entries the entry's actor alone acts, until he books one.
-/// A machine takes turns at readings of its port, at most as many as the plan has; the operator does his next action, if there
-/// is one. It ends at the first entry in whose place another is booked, or none.
+/// Follows a journal over these ports on one thread: for each of its entries the entry's actor alone acts, until he
+/// books one. A machine takes turns at readings of its port, at most as many as the plan has; the operator does his
+/// next action, if there is one. It ends at the first entry in whose place another is booked, or none.
 pub fn follow_over<P: Port, O: OperatorPort, R: Run>(
     alloc: Global,
     book: Book,
@@ -192,7 +223,8 @@ pub fn follow_over<P: Port, O: OperatorPort, R: Run>(
     requires limits { book.limits ≡ R.limits }
     requires ledgers { AreBlank R.Run blanks }
     ensures limits { result.book.limits ≡ R.limits }
-    ensures followed { book.entries ≡ [] → IsFollowed R.limits plan.now script journal.now.entries result.book.entries result.followed }
+    ensures followed { book.entries ≡ [] → IsFollowed R.limits plan.now script journal.now.entries result.book.entries
+        result.followed }
 {
     let watches = Watches::start(&book);
     let (kept, shares) = Kept::<R>::new(book, blanks);

@@ -7,7 +7,8 @@ ghost use Rattle.cell_turns.specs.declared.plan.Plan.{Plan as PlanValue};
 ghost use Rattle.operator_desk.specs.declared.line.Line.{Line};
 ghost use Rattle.cell_runs.specs.Followed.{IsFollowed};
 ghost use Rattle.cell_runs.specs.Runs.{counts_after, kept, limits_of};
-ghost use Rattle.cell_runs.specs.Told.{PartOfFollowed, PrintsOrLacks, WritesFollowed, end_of, first_line, followed_status};
+ghost use Rattle.cell_runs.specs.Told.{PartOfFollowed, PrintsOrLacks, WritesFollowed, end_of, first_line};
+ghost use Rattle.cell_runs.specs.Told.{followed_status};
 
 use crate::follow::{Followed, Following};
 use crate::report::write_counts;
@@ -89,8 +90,10 @@ fn write_lines<W: Write>(
     writer: &mut WatchedWriter<'_, W>,
 ) -> Result<u8, WriteFault>
     ensures writer { IsSameWriter writer.old writer.new }
-    ensures whole { IfOk result (PrintsOrLacks (counts_after (first_line followed.now) totals) (followed_status followed.now) (bytes_held W.contents writer.old) (bytes_held W.contents writer.new)) }
-    ensures part { IsErr result → WritesPart (bytes_held W.contents writer.old) (bytes_held W.contents writer.new) (counts_after (first_line followed.now) totals) }
+    ensures whole { IfOk result (PrintsOrLacks (counts_after (first_line followed.now) totals)
+        (followed_status followed.now) (bytes_held W.contents writer.old) (bytes_held W.contents writer.new)) }
+    ensures part { IsErr result → WritesPart (bytes_held W.contents writer.old) (bytes_held W.contents writer.new)
+        (counts_after (first_line followed.now) totals) }
     ensures fault { IsErr result → has_refused writer.new ≡ true }
 {
     match *followed {
@@ -135,8 +138,10 @@ fn write_booked<W: Write>(
     writer: &mut WatchedWriter<'_, W>,
 ) -> Result<u8, WriteFault>
     ensures writer { IsSameWriter writer.old writer.new }
-    ensures whole { IfOk result (PrintsOrLacks (text_of journal.now.entries) (followed_status followed.now) (bytes_held W.contents writer.old) (bytes_held W.contents writer.new)) }
-    ensures part { IsErr result → WritesPart (bytes_held W.contents writer.old) (bytes_held W.contents writer.new) (text_of journal.now.entries) }
+    ensures whole { IfOk result (PrintsOrLacks (text_of journal.now.entries) (followed_status followed.now)
+        (bytes_held W.contents writer.old) (bytes_held W.contents writer.new)) }
+    ensures part { IsErr result → WritesPart (bytes_held W.contents writer.old) (bytes_held W.contents writer.new)
+        (text_of journal.now.entries) }
     ensures fault { IsErr result → has_refused writer.new ≡ true }
 {
     match write_journal_watched(alloc, journal, writer) {
@@ -146,8 +151,8 @@ fn write_booked<W: Write>(
     }
 }
 
-/// Writes how a journal was followed and what was counted, or with `alone` the text of what was booked alone, and gives the exit
-/// status.
+/// Writes how a journal was followed and what was counted, or with `alone` the text of what was booked alone, and gives
+/// the exit status.
 pub fn write_following<W: Write>(
     alloc: Global,
     following: &Following,
@@ -155,10 +160,14 @@ pub fn write_following<W: Write>(
     writer: &mut WatchedWriter<'_, W>,
 ) -> Result<u8, WriteFault>
     ensures writer { IsSameWriter writer.old writer.new }
-    ensures whole { IfOk result (λ status. (plan : PlanValue) (script : List Line) (journal : List EntryValue) → IsFollowed (limits_of plan) plan script journal following.now.book.entries following.now.followed
-        → WritesFollowed alone plan script journal (bytes_held W.contents writer.old) (bytes_held W.contents writer.new) status (Some (kept following.now.book.entries (end_of following.now.followed) plan))) }
-    ensures part { IsErr result → (plan : PlanValue) (script : List Line) (journal : List EntryValue) → IsFollowed (limits_of plan) plan script journal following.now.book.entries following.now.followed
-        → PartOfFollowed alone plan script journal (bytes_held W.contents writer.old) (bytes_held W.contents writer.new) }
+    ensures whole { IfOk result (λ status. (plan : PlanValue) (script : List Line) (journal : List EntryValue)
+        → IsFollowed (limits_of plan) plan script journal following.now.book.entries following.now.followed
+        → WritesFollowed alone plan script journal (bytes_held W.contents writer.old) (bytes_held W.contents writer.new)
+        status (Some (kept following.now.book.entries (end_of following.now.followed) plan))) }
+    ensures part { IsErr result → (plan : PlanValue) (script : List Line) (journal : List EntryValue)
+        → IsFollowed (limits_of plan) plan script journal following.now.book.entries following.now.followed
+        → PartOfFollowed alone plan script journal (bytes_held W.contents writer.old)
+        (bytes_held W.contents writer.new) }
     ensures fault { IsErr result → has_refused writer.new ≡ true }
 {
     let Following { book, followed } = following;

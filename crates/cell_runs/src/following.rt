@@ -5,7 +5,8 @@ ghost use Rattle.cell_audit.specs.Meaning.{Due, IsFault};
 ghost use Rattle.cell_audit.specs.Watched.{IsSameWriter, bytes_held, has_refused};
 ghost use Rattle.cell_runs.specs.Inputs.{WritesError};
 ghost use Rattle.cell_runs.specs.Runs.{kept_of};
-ghost use Rattle.cell_runs.specs.Told.{FollowsInputs, KeepsFollowed, PartOfFollowed, PartOfInputs, PartOfRefused, TellsFollowed, TellsPartFollowed, TellsRefused, WritesFollowed};
+ghost use Rattle.cell_runs.specs.Told.{FollowsInputs, KeepsFollowed, PartOfFollowed, PartOfInputs, PartOfRefused};
+ghost use Rattle.cell_runs.specs.Told.{TellsFollowed, TellsPartFollowed, TellsRefused, WritesFollowed};
 
 use crate::follow::Following;
 use crate::followed::{end_of, write_following};
@@ -31,8 +32,10 @@ fn write_followed<R: AllocGlobal + Wait, W: Write>(
     writer: &mut WatchedWriter<'_, W>,
 ) -> Result<(u8, Left), WriteFault>
     ensures writer { IsSameWriter writer.old writer.new }
-    ensures whole { IfOk result (λ told. WritesFollowed journal inputs.plan inputs.script followed.now.entries (bytes_held W.contents writer.old) (bytes_held W.contents writer.new) told.0 (kept_of told.1)) }
-    ensures part { IsErr result → PartOfFollowed journal inputs.plan inputs.script followed.now.entries (bytes_held W.contents writer.old) (bytes_held W.contents writer.new) }
+    ensures whole { IfOk result (λ told. WritesFollowed journal inputs.plan inputs.script followed.now.entries
+        (bytes_held W.contents writer.old) (bytes_held W.contents writer.new) told.0 (kept_of told.1)) }
+    ensures part { IsErr result → PartOfFollowed journal inputs.plan inputs.script followed.now.entries
+        (bytes_held W.contents writer.old) (bytes_held W.contents writer.new) }
     ensures fault { IsErr result → has_refused writer.new ≡ true }
 {
     let Inputs {
@@ -65,8 +68,9 @@ fn is_fault(why: AuditError) -> bool
     }
 }
 
-// Tells that a journal's text is refused or can't be read, for which an audit gave this error, and gives the exit status. The text
-// is audited again, with the same answer unless memory is refused. A reader of bytes at hand doesn't fail.
+// Tells that a journal's text is refused or can't be read, for which an audit gave this error, and gives the exit
+// status. The text is audited again, with the same answer unless memory is refused. A reader of bytes at hand doesn't
+// fail.
 fn tell_refused<W: Write>(
     alloc: Global,
     text: &[u8],
@@ -75,8 +79,11 @@ fn tell_refused<W: Write>(
 ) -> Result<u8, WriteFault>
     requires { IsFault (Err why) ⊎ Due (rows_of text.now) (Err why) }
     ensures writer { IsSameWriter writer.old writer.new }
-    ensures whole { IfOk result (λ status. TellsRefused text.now (bytes_held W.contents writer.old) (bytes_held W.contents writer.new) status ⊎ WritesError (bytes_held W.contents writer.old) (bytes_held W.contents writer.new) [] 4 status) }
-    ensures part { IsErr result → PartOfRefused text.now (bytes_held W.contents writer.old) (bytes_held W.contents writer.new) }
+    ensures whole { IfOk result (λ status. TellsRefused text.now (bytes_held W.contents writer.old)
+        (bytes_held W.contents writer.new) status
+        ⊎ WritesError (bytes_held W.contents writer.old) (bytes_held W.contents writer.new) [] 4 status) }
+    ensures part { IsErr result → PartOfRefused text.now (bytes_held W.contents writer.old)
+        (bytes_held W.contents writer.new) }
     ensures fault { IsErr result → has_refused writer.new ≡ true }
 {
     if is_fault(why) {
@@ -94,8 +101,10 @@ fn follow_text<R: AllocGlobal + Wait, W: Write>(
     writer: &mut WatchedWriter<'_, W>,
 ) -> Result<(u8, Left), WriteFault>
     ensures writer { IsSameWriter writer.old writer.new }
-    ensures whole { IfOk result (λ told. FollowsInputs text.now journal (bytes_held W.contents writer.old) (bytes_held W.contents writer.new) told.0 (kept_of told.1) (Ok inputs)) }
-    ensures part { IsErr result → PartOfInputs text.now journal (bytes_held W.contents writer.old) (bytes_held W.contents writer.new) (Ok inputs) }
+    ensures whole { IfOk result (λ told. FollowsInputs text.now journal (bytes_held W.contents writer.old)
+        (bytes_held W.contents writer.new) told.0 (kept_of told.1) (Ok inputs)) }
+    ensures part { IsErr result → PartOfInputs text.now journal (bytes_held W.contents writer.old)
+        (bytes_held W.contents writer.new) (Ok inputs) }
     ensures fault { IsErr result → has_refused writer.new ≡ true }
 {
     let alloc = rt.alloc();
@@ -108,8 +117,8 @@ fn follow_text<R: AllocGlobal + Wait, W: Write>(
     }
 }
 
-/// Follows a journal by its text and those of its run, as `follow_texts_kept` does, and writes what comes of it to a writer that
-/// notes whether a write of it was refused.
+/// Follows a journal by its text and those of its run, as `follow_texts_kept` does, and writes what comes of it to a
+/// writer that notes whether a write of it was refused.
 pub fn follow_texts_kept_watched<R: AllocGlobal + Wait, W: Write>(
     rt: &R,
     followed: &[u8],
@@ -121,8 +130,10 @@ pub fn follow_texts_kept_watched<R: AllocGlobal + Wait, W: Write>(
     writer: &mut WatchedWriter<'_, W>,
 ) -> Result<(u8, Left), WriteFault>
     ensures writer { IsSameWriter writer.old writer.new }
-    ensures whole { IfOk result (λ told. KeepsFollowed followed.now settings.now faults.now operator.now journal (bytes_held W.contents writer.old) (bytes_held W.contents writer.new) told.0 (kept_of told.1)) }
-    ensures part { IsErr result → TellsPartFollowed followed.now settings.now faults.now operator.now journal (bytes_held W.contents writer.old) (bytes_held W.contents writer.new) }
+    ensures whole { IfOk result (λ told. KeepsFollowed followed.now settings.now faults.now operator.now journal
+        (bytes_held W.contents writer.old) (bytes_held W.contents writer.new) told.0 (kept_of told.1)) }
+    ensures part { IsErr result → TellsPartFollowed followed.now settings.now faults.now operator.now journal
+        (bytes_held W.contents writer.old) (bytes_held W.contents writer.new) }
     // It answers that the writer failed only where a write was refused.
     ensures fault { IsErr result → has_refused writer.new ≡ true }
 {
@@ -135,18 +146,20 @@ pub fn follow_texts_kept_watched<R: AllocGlobal + Wait, W: Write>(
     }
 }
 
-/// Reads the texts of a run, the settings, the script of faults and the operator's script, and the text of a journal, and takes that
-/// run again on this thread, with motions that take so many readings: for each entry of the journal in order the entry's actor alone acts, until he books one. A machine
-/// takes turns at readings of its port, at most as many as the settings have; the operator does his next action, if there is one. It
-/// ends where all entries were booked, or at the first in whose place another one is booked, or none.
+/// Reads the texts of a run, the settings, the script of faults and the operator's script, and the text of a journal,
+/// and takes that run again on this thread, with motions that take so many readings: for each entry of the journal in
+/// order the entry's actor alone acts, until he books one. A machine takes turns at readings of its port, at most as
+/// many as the settings have; the operator does his next action, if there is one. It ends where all entries were
+/// booked, or at the first in whose place another one is booked, or none.
 ///
-/// The first text that is refused is told in one line, in the order settings, faults, operator, journal: the first three as by
-/// `run_texts`, the journal as by `audit_lines`, before anything runs. Else the line `followed` is written (status 0), `entry N: E
-/// in place of F` or `entry N: nothing in place of F` (1), where E and F are entries as in a journal's text, or `memory` (4), and then
-/// the lines `admitted`, `forged`, `quarantined` and `delivered`, each with its number, of what was booked; with `journal` its text
-/// alone. Where memory is refused before, nothing is written, status 4; where it is refused while something is written, a first
-/// part of that was, status 4. That `WriteFault` comes only where a refused write was noted is a clause of
-/// `follow_texts_kept_watched`, of which this is the case of a new writer that notes.
+/// The first text that is refused is told in one line, in the order settings, faults, operator, journal: the first
+/// three as by `run_texts`, the journal as by `audit_lines`, before anything runs. Else the line `followed` is written
+/// (status 0), `entry N: E in place of F` or `entry N: nothing in place of F` (1), where E and F are entries as in a
+/// journal's text, or `memory` (4), and then the lines `admitted`, `forged`, `quarantined` and `delivered`, each with
+/// its number, of what was booked; with `journal` its text alone. Where memory is refused before, nothing is written,
+/// status 4; where it is refused while something is written, a first part of that was, status 4. That `WriteFault`
+/// comes only where a refused write was noted is a clause of `follow_texts_kept_watched`, of which this is the case of
+/// a new writer that notes.
 ///
 /// It gives what was booked too, where the journal was followed, in place of a run; no limit is its end.
 pub fn follow_texts_kept<R: AllocGlobal + Wait, W: Write>(
@@ -160,9 +173,11 @@ pub fn follow_texts_kept<R: AllocGlobal + Wait, W: Write>(
     writer: &mut W,
 ) -> Result<(u8, Left), WriteFault>
     // The journal, the end and the plan are those of what was written.
-    ensures whole { IfOk result (λ told. KeepsFollowed followed.now settings.now faults.now operator.now journal (W.contents writer.old) (W.contents writer.new) told.0 (kept_of told.1)) }
+    ensures whole { IfOk result (λ told. KeepsFollowed followed.now settings.now faults.now operator.now journal
+        (W.contents writer.old) (W.contents writer.new) told.0 (kept_of told.1)) }
     // Where the writer failed, a first part of that was written.
-    ensures part { IsErr result → TellsPartFollowed followed.now settings.now faults.now operator.now journal (W.contents writer.old) (W.contents writer.new) }
+    ensures part { IsErr result → TellsPartFollowed followed.now settings.now faults.now operator.now journal
+        (W.contents writer.old) (W.contents writer.new) }
 {
     let mut writer = WatchedWriter::new(writer);
     follow_texts_kept_watched(
@@ -177,8 +192,8 @@ pub fn follow_texts_kept<R: AllocGlobal + Wait, W: Write>(
     )
 }
 
-/// Follows a journal by its text and those of its run, as `follow_texts_kept` does with motions as short as they can be, and gives
-/// the exit status alone.
+/// Follows a journal by its text and those of its run, as `follow_texts_kept` does with motions as short as they can
+/// be, and gives the exit status alone.
 pub fn follow_texts<R: AllocGlobal + Wait, W: Write>(
     rt: &R,
     followed: &[u8],
@@ -188,10 +203,13 @@ pub fn follow_texts<R: AllocGlobal + Wait, W: Write>(
     journal: bool,
     writer: &mut W,
 ) -> Result<u8, WriteFault>
-    // What is written is of the first text that is refused, or of the journal's being followed within the settings' limits.
-    ensures whole { IfOk result (TellsFollowed followed.now settings.now faults.now operator.now journal (W.contents writer.old) (W.contents writer.new)) }
+    // What is written is of the first text that is refused, or of the journal's being followed within the settings'
+    // limits.
+    ensures whole { IfOk result (TellsFollowed followed.now settings.now faults.now operator.now journal
+        (W.contents writer.old) (W.contents writer.new)) }
     // Where the writer failed, a first part of that was written.
-    ensures part { IsErr result → TellsPartFollowed followed.now settings.now faults.now operator.now journal (W.contents writer.old) (W.contents writer.new) }
+    ensures part { IsErr result → TellsPartFollowed followed.now settings.now faults.now operator.now journal
+        (W.contents writer.old) (W.contents writer.new) }
 {
     let (status, _kept) = follow_texts_kept(
         rt,

@@ -29,8 +29,8 @@ pub enum InputError {
     Operator(ScriptError),
 }
 
-/// Reads the settings, the script of faults and the operator's script, in this order. The error is that of the first text
-/// that is refused.
+/// Reads the settings, the script of faults and the operator's script, in this order. The error is that of the first
+/// text that is refused.
 pub fn read_inputs(
     alloc: Global,
     settings: &[u8],

@@ -1,4 +1,5 @@
-//! Runs of the simulated cell by their texts, in rounds on one thread or by workers on threads, and what is printed of them.
+//! Runs of the simulated cell by their texts, in rounds on one thread or by workers on threads, and what is printed of
+//! them.
 #![tactic(auto)]
 
 mod follow;

@@ -1,7 +1,8 @@
 //! What is printed of a text that is refused.
 ghost use Rattle.std.specs.Prelude.{◌≡◌, IfOk, IsErr, true};
 ghost use Rattle.cell_audit.specs.Watched.{IsSameWriter, WritesPart, bytes_held, has_refused};
-ghost use Rattle.cell_runs.specs.Inputs.{WritesError, fault_line, fault_status, input_line, input_status, script_line, script_status};
+ghost use Rattle.cell_runs.specs.Inputs.{WritesError, fault_line, fault_status, input_line, input_status, script_line};
+ghost use Rattle.cell_runs.specs.Inputs.{script_status};
 
 use crate::inputs::InputError;
 use cell_audit::{WatchedWriter, WriteFault};
@@ -17,8 +18,10 @@ fn write_fault_error<W: Write>(
     error: FaultError,
 ) -> Result<u8, WriteFault>
     ensures writer { IsSameWriter writer.old writer.new }
-    ensures whole { IfOk result (WritesError (bytes_held W.contents writer.old) (bytes_held W.contents writer.new) (fault_line error) (fault_status error)) }
-    ensures part { IsErr result → WritesPart (bytes_held W.contents writer.old) (bytes_held W.contents writer.new) (fault_line error) }
+    ensures whole { IfOk result (WritesError (bytes_held W.contents writer.old) (bytes_held W.contents writer.new)
+        (fault_line error) (fault_status error)) }
+    ensures part { IsErr result → WritesPart (bytes_held W.contents writer.old) (bytes_held W.contents writer.new)
+        (fault_line error) }
     ensures fault { IsErr result → has_refused writer.new ≡ true }
 {
     match error {
@@ -40,8 +43,10 @@ fn write_script_error<W: Write>(
     error: ScriptError,
 ) -> Result<u8, WriteFault>
     ensures writer { IsSameWriter writer.old writer.new }
-    ensures whole { IfOk result (WritesError (bytes_held W.contents writer.old) (bytes_held W.contents writer.new) (script_line error) (script_status error)) }
-    ensures part { IsErr result → WritesPart (bytes_held W.contents writer.old) (bytes_held W.contents writer.new) (script_line error) }
+    ensures whole { IfOk result (WritesError (bytes_held W.contents writer.old) (bytes_held W.contents writer.new)
+        (script_line error) (script_status error)) }
+    ensures part { IsErr result → WritesPart (bytes_held W.contents writer.old) (bytes_held W.contents writer.new)
+        (script_line error) }
     ensures fault { IsErr result → has_refused writer.new ≡ true }
 {
     match error {
@@ -63,8 +68,10 @@ pub fn refuse_input<W: Write>(
     error: InputError,
 ) -> Result<u8, WriteFault>
     ensures writer { IsSameWriter writer.old writer.new }
-    ensures whole { IfOk result (WritesError (bytes_held W.contents writer.old) (bytes_held W.contents writer.new) (input_line error) (input_status error)) }
-    ensures part { IsErr result → WritesPart (bytes_held W.contents writer.old) (bytes_held W.contents writer.new) (input_line error) }
+    ensures whole { IfOk result (WritesError (bytes_held W.contents writer.old) (bytes_held W.contents writer.new)
+        (input_line error) (input_status error)) }
+    ensures part { IsErr result → WritesPart (bytes_held W.contents writer.old) (bytes_held W.contents writer.new)
+        (input_line error) }
     ensures fault { IsErr result → has_refused writer.new ≡ true }
 {
     match error {

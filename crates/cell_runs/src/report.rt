@@ -7,7 +7,9 @@ ghost use Rattle.cell_turns.specs.declared.plan.Plan.{Plan as PlanValue};
 ghost use Rattle.cell_workers.specs.Report.{IsReport};
 ghost use Rattle.operator_desk.specs.declared.line.Line.{Line};
 ghost use Rattle.cell_runs.specs.Rounds.{IsRun};
-ghost use Rattle.cell_runs.specs.Runs.{PartOfReport, PartOfRounds, PrintsOrStops, WritesReport, WritesRounds, WritesRunError, counts_after, disagrees_line, kept, limits_of, shown, status_of, word_of};
+ghost use Rattle.cell_runs.specs.Runs.{PartOfReport, PartOfRounds, PrintsOrStops, WritesReport, WritesRounds};
+ghost use Rattle.cell_runs.specs.Runs.{WritesRunError, counts_after, disagrees_line, kept, limits_of, shown, status_of};
+ghost use Rattle.cell_runs.specs.Runs.{word_of};
 
 use crate::rounds::Outcome;
 use cell_audit::{WatchedWriter, WriteError, WriteFault, write_journal_watched};
@@ -50,8 +52,10 @@ pub(crate) fn write_counts<W: Write>(
     totals: Totals,
 ) -> Result<(), WriteFault>
     ensures writer { IsSameWriter writer.old writer.new }
-    ensures whole { OnOk result (Appends (bytes_held W.contents writer.old) (bytes_held W.contents writer.new) (counts_after first.now totals)) }
-    ensures part { IsErr result → WritesPart (bytes_held W.contents writer.old) (bytes_held W.contents writer.new) (counts_after first.now totals) }
+    ensures whole { OnOk result (Appends (bytes_held W.contents writer.old) (bytes_held W.contents writer.new)
+        (counts_after first.now totals)) }
+    ensures part { IsErr result → WritesPart (bytes_held W.contents writer.old) (bytes_held W.contents writer.new)
+        (counts_after first.now totals) }
     ensures fault { IsErr result → has_refused writer.new ≡ true }
 {
     let mut admitted = Buffer::new();
@@ -72,8 +76,8 @@ pub(crate) fn write_counts<W: Write>(
     ])
 }
 
-// Writes how a run ended and what it counted, or with `alone` its journal's text alone, and gives the exit status. Where
-// memory is refused on the way, a first part of the journal's text was written.
+// Writes how a run ended and what it counted, or with `alone` its journal's text alone, and gives the exit status.
+// Where memory is refused on the way, a first part of the journal's text was written.
 fn write_run<W: Write>(
     alloc: Global,
     end: End,
@@ -83,8 +87,10 @@ fn write_run<W: Write>(
     writer: &mut WatchedWriter<'_, W>,
 ) -> Result<u8, WriteFault>
     ensures writer { IsSameWriter writer.old writer.new }
-    ensures whole { IfOk result (PrintsOrStops alone end totals journal.now.entries (bytes_held W.contents writer.old) (bytes_held W.contents writer.new)) }
-    ensures part { IsErr result → WritesPart (bytes_held W.contents writer.old) (bytes_held W.contents writer.new) (shown alone end totals journal.now.entries) }
+    ensures whole { IfOk result (PrintsOrStops alone end totals journal.now.entries (bytes_held W.contents writer.old)
+        (bytes_held W.contents writer.new)) }
+    ensures part { IsErr result → WritesPart (bytes_held W.contents writer.old) (bytes_held W.contents writer.new)
+        (shown alone end totals journal.now.entries) }
     ensures fault { IsErr result → has_refused writer.new ≡ true }
 {
     if alone {
@@ -106,8 +112,13 @@ pub fn write_outcome<W: Write>(
     writer: &mut WatchedWriter<'_, W>,
 ) -> Result<u8, WriteFault>
     ensures writer { IsSameWriter writer.old writer.new }
-    ensures whole { IfOk result (λ status. (plan : PlanValue) (script : List Line) → IsRun (limits_of plan) plan script outcome.now.book.entries outcome.now.end → WritesRounds journal plan script (bytes_held W.contents writer.old) (bytes_held W.contents writer.new) status (Some (kept outcome.now.book.entries outcome.now.end plan))) }
-    ensures part { IsErr result → (plan : PlanValue) (script : List Line) → IsRun (limits_of plan) plan script outcome.now.book.entries outcome.now.end → PartOfRounds journal plan script (bytes_held W.contents writer.old) (bytes_held W.contents writer.new) }
+    ensures whole { IfOk result (λ status. (plan : PlanValue) (script : List Line)
+        → IsRun (limits_of plan) plan script outcome.now.book.entries outcome.now.end
+        → WritesRounds journal plan script (bytes_held W.contents writer.old) (bytes_held W.contents writer.new) status
+        (Some (kept outcome.now.book.entries outcome.now.end plan))) }
+    ensures part { IsErr result → (plan : PlanValue) (script : List Line)
+        → IsRun (limits_of plan) plan script outcome.now.book.entries outcome.now.end
+        → PartOfRounds journal plan script (bytes_held W.contents writer.old) (bytes_held W.contents writer.new) }
     ensures fault { IsErr result → has_refused writer.new ≡ true }
 {
     outcome.book.is_lawful();
@@ -129,8 +140,14 @@ pub fn write_report<W: Write>(
     writer: &mut WatchedWriter<'_, W>,
 ) -> Result<u8, WriteFault>
     ensures writer { IsSameWriter writer.old writer.new }
-    ensures whole { IfOk result (λ status. (plan : PlanValue) → IsReport (limits_of plan) report.now.journal.entries report.now.totals (map (λ w. (w.0.items, w.1)) report.now.workers) → WritesReport journal plan (bytes_held W.contents writer.old) (bytes_held W.contents writer.new) status (Some (kept report.now.journal.entries report.now.end plan))) }
-    ensures part { IsErr result → (limits : BookLimits) → IsReport limits report.now.journal.entries report.now.totals (map (λ w. (w.0.items, w.1)) report.now.workers) → PartOfReport journal limits (bytes_held W.contents writer.old) (bytes_held W.contents writer.new) }
+    ensures whole { IfOk result (λ status. (plan : PlanValue)
+        → IsReport (limits_of plan) report.now.journal.entries report.now.totals
+        (map (λ w. (w.0.items, w.1)) report.now.workers)
+        → WritesReport journal plan (bytes_held W.contents writer.old) (bytes_held W.contents writer.new) status
+        (Some (kept report.now.journal.entries report.now.end plan))) }
+    ensures part { IsErr result → (limits : BookLimits)
+        → IsReport limits report.now.journal.entries report.now.totals (map (λ w. (w.0.items, w.1)) report.now.workers)
+        → PartOfReport journal limits (bytes_held W.contents writer.old) (bytes_held W.contents writer.new) }
     ensures fault { IsErr result → has_refused writer.new ≡ true }
 {
     write_run(
@@ -143,15 +160,17 @@ pub fn write_report<W: Write>(
     )
 }
 
-/// Writes why there is no report of a run on threads, and gives the exit status: 4 and nothing, where memory or a thread was
-/// refused.
+/// Writes why there is no report of a run on threads, and gives the exit status: 4 and nothing, where memory or a
+/// thread was refused.
 pub fn write_run_error<W: Write>(
     writer: &mut WatchedWriter<'_, W>,
     error: RunError,
 ) -> Result<u8, WriteFault>
     ensures writer { IsSameWriter writer.old writer.new }
-    ensures whole { IfOk result (WritesRunError (bytes_held W.contents writer.old) (bytes_held W.contents writer.new) error) }
-    ensures part { IsErr result → WritesPart (bytes_held W.contents writer.old) (bytes_held W.contents writer.new) disagrees_line }
+    ensures whole { IfOk result (WritesRunError (bytes_held W.contents writer.old) (bytes_held W.contents writer.new)
+        error) }
+    ensures part { IsErr result → WritesPart (bytes_held W.contents writer.old) (bytes_held W.contents writer.new)
+        disagrees_line }
     ensures fault { IsErr result → has_refused writer.new ≡ true }
 {
     match error {

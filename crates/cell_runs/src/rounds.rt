@@ -8,7 +8,8 @@ ghost use Rattle.cell_turns.specs.Minds.{Mind, machine_of_watch};
 ghost use Rattle.cell_turns.specs.Six.{at};
 ghost use Rattle.cell_turns.specs.Schedules.{FitAll, now};
 ghost use Rattle.cell_workers.specs.Ends.{is_idle};
-ghost use Rattle.cell_runs.specs.Rounds.{Ended, EndsIn, IsRun, Operates, Reaches, Round, Stops, Takes, TakesTurns, machines, place, turn_of, turns_of};
+ghost use Rattle.cell_runs.specs.Rounds.{Ended, EndsIn, IsRun, Operates, Reaches, Round, Stops, Takes, TakesTurns};
+ghost use Rattle.cell_runs.specs.Rounds.{machines, place, turn_of, turns_of};
 ghost use Rattle.cell_ledger.specs.New.{AreBlank};
 
 use cell_ledger::{Blanks, Kept, Run, Shares};
@@ -54,10 +55,16 @@ pub(crate) fn take_step<P: Port, O: OperatorPort, R: Run>(
     ensures machines { (m : MachineValue) → machine_of_watch (at cell.new.watches m) ≡ m }
     ensures limits { cell.new.kept.limits ≡ cell.old.kept.limits }
     ensures same { (cell.new.script ≡ cell.old.script) × (cell.new.lost ≡ cell.old.lost) }
-    ensures took { IfOk result (λ _. (minds : SixValue Mind) → FitAll cell.old.watches minds → Takes cell.old.kept.limits plan.now (step ∷ []) (now cell.old.kept.entries minds) cell.new.kept.entries cell.new.watches) }
-    ensures booked { IfOk result (λ booked. (minds : SixValue Mind) → FitAll cell.old.watches minds → (e : EntryValue) → step ≡ steps.Hand e → cell.new.kept.entries ≡ cell.old.kept.entries ++ (if booked then e ∷ [] else [])) }
-    ensures stops { IfErr result (λ e. (minds : SixValue Mind) → FitAll cell.old.watches minds → Stops cell.old.kept.limits plan.now (turn_of step ∷ []) (now cell.old.kept.entries minds) cell.new.kept.entries e) }
-    ensures unchanged { IfErr result (λ _. (minds : SixValue Mind) → FitAll cell.old.watches minds → cell.new.kept.entries ≡ cell.old.kept.entries) }
+    ensures took { IfOk result (λ _. (minds : SixValue Mind) → FitAll cell.old.watches minds
+        → Takes cell.old.kept.limits plan.now (step ∷ []) (now cell.old.kept.entries minds) cell.new.kept.entries
+        cell.new.watches) }
+    ensures booked { IfOk result (λ booked. (minds : SixValue Mind) → FitAll cell.old.watches minds → (e : EntryValue)
+        → step ≡ steps.Hand e → cell.new.kept.entries ≡ cell.old.kept.entries ++ (if booked then e ∷ [] else [])) }
+    ensures stops { IfErr result (λ e. (minds : SixValue Mind) → FitAll cell.old.watches minds
+        → Stops cell.old.kept.limits plan.now (turn_of step ∷ []) (now cell.old.kept.entries minds)
+        cell.new.kept.entries e) }
+    ensures unchanged { IfErr result (λ _. (minds : SixValue Mind) → FitAll cell.old.watches minds
+        → cell.new.kept.entries ≡ cell.old.kept.entries) }
 {
     let taken = run_step(
         &step,
@@ -87,8 +94,12 @@ fn take_turns<P: Port, O: OperatorPort, R: Run>(
     ensures machines { (m : MachineValue) → machine_of_watch (at cell.new.watches m) ≡ m }
     ensures limits { cell.new.kept.limits ≡ cell.old.kept.limits }
     ensures same { (cell.new.script ≡ cell.old.script) × (cell.new.lost ≡ cell.old.lost) }
-    ensures turns { IfOk result (λ _. (minds : SixValue Mind) → FitAll cell.old.watches minds → TakesTurns cell.old.kept.limits plan.now machines (now cell.old.kept.entries minds) cell.new.kept.entries cell.new.watches) }
-    ensures stops { IfErr result (λ e. (minds : SixValue Mind) → FitAll cell.old.watches minds → Stops cell.old.kept.limits plan.now (turns_of machines) (now cell.old.kept.entries minds) cell.new.kept.entries e) }
+    ensures turns { IfOk result (λ _. (minds : SixValue Mind) → FitAll cell.old.watches minds
+        → TakesTurns cell.old.kept.limits plan.now machines (now cell.old.kept.entries minds) cell.new.kept.entries
+        cell.new.watches) }
+    ensures stops { IfErr result (λ e. (minds : SixValue Mind) → FitAll cell.old.watches minds
+        → Stops cell.old.kept.limits plan.now (turns_of machines) (now cell.old.kept.entries minds)
+        cell.new.kept.entries e) }
 {
     for machine in MACHINES {
         let reading = ports.pick(machine).read();
@@ -107,9 +118,14 @@ pub(crate) fn act<P: Port, O: OperatorPort, R: Run>(
     requires { (m : MachineValue) → machine_of_watch (at cell.old.watches m) ≡ m }
     ensures machines { (m : MachineValue) → machine_of_watch (at cell.new.watches m) ≡ m }
     ensures limits { cell.new.kept.limits ≡ cell.old.kept.limits }
-    ensures operates { IfOk result (λ _. (minds : SixValue Mind) → FitAll cell.old.watches minds → Reaches (Operates cell.old.kept.limits plan.now (place (now cell.old.kept.entries minds) cell.old.script cell.old.lost)) cell.new.kept.entries cell.new.watches cell.new.script cell.new.lost) }
-    ensures stops { IfErr result (λ e. (minds : SixValue Mind) → FitAll cell.old.watches minds → Stops cell.old.kept.limits plan.now (None ∷ []) (now cell.old.kept.entries minds) cell.new.kept.entries e) }
-    ensures unchanged { IfErr result (λ _. (minds : SixValue Mind) → FitAll cell.old.watches minds → cell.new.kept.entries ≡ cell.old.kept.entries) }
+    ensures operates { IfOk result (λ _. (minds : SixValue Mind) → FitAll cell.old.watches minds
+        → Reaches (Operates cell.old.kept.limits plan.now
+        (place (now cell.old.kept.entries minds) cell.old.script cell.old.lost)) cell.new.kept.entries cell.new.watches
+        cell.new.script cell.new.lost) }
+    ensures stops { IfErr result (λ e. (minds : SixValue Mind) → FitAll cell.old.watches minds
+        → Stops cell.old.kept.limits plan.now (None ∷ []) (now cell.old.kept.entries minds) cell.new.kept.entries e) }
+    ensures unchanged { IfErr result (λ _. (minds : SixValue Mind) → FitAll cell.old.watches minds
+        → cell.new.kept.entries ≡ cell.old.kept.entries) }
 {
     if cell.lost {
         return Ok(());
@@ -127,7 +143,8 @@ pub(crate) fn act<P: Port, O: OperatorPort, R: Run>(
 
 // Whether all machines are idle after a round that booked nothing.
 fn are_idle(book: &Book, watches: &Six<Watch>, plan: &Plan) -> bool
-    ensures { result ≡ true → (minds : SixValue Mind) → FitAll watches.now minds → (m : MachineValue) → is_idle book.now.entries m plan.now (at minds m) ≡ true }
+    ensures { result ≡ true → (minds : SixValue Mind) → FitAll watches.now minds → (m : MachineValue)
+        → is_idle book.now.entries m plan.now (at minds m) ≡ true }
 {
     is_idle(Machine::Feed, book, &watches.feed, plan)
         && (is_idle(Machine::Table, book, &watches.table, plan)
@@ -147,8 +164,13 @@ fn take_round<P: Port, O: OperatorPort, R: Run>(
     requires { (m : MachineValue) → machine_of_watch (at cell.old.watches m) ≡ m }
     ensures machines { (m : MachineValue) → machine_of_watch (at cell.new.watches m) ≡ m }
     ensures limits { cell.new.kept.limits ≡ cell.old.kept.limits }
-    ensures round { IfOk result (λ _. (minds : SixValue Mind) → FitAll cell.old.watches minds → Reaches (Round cell.old.kept.limits plan.now (place (now cell.old.kept.entries minds) cell.old.script cell.old.lost)) cell.new.kept.entries cell.new.watches cell.new.script cell.new.lost) }
-    ensures ends { IfErr result (λ e. (minds : SixValue Mind) → FitAll cell.old.watches minds → EndsIn cell.old.kept.limits plan.now (place (now cell.old.kept.entries minds) cell.old.script cell.old.lost) cell.new.kept.entries e) }
+    ensures round { IfOk result (λ _. (minds : SixValue Mind) → FitAll cell.old.watches minds
+        → Reaches (Round cell.old.kept.limits plan.now
+        (place (now cell.old.kept.entries minds) cell.old.script cell.old.lost)) cell.new.kept.entries cell.new.watches
+        cell.new.script cell.new.lost) }
+    ensures ends { IfErr result (λ e. (minds : SixValue Mind) → FitAll cell.old.watches minds
+        → EndsIn cell.old.kept.limits plan.now (place (now cell.old.kept.entries minds) cell.old.script cell.old.lost)
+        cell.new.kept.entries e) }
 {
     let before = cell.kept.book().journal().len();
     take_turns(ports, hands, cell, plan)?;
@@ -170,7 +192,9 @@ fn run_rounds<P: Port, O: OperatorPort, R: Run>(
     requires { (m : MachineValue) → machine_of_watch (at cell.old.watches m) ≡ m }
     ensures machines { (m : MachineValue) → machine_of_watch (at cell.new.watches m) ≡ m }
     ensures limits { cell.new.kept.limits ≡ cell.old.kept.limits }
-    ensures ended { (minds : SixValue Mind) → FitAll cell.old.watches minds → Ended cell.old.kept.limits plan.now (place (now cell.old.kept.entries minds) cell.old.script cell.old.lost) cell.new.kept.entries result }
+    ensures ended { (minds : SixValue Mind) → FitAll cell.old.watches minds
+        → Ended cell.old.kept.limits plan.now (place (now cell.old.kept.entries minds) cell.old.script cell.old.lost)
+        cell.new.kept.entries result }
 {
     for _round in 0..plan.turns {
         if let Err(end) = take_round(ports, hands, cell, plan) {

@@ -27,8 +27,8 @@ fn empty_book(alloc: Global, plan: &Plan) -> Result<Book, AllocError>
     }
 }
 
-/// Runs the simulated cell over a world on one thread, in rounds, with these hands of the operator. The error is that the
-/// book's memory was refused.
+/// Runs the simulated cell over a world on one thread, in rounds, with these hands of the operator. The error is that
+/// the book's memory was refused.
 pub fn simulate<R: AllocGlobal + Wait, O: OperatorPort>(
     rt: &R,
     plan: &Plan,
@@ -46,8 +46,8 @@ pub fn simulate<R: AllocGlobal + Wait, O: OperatorPort>(
     Ok(run_over::<_, _, Brand>(alloc, book, Blanks::new(1), &mut ports, hands, script, plan))
 }
 
-/// Follows a journal over a world of the simulated cell on one thread, with these hands of the operator: for each of its entries the
-/// entry's actor alone acts, until he books one. The error is that the book's memory was refused.
+/// Follows a journal over a world of the simulated cell on one thread, with these hands of the operator: for each of
+/// its entries the entry's actor alone acts, until he books one. The error is that the book's memory was refused.
 pub fn follow_journal<R: AllocGlobal + Wait, O: OperatorPort>(
     rt: &R,
     plan: &Plan,
@@ -58,7 +58,8 @@ pub fn follow_journal<R: AllocGlobal + Wait, O: OperatorPort>(
     journal: &Journal,
 ) -> Result<Following, AllocError>
     ensures limits { IfOk result (λ following. following.book.limits ≡ limits_of plan.now) }
-    ensures followed { IfOk result (λ following. IsFollowed (limits_of plan.now) plan.now script journal.now.entries following.book.entries following.followed) }
+    ensures followed { IfOk result (λ following. IsFollowed (limits_of plan.now) plan.now script journal.now.entries
+        following.book.entries following.followed) }
 {
     let alloc = rt.alloc();
     let book = empty_book(alloc, plan)?;

@@ -1,7 +1,8 @@
 //! A run by its texts.
 ghost use Rattle.std.specs.Prelude.{◌≡◌, ◌↔◌, IfOk, IsErr, None, true};
 ghost use Rattle.cell_audit.specs.Watched.{IsSameWriter, bytes_held, has_refused};
-ghost use Rattle.cell_runs.specs.Runs.{KeepsRun, LacksThread, PartOfReport, PartOfRounds, TellsPart, TellsRun, WritesReport, WritesRounds, kept_of, limits_of};
+ghost use Rattle.cell_runs.specs.Runs.{KeepsRun, LacksThread, PartOfReport, PartOfRounds, TellsPart, TellsRun};
+ghost use Rattle.cell_runs.specs.Runs.{WritesReport, WritesRounds, kept_of, limits_of};
 
 use crate::inputs::{Inputs, read_inputs};
 use crate::refused::refuse_input;
@@ -34,8 +35,8 @@ pub enum Left {
     Run(KeptRun),
     /// No run, since no thread could be started for a worker.
     NoThread,
-    /// No run: a text is refused, memory was refused before there was one, or an actor's entries in its journal aren't its
-    /// worker's.
+    /// No run: a text is refused, memory was refused before there was one, or an actor's entries in its journal aren't
+    /// its worker's.
     Nothing,
 }
 
@@ -58,9 +59,12 @@ fn write_rounds<R: AllocGlobal + Wait, W: Write>(
     writer: &mut WatchedWriter<'_, W>,
 ) -> Result<(u8, Left), WriteFault>
     ensures writer { IsSameWriter writer.old writer.new }
-    ensures whole { IfOk result (λ ran. WritesRounds journal inputs.plan inputs.script (bytes_held W.contents writer.old) (bytes_held W.contents writer.new) ran.0 (kept_of ran.1)) }
-    ensures thread { IfOk result (λ ran. LacksThread ran.1 (bytes_held W.contents writer.old) (bytes_held W.contents writer.new) ran.0) }
-    ensures part { IsErr result → PartOfRounds journal inputs.plan inputs.script (bytes_held W.contents writer.old) (bytes_held W.contents writer.new) }
+    ensures whole { IfOk result (λ ran. WritesRounds journal inputs.plan inputs.script
+        (bytes_held W.contents writer.old) (bytes_held W.contents writer.new) ran.0 (kept_of ran.1)) }
+    ensures thread { IfOk result (λ ran. LacksThread ran.1 (bytes_held W.contents writer.old)
+        (bytes_held W.contents writer.new) ran.0) }
+    ensures part { IsErr result → PartOfRounds journal inputs.plan inputs.script (bytes_held W.contents writer.old)
+        (bytes_held W.contents writer.new) }
     ensures fault { IsErr result → has_refused writer.new ≡ true }
 {
     let Inputs {
@@ -90,9 +94,12 @@ fn write_threads<R: AllocGlobal + Threads + Wait + Sync, W: Write>(
     writer: &mut WatchedWriter<'_, W>,
 ) -> Result<(u8, Left), WriteFault>
     ensures writer { IsSameWriter writer.old writer.new }
-    ensures whole { IfOk result (λ ran. WritesReport journal inputs.plan (bytes_held W.contents writer.old) (bytes_held W.contents writer.new) ran.0 (kept_of ran.1)) }
-    ensures thread { IfOk result (λ ran. LacksThread ran.1 (bytes_held W.contents writer.old) (bytes_held W.contents writer.new) ran.0) }
-    ensures part { IsErr result → PartOfReport journal (limits_of inputs.plan) (bytes_held W.contents writer.old) (bytes_held W.contents writer.new) }
+    ensures whole { IfOk result (λ ran. WritesReport journal inputs.plan (bytes_held W.contents writer.old)
+        (bytes_held W.contents writer.new) ran.0 (kept_of ran.1)) }
+    ensures thread { IfOk result (λ ran. LacksThread ran.1 (bytes_held W.contents writer.old)
+        (bytes_held W.contents writer.new) ran.0) }
+    ensures part { IsErr result → PartOfReport journal (limits_of inputs.plan) (bytes_held W.contents writer.old)
+        (bytes_held W.contents writer.new) }
     ensures fault { IsErr result → has_refused writer.new ≡ true }
 {
     let Inputs {
@@ -115,8 +122,8 @@ fn write_threads<R: AllocGlobal + Threads + Wait + Sync, W: Write>(
     }
 }
 
-/// Runs the simulated cell by its texts, as `run_texts_kept` does, and writes what comes of it to a writer that notes whether
-/// a write of it was refused.
+/// Runs the simulated cell by its texts, as `run_texts_kept` does, and writes what comes of it to a writer that notes
+/// whether a write of it was refused.
 pub fn run_texts_kept_watched<R: AllocGlobal + Threads + Wait + Sync, W: Write>(
     rt: &R,
     settings: &[u8],
@@ -128,9 +135,12 @@ pub fn run_texts_kept_watched<R: AllocGlobal + Threads + Wait + Sync, W: Write>(
     writer: &mut WatchedWriter<'_, W>,
 ) -> Result<(u8, Left), WriteFault>
     ensures writer { IsSameWriter writer.old writer.new }
-    ensures whole { IfOk result (λ ran. KeepsRun settings.now faults.now operator.now threads journal (bytes_held W.contents writer.old) (bytes_held W.contents writer.new) ran.0 (kept_of ran.1)) }
-    ensures thread { IfOk result (λ ran. LacksThread ran.1 (bytes_held W.contents writer.old) (bytes_held W.contents writer.new) ran.0) }
-    ensures part { IsErr result → TellsPart settings.now faults.now operator.now threads journal (bytes_held W.contents writer.old) (bytes_held W.contents writer.new) }
+    ensures whole { IfOk result (λ ran. KeepsRun settings.now faults.now operator.now threads journal
+        (bytes_held W.contents writer.old) (bytes_held W.contents writer.new) ran.0 (kept_of ran.1)) }
+    ensures thread { IfOk result (λ ran. LacksThread ran.1 (bytes_held W.contents writer.old)
+        (bytes_held W.contents writer.new) ran.0) }
+    ensures part { IsErr result → TellsPart settings.now faults.now operator.now threads journal
+        (bytes_held W.contents writer.old) (bytes_held W.contents writer.new) }
     // It answers that the writer failed only where a write was refused.
     ensures fault { IsErr result → has_refused writer.new ≡ true }
 {
@@ -147,8 +157,8 @@ pub fn run_texts_kept_watched<R: AllocGlobal + Threads + Wait + Sync, W: Write>(
     }
 }
 
-/// Runs the simulated cell by its texts, as `run_texts` does, and writes what comes of it to a writer that notes whether a
-/// write of it was refused.
+/// Runs the simulated cell by its texts, as `run_texts` does, and writes what comes of it to a writer that notes
+/// whether a write of it was refused.
 pub fn run_texts_watched<R: AllocGlobal + Threads + Wait + Sync, W: Write>(
     rt: &R,
     settings: &[u8],
@@ -159,8 +169,10 @@ pub fn run_texts_watched<R: AllocGlobal + Threads + Wait + Sync, W: Write>(
     writer: &mut WatchedWriter<'_, W>,
 ) -> Result<u8, WriteFault>
     ensures writer { IsSameWriter writer.old writer.new }
-    ensures whole { IfOk result (TellsRun settings.now faults.now operator.now threads journal (bytes_held W.contents writer.old) (bytes_held W.contents writer.new)) }
-    ensures part { IsErr result → TellsPart settings.now faults.now operator.now threads journal (bytes_held W.contents writer.old) (bytes_held W.contents writer.new) }
+    ensures whole { IfOk result (TellsRun settings.now faults.now operator.now threads journal
+        (bytes_held W.contents writer.old) (bytes_held W.contents writer.new)) }
+    ensures part { IsErr result → TellsPart settings.now faults.now operator.now threads journal
+        (bytes_held W.contents writer.old) (bytes_held W.contents writer.new) }
     // It answers that the writer failed only where a write was refused.
     ensures fault { IsErr result → has_refused writer.new ≡ true }
 {
@@ -177,9 +189,9 @@ pub fn run_texts_watched<R: AllocGlobal + Threads + Wait + Sync, W: Write>(
     Ok(status)
 }
 
-/// Reads the texts of a run, the settings, the script of faults and the operator's script, runs the simulated cell, writes
-/// what comes of it, and gives the exit status. With `threads` each machine's worker and the operator's run on threads of
-/// their own; else all take turns in rounds on this one.
+/// Reads the texts of a run, the settings, the script of faults and the operator's script, runs the simulated cell,
+/// writes what comes of it, and gives the exit status. With `threads` each machine's worker and the operator's run on
+/// threads of their own; else all take turns in rounds on this one.
 ///
 /// The first text that is refused, in that order, is told in one line: `settings` as by `check_lines`, `faults
 /// unreadable I`, `faults too long`, `operator unreadable I` or `operator too long`, status 1. A run gives the line
@@ -187,8 +199,8 @@ pub fn run_texts_watched<R: AllocGlobal + Threads + Wait + Sync, W: Write>(
 /// `quarantined` and `delivered`, each with its number; with `journal` its journal's text alone. On threads the line
 /// `journal disagrees` (1) is told alone where an actor's entries in the journal aren't its worker's. Where memory is
 /// refused before the run, or a thread, nothing is written, status 4; where it is refused while the journal's text is
-/// written, a first part of that text was, status 4. That `WriteFault` comes only where a refused write was noted is a clause
-/// of `run_texts_watched`, of which this is the case of a new writer that notes.
+/// written, a first part of that text was, status 4. That `WriteFault` comes only where a refused write was noted is a
+/// clause of `run_texts_watched`, of which this is the case of a new writer that notes.
 ///
 /// On threads no clause says that a run which is told as `finished` is.
 pub fn run_texts<R: AllocGlobal + Threads + Wait + Sync, W: Write>(
@@ -201,9 +213,11 @@ pub fn run_texts<R: AllocGlobal + Threads + Wait + Sync, W: Write>(
     writer: &mut W,
 ) -> Result<u8, WriteFault>
     // What is written is of the first text that is refused, or of a run within the settings' limits.
-    ensures whole { IfOk result (TellsRun settings.now faults.now operator.now threads journal (W.contents writer.old) (W.contents writer.new)) }
+    ensures whole { IfOk result (TellsRun settings.now faults.now operator.now threads journal (W.contents writer.old)
+        (W.contents writer.new)) }
     // Where the writer failed, a first part of that was written.
-    ensures part { IsErr result → TellsPart settings.now faults.now operator.now threads journal (W.contents writer.old) (W.contents writer.new) }
+    ensures part { IsErr result → TellsPart settings.now faults.now operator.now threads journal (W.contents writer.old)
+        (W.contents writer.new) }
 {
     let mut writer = WatchedWriter::new(writer);
     run_texts_watched(
@@ -217,9 +231,9 @@ pub fn run_texts<R: AllocGlobal + Threads + Wait + Sync, W: Write>(
     )
 }
 
-/// Runs the simulated cell by its texts, as `run_texts` does, with motions that take so many readings, and gives besides the exit
-/// status what the run left: its journal, its end and its plan, where no text is refused, and memory and threads are to be had. It
-/// is `run_texts_kept_watched` over a new writer that notes.
+/// Runs the simulated cell by its texts, as `run_texts` does, with motions that take so many readings, and gives
+/// besides the exit status what the run left: its journal, its end and its plan, where no text is refused, and memory
+/// and threads are to be had. It is `run_texts_kept_watched` over a new writer that notes.
 pub fn run_texts_kept<R: AllocGlobal + Threads + Wait + Sync, W: Write>(
     rt: &R,
     settings: &[u8],
@@ -231,10 +245,12 @@ pub fn run_texts_kept<R: AllocGlobal + Threads + Wait + Sync, W: Write>(
     writer: &mut W,
 ) -> Result<(u8, Left), WriteFault>
     // The journal, the end and the plan are those of the run which was written.
-    ensures whole { IfOk result (λ ran. KeepsRun settings.now faults.now operator.now threads journal (W.contents writer.old) (W.contents writer.new) ran.0 (kept_of ran.1)) }
+    ensures whole { IfOk result (λ ran. KeepsRun settings.now faults.now operator.now threads journal
+        (W.contents writer.old) (W.contents writer.new) ran.0 (kept_of ran.1)) }
     // That a thread could not be started is told only where nothing was written, with status 4.
     ensures thread { IfOk result (λ ran. LacksThread ran.1 (W.contents writer.old) (W.contents writer.new) ran.0) }
-    ensures part { IsErr result → TellsPart settings.now faults.now operator.now threads journal (W.contents writer.old) (W.contents writer.new) }
+    ensures part { IsErr result → TellsPart settings.now faults.now operator.now threads journal (W.contents writer.old)
+        (W.contents writer.new) }
 {
     let mut writer = WatchedWriter::new(writer);
     run_texts_kept_watched(

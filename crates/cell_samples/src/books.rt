@@ -3,7 +3,8 @@ use crate::records::{ONE_PLATE, entry_of};
 use plate_book::Book;
 use std::alloc::Global;
 
-/// Books the entries of these records. The first record that isn't one, or whose entry is refused, is the error, and ends it.
+/// Books the entries of these records. The first record that isn't one, or whose entry is refused, is the error, and
+/// ends it.
 pub fn book_all<'a>(book: &mut Book, records: &[&'a str]) -> Result<(), &'a str> {
     for record in records {
         let entry = entry_of(record).ok_or(*record)?;
@@ -12,8 +13,8 @@ pub fn book_all<'a>(book: &mut Book, records: &[&'a str]) -> Result<(), &'a str>
     Ok(())
 }
 
-/// A book that takes so many entries of so many plates, with the first entries of the journal of one plate. The error is a
-/// record that is refused, or tells that there is no such book.
+/// A book that takes so many entries of so many plates, with the first entries of the journal of one plate. The error
+/// is a record that is refused, or tells that there is no such book.
 pub fn begun(
     alloc: Global,
     limit: u32,

@@ -1,6 +1,6 @@
 //! Samples for the test crates: the journals of one plate and of a plate that is laid back, entries and books by their
-//! records, scripts, readers and writers that fail, are slow or are interrupted, all that a book tells, and marks around a
-//! call. No test stands here, and no crate but the test crates uses it.
+//! records, scripts, readers and writers that fail, are slow or are interrupted, all that a book tells, and marks
+//! around a call. No test stands here, and no crate but the test crates uses it.
 #![tactic(auto)]
 
 mod books;

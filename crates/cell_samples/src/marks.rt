@@ -1,5 +1,6 @@
-//! Marks around a call whose memory may be refused. A mark is an allocation of a size that nothing else asks for. A library
-//! below the program sees it and refuses memory between two marks (docs/HOSTILE.md); elsewhere a mark does nothing.
+//! Marks around a call whose memory may be refused. A mark is an allocation of a size that nothing else asks for. A
+//! library below the program sees it and refuses memory between two marks (docs/HOSTILE.md); elsewhere a mark does
+//! nothing.
 use std::alloc::{AllocError, Global};
 
 const BEGIN: usize = 770_001;

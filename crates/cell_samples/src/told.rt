@@ -7,7 +7,8 @@ use cell_types::{
 use plate_book::Book;
 use std::alloc::{AllocError, Global};
 
-/// What a book tells beside its lists, each part in the order of the cell's words. Places are told of the first three plates.
+/// What a book tells beside its lists, each part in the order of the cell's words. Places are told of the first three
+/// plates.
 #[derive(Clone, Copy, PartialEq, Eq, Debug)]
 struct Reads {
     plates: [Option<PlateId>; 9],

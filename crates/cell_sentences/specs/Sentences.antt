@@ -3,11 +3,19 @@ use Rattle.std.specs.Prelude.{ℕ, List, ◌++◌, codes, decimal}
 use Rattle.cell_types.specs.declared.words.Actor.{Actor}
 use Rattle.cell_types.specs.declared.words.Actor.TheVariants as actor
 use Rattle.cell_types.specs.declared.words.Entry.{Entry}
-use Rattle.cell_types.specs.declared.words.Entry.TheVariants.{Lamp, Admitted, Claimed, Yielded, Started, Arrived, Conveyed, Forged, Gripped, Dropped, Delivered, Declared, StopAsked, Quarantined, Repaired, Expected, Reinstated}
+use Rattle.cell_types.specs.declared.words.Entry.TheVariants.{Lamp, Admitted, Claimed, Yielded, Started, Arrived}
+use Rattle.cell_types.specs.declared.words.Entry.TheVariants.{Conveyed, Forged, Gripped, Dropped, Delivered, Declared}
+use Rattle.cell_types.specs.declared.words.Entry.TheVariants.{StopAsked, Quarantined, Repaired, Expected, Reinstated}
 use Rattle.cell_types.specs.Entries.{actor_of}
 use Rattle.plate_book.specs.declared.refusal.Refusal.{Refusal}
-use Rattle.plate_book.specs.declared.refusal.Refusal.TheVariants.{JournalFull, PlateLimit, MachineFailed, MachineHealthy, OwnerFailed, WrongPose, ZoneTaken, NotHolder, NotNeighbour, StationEmpty, StationFull, WrongPlate, LampRed, LampAlready, NoPress, AlreadyAsked, PlateStillThere, PlateExpected, NotReturnable, OutOfMemory}
-use Rattle.cell_sentences.specs.Names.{machine_name, the_machine, station_name, axis_name, axis_of_its_machine, way_to_pose, zone_name, arm_name, light_name, colour_name, cause_name}
+use Rattle.plate_book.specs.declared.refusal.Refusal.TheVariants.{JournalFull, PlateLimit, MachineFailed}
+use Rattle.plate_book.specs.declared.refusal.Refusal.TheVariants.{MachineHealthy, OwnerFailed, WrongPose, ZoneTaken}
+use Rattle.plate_book.specs.declared.refusal.Refusal.TheVariants.{NotHolder, NotNeighbour, StationEmpty, StationFull}
+use Rattle.plate_book.specs.declared.refusal.Refusal.TheVariants.{WrongPlate, LampRed, LampAlready, NoPress}
+use Rattle.plate_book.specs.declared.refusal.Refusal.TheVariants.{AlreadyAsked, PlateStillThere, PlateExpected}
+use Rattle.plate_book.specs.declared.refusal.Refusal.TheVariants.{NotReturnable, OutOfMemory}
+use Rattle.cell_sentences.specs.Names.{machine_name, the_machine, station_name, axis_name, axis_of_its_machine}
+use Rattle.cell_sentences.specs.Names.{way_to_pose, zone_name, arm_name, light_name, colour_name, cause_name}
 
 -- who books an entry
 abbrev pub actor_name : Actor → List ℕ
@@ -33,7 +41,8 @@ deed (Dropped arm plate dest) = arm_name arm ++ codes " drops " ++ plate_name pl
 deed (Delivered plate) = plate_name plate ++ codes " leaves the cell"
 deed (Declared m cause) = codes "is declared failed, since " ++ cause_name cause
 deed (StopAsked m) = codes "asks " ++ the_machine m ++ codes " to stop"
-deed (Quarantined plate src) = codes "takes " ++ plate_name plate ++ codes " from " ++ station_name src ++ codes " into quarantine"
+deed (Quarantined plate src) = codes "takes " ++ plate_name plate ++ codes " from " ++ station_name src
+    ++ codes " into quarantine"
 deed (Repaired m) = the_machine m ++ codes " is repaired"
 deed (Expected plate) = plate_name plate ++ codes " is expected back"
 deed (Reinstated plate) = plate_name plate ++ codes " is laid back"
@@ -48,12 +57,14 @@ entry_deed (Started axis to) = codes "sent " ++ (axis_name axis ++ (codes " " ++
 entry_deed (Arrived axis at) = codes "brought " ++ (axis_name axis ++ (codes " " ++ way_to_pose at))
 entry_deed (Conveyed axis plate dest) = codes "brought " ++ (plate_name plate ++ (codes " to " ++ station_name dest))
 entry_deed (Forged press plate) = codes "forged " ++ (plate_name plate ++ (codes " in " ++ the_machine press))
-entry_deed (Gripped arm plate src) = codes "gripped " ++ (plate_name plate ++ (codes " at " ++ (station_name src ++ (codes " with " ++ arm_name arm))))
+entry_deed (Gripped arm plate src) = codes "gripped "
+    ++ (plate_name plate ++ (codes " at " ++ (station_name src ++ (codes " with " ++ arm_name arm))))
 entry_deed (Dropped arm plate dest) = codes "dropped " ++ (plate_name plate ++ (codes " at " ++ station_name dest))
 entry_deed (Delivered plate) = codes "delivered " ++ plate_name plate
 entry_deed (Declared m cause) = codes "declared " ++ (the_machine m ++ codes " failed")
 entry_deed (StopAsked m) = codes "asked " ++ (the_machine m ++ codes " to stop")
-entry_deed (Quarantined plate src) = codes "took " ++ (plate_name plate ++ (codes " from " ++ (station_name src ++ codes " into quarantine")))
+entry_deed (Quarantined plate src) = codes "took "
+    ++ (plate_name plate ++ (codes " from " ++ (station_name src ++ codes " into quarantine")))
 entry_deed (Repaired m) = codes "repaired " ++ the_machine m
 entry_deed (Expected plate) = codes "expected " ++ (plate_name plate ++ codes " back")
 entry_deed (Reinstated plate) = codes "laid " ++ (plate_name plate ++ codes " back")

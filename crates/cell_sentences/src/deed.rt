@@ -22,14 +22,12 @@ impl fmt::Display for EntryDeed {
                 write!(f, "turned {} {}", light_name(belt), colour_name(colour))
             }
             Entry::Admitted { plate } => write!(f, "admitted {}", PlateName(plate)),
-            Entry::Claimed { machine, zone } => {
-                write!(
-                    f,
-                    "claimed {} for {}",
-                    zone_name(zone),
-                    the_machine(machine)
-                )
-            }
+            Entry::Claimed { machine, zone } => write!(
+                f,
+                "claimed {} for {}",
+                zone_name(zone),
+                the_machine(machine)
+            ),
             Entry::Yielded { zone, .. } => write!(f, "gave up {}", zone_name(zone)),
             Entry::Started { axis, to } => {
                 write!(f, "sent {} {}", axis_name(axis), way_to_pose(to))

@@ -67,24 +67,17 @@ impl fmt::Display for Deed {
             Entry::Admitted { plate } => write!(f, "{} is admitted", PlateName(plate)),
             Entry::Claimed { zone, .. } => write!(f, "claims {}", zone_name(zone)),
             Entry::Yielded { zone, .. } => write!(f, "gives up {}", zone_name(zone)),
-            Entry::Started { axis, to } => write!(
-                f,
-                "{}starts to go {}",
-                axis_of_its_machine(axis),
-                way_to_pose(to)
-            ),
-            Entry::Arrived { axis, at } => write!(
-                f,
-                "{}has gone {}",
-                axis_of_its_machine(axis),
-                way_to_pose(at)
-            ),
-            Entry::Conveyed { plate, dest, .. } => write!(
-                f,
-                "brings {} to {}",
-                PlateName(plate),
-                station_name(dest)
-            ),
+            Entry::Started { axis, to } => {
+                let way = way_to_pose(to);
+                write!(f, "{}starts to go {way}", axis_of_its_machine(axis))
+            }
+            Entry::Arrived { axis, at } => {
+                let way = way_to_pose(at);
+                write!(f, "{}has gone {way}", axis_of_its_machine(axis))
+            }
+            Entry::Conveyed { plate, dest, .. } => {
+                write!(f, "brings {} to {}", PlateName(plate), station_name(dest))
+            }
             Entry::Forged { plate, .. } => write!(f, "forges {}", PlateName(plate)),
             Entry::Gripped { arm, plate, src } => write!(
                 f,
@@ -101,11 +94,9 @@ impl fmt::Display for Deed {
                 station_name(dest)
             ),
             Entry::Delivered { plate } => write!(f, "{} leaves the cell", PlateName(plate)),
-            Entry::Declared { cause, .. } => write!(
-                f,
-                "is declared failed, since {}",
-                cause_name(cause)
-            ),
+            Entry::Declared { cause, .. } => {
+                write!(f, "is declared failed, since {}", cause_name(cause))
+            }
             Entry::StopAsked { machine } => write!(f, "asks {} to stop", the_machine(machine)),
             Entry::Quarantined { plate, src } => write!(
                 f,

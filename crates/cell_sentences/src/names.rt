@@ -1,6 +1,8 @@
 //! The names of the cell's words in English.
 ghost use Rattle.std.specs.Prelude.{◌≡◌};
-ghost use Rattle.cell_sentences.specs.Names.{machine_name, the_machine, station_name, axis_name, axis_of_its_machine, pose_name, way_to_pose, zone_name, arm_name, light_name, colour_name, cause_name};
+ghost use Rattle.cell_sentences.specs.Names.{machine_name, the_machine, station_name, axis_name, axis_of_its_machine};
+ghost use Rattle.cell_sentences.specs.Names.{pose_name, way_to_pose, zone_name, arm_name, light_name, colour_name};
+ghost use Rattle.cell_sentences.specs.Names.{cause_name};
 
 use cell_types::{Arm, Axis, Belt, Cause, Colour, Machine, Pose, Station, Zone};
 

@@ -1,5 +1,6 @@
 -- What the program prints for settings, and the status with which it ends
-use Rattle.std.specs.Prelude.{◌≡◌, ◌/◌, ◌%◌, ◌==◌, ◌||◌, ℕ, Bool, List, [], ◌∷◌, ◌++◌, Option, Result, Ok, Err, map, slice_index, nat_lt, if◌then◌else◌, codes}
+use Rattle.std.specs.Prelude.{◌≡◌, ◌/◌, ◌%◌, ◌==◌, ◌||◌, ℕ, Bool, List, [], ◌∷◌, ◌++◌, Option, Result, Ok, Err, map}
+use Rattle.std.specs.Prelude.{slice_index, nat_lt, if◌then◌else◌, codes}
 use Rattle.std.specs.Io.KnownBytes.{Appends}
 use Rattle.std.specs.List.{concat}
 use Rattle.cell_audit.specs.Watched.{WritesPart}
@@ -17,7 +18,8 @@ hex_digit n = slice_index (codes "0123456789ABCDEF") n
 
 -- a control character as TOML's escape of it, by four digits, and another byte as it stands
 abbrev pub escaped_byte : ℕ → List ℕ
-escaped_byte byte = if is_control byte then codes "\\u00" ++ hex_digit (byte / 16) ∷ hex_digit (byte % 16) ∷ [] else byte ∷ []
+escaped_byte byte = if is_control byte then codes "\\u00" ++ hex_digit (byte / 16) ∷ hex_digit (byte % 16)
+    ∷ [] else byte ∷ []
 
 -- a path as it is printed, byte by byte
 abbrev pub escaped : List ℕ → List ℕ
@@ -61,8 +63,10 @@ WritesLine old new answer status = Appends old new (line_of answer) × (status �
 
 -- what was written is the line of an answer to the text, and the status is that answer's
 abbrev pub TellsCheck : List ℕ → Option (List ℕ) → Option (List ℕ) → ℕ → Type 0
-TellsCheck text old new status = (answer : Result Numbers SettingsError) × AnswersText text answer × WritesLine old new answer status
+TellsCheck text old new status = (answer : Result Numbers SettingsError) × AnswersText text answer
+    × WritesLine old new answer status
 
 -- a first part of the line of an answer to the text was written, and not all of it
 abbrev pub TellsPart : List ℕ → Option (List ℕ) → Option (List ℕ) → Type 0
-TellsPart text old new = (answer : Result Numbers SettingsError) × AnswersText text answer × WritesPart old new (line_of answer)
+TellsPart text old new = (answer : Result Numbers SettingsError) × AnswersText text answer
+    × WritesPart old new (line_of answer)

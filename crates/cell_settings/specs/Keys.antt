@@ -18,7 +18,8 @@ is_axis_key key = is_some (axis_named key)
 
 -- the keys at the top, beside `watch`
 abbrev pub is_number_key : List ℕ → Bool
-is_number_key key = bytes_eq key (codes "plates") || bytes_eq key (codes "journal_limit") || bytes_eq key (codes "turns")
+is_number_key key = bytes_eq key (codes "plates") || bytes_eq key (codes "journal_limit")
+    || bytes_eq key (codes "turns")
 
 -- the first of two, if there is one
 abbrev pub first_of : Option (List ℕ) → Option (List ℕ) → Option (List ℕ)
@@ -40,7 +41,8 @@ watched axis = dotted (codes "watch") axis
 
 -- the first unknown key at a key of the table `watch`
 abbrev pub stray_at : List ℕ → Data → Option (List ℕ)
-stray_at key d = if is_axis_key key then stray_under (watched key) (as_table d) (stray_limit (watched key)) else Some (watched key)
+stray_at key d = if is_axis_key key then stray_under (watched key) (as_table d) (stray_limit (watched key)) else Some
+    (watched key)
 
 -- the first unknown key of the table `watch`
 abbrev pub stray_axis : Members → Option (List ℕ)

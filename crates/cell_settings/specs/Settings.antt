@@ -1,5 +1,6 @@
 -- What settings say
-use Rattle.std.specs.Prelude.{◌≡◌, ◌+◌, ◌&&◌, ℕ, ℤ, pos, nat_abs, int_le, IsUtf8, List, [], ◌∷◌, Option, Some, None, Result, Ok, Err, ⊤, if◌then◌else◌, codes, option_and_then}
+use Rattle.std.specs.Prelude.{◌≡◌, ◌+◌, ◌&&◌, ℕ, ℤ, pos, nat_abs, int_le, IsUtf8, List, [], ◌∷◌, Option, Some, None}
+use Rattle.std.specs.Prelude.{Result, Ok, Err, ⊤, if◌then◌else◌, codes, option_and_then}
 use Rattle.cell_diagnosis.specs.Bounds.{Bounds}
 use Rattle.cell_types.specs.declared.words.Axis.{Axis}
 use Rattle.cell_types.specs.Texts.{axis_word, all_axis}
@@ -25,7 +26,8 @@ abbrev pub ◌>>=◌ : {A B : Type 0} → Result A SettingsError → (A → Resu
 
 -- a number in its range
 abbrev pub in_range : List ℕ → ℤ → ℕ → ℕ → Result ℕ SettingsError
-in_range path z low high = if int_le (pos low) z && int_le z (pos high) then Ok (nat_abs z) else Err (error.OutOfRange path)
+in_range path z low high = if int_le (pos low) z && int_le z (pos high) then Ok (nat_abs z) else Err
+    (error.OutOfRange path)
 
 abbrev pub integer_due : List ℕ → Option ℤ → ℕ → ℕ → Result ℕ SettingsError
 integer_due path None low high = Err (error.NotNumber path)
@@ -46,11 +48,13 @@ member_due key ms default low high = number_due key (get_member key ms) default 
 
 -- the table of an axis
 unfoldable pub axis_table : List ℕ → Members → Option Members
-axis_table axis ms = option_and_then as_table (option_and_then (get_member axis) (option_and_then as_table (get_member (codes "watch") ms)))
+axis_table axis ms = option_and_then as_table
+    (option_and_then (get_member axis) (option_and_then as_table (get_member (codes "watch") ms)))
 
 -- the number at a key of an axis's table
 unfoldable pub limit_due : List ℕ → List ℕ → Option Members → ℕ → ℕ → ℕ → Result ℕ SettingsError
-limit_due axis key table default low high = number_due (dotted (watched axis) key) (option_and_then (get_member key) table) (Some default) low high
+limit_due axis key table default low high =
+    number_due (dotted (watched axis) key) (option_and_then (get_member key) table) (Some default) low high
 
 -- the limits of an axis: `leave` first, and `limit` above it
 unfoldable pub axis_due : Members → Axis → Result Bounds SettingsError

@@ -21,8 +21,10 @@ fn write_path<W: Write>(
     path: &KeyPath,
 ) -> Result<(), WriteFault>
     ensures writer { IsSameWriter writer.old writer.new }
-    ensures whole { OnOk result (Appends (bytes_held W.contents writer.old) (bytes_held W.contents writer.new) (path_line name.now path.now)) }
-    ensures part { IsErr result → WritesPart (bytes_held W.contents writer.old) (bytes_held W.contents writer.new) (path_line name.now path.now) }
+    ensures whole { OnOk result (Appends (bytes_held W.contents writer.old) (bytes_held W.contents writer.new)
+        (path_line name.now path.now)) }
+    ensures part { IsErr result → WritesPart (bytes_held W.contents writer.old) (bytes_held W.contents writer.new)
+        (path_line name.now path.now) }
     ensures fault { IsErr result → has_refused writer.new ≡ true }
 {
     writer.write_bytes(name.as_bytes())?;
@@ -36,8 +38,10 @@ fn write_error<W: Write>(
     error: &SettingsError,
 ) -> Result<(), WriteFault>
     ensures writer { IsSameWriter writer.old writer.new }
-    ensures whole { OnOk result (Appends (bytes_held W.contents writer.old) (bytes_held W.contents writer.new) (error_line error.now)) }
-    ensures part { IsErr result → WritesPart (bytes_held W.contents writer.old) (bytes_held W.contents writer.new) (error_line error.now) }
+    ensures whole { OnOk result (Appends (bytes_held W.contents writer.old) (bytes_held W.contents writer.new)
+        (error_line error.now)) }
+    ensures part { IsErr result → WritesPart (bytes_held W.contents writer.old) (bytes_held W.contents writer.new)
+        (error_line error.now) }
     ensures fault { IsErr result → has_refused writer.new ≡ true }
 {
     match error {
@@ -56,8 +60,10 @@ fn write_line<W: Write>(
     answer: &Result<Plan, SettingsError>,
 ) -> Result<(), WriteFault>
     ensures writer { IsSameWriter writer.old writer.new }
-    ensures whole { OnOk result (Appends (bytes_held W.contents writer.old) (bytes_held W.contents writer.new) (line_of answer.now)) }
-    ensures part { IsErr result → WritesPart (bytes_held W.contents writer.old) (bytes_held W.contents writer.new) (line_of answer.now) }
+    ensures whole { OnOk result (Appends (bytes_held W.contents writer.old) (bytes_held W.contents writer.new)
+        (line_of answer.now)) }
+    ensures part { IsErr result → WritesPart (bytes_held W.contents writer.old) (bytes_held W.contents writer.new)
+        (line_of answer.now) }
     ensures fault { IsErr result → has_refused writer.new ≡ true }
 {
     match answer {
@@ -66,15 +72,17 @@ fn write_line<W: Write>(
     }
 }
 
-/// Writes the line of an answer to settings, and gives its status: 0, or 1 where they are refused. Where memory was refused
-/// (status 4) nothing is written.
+/// Writes the line of an answer to settings, and gives its status: 0, or 1 where they are refused. Where memory was
+/// refused (status 4) nothing is written.
 pub fn write_checked<W: Write>(
     writer: &mut WatchedWriter<'_, W>,
     answer: &Result<Plan, SettingsError>,
 ) -> Result<u8, WriteFault>
     ensures writer { IsSameWriter writer.old writer.new }
-    ensures whole { IfOk result (WritesLine (bytes_held W.contents writer.old) (bytes_held W.contents writer.new) answer.now) }
-    ensures part { IsErr result → WritesPart (bytes_held W.contents writer.old) (bytes_held W.contents writer.new) (line_of answer.now) }
+    ensures whole { IfOk result (WritesLine (bytes_held W.contents writer.old) (bytes_held W.contents writer.new)
+        answer.now) }
+    ensures part { IsErr result → WritesPart (bytes_held W.contents writer.old) (bytes_held W.contents writer.new)
+        (line_of answer.now) }
     ensures fault { IsErr result → has_refused writer.new ≡ true }
 {
     write_line(writer, answer)?;
@@ -85,15 +93,18 @@ pub fn write_checked<W: Write>(
     }
 }
 
-/// Reads settings, as `check_lines` does, and writes what is found to a writer that notes whether a write of it was refused.
+/// Reads settings, as `check_lines` does, and writes what is found to a writer that notes whether a write of it was
+/// refused.
 pub fn check_lines_watched<W: Write>(
     alloc: Global,
     text: &[u8],
     writer: &mut WatchedWriter<'_, W>,
 ) -> Result<u8, WriteFault>
     ensures writer { IsSameWriter writer.old writer.new }
-    ensures whole { IfOk result (TellsCheck text.now (bytes_held W.contents writer.old) (bytes_held W.contents writer.new)) }
-    ensures part { IsErr result → TellsPart text.now (bytes_held W.contents writer.old) (bytes_held W.contents writer.new) }
+    ensures whole { IfOk result (TellsCheck text.now (bytes_held W.contents writer.old)
+        (bytes_held W.contents writer.new)) }
+    ensures part { IsErr result → TellsPart text.now (bytes_held W.contents writer.old)
+        (bytes_held W.contents writer.new) }
     // It answers that the writer failed only where a write was refused.
     ensures fault { IsErr result → has_refused writer.new ≡ true }
 {
@@ -106,8 +117,8 @@ pub fn check_lines_watched<W: Write>(
 /// Good settings: `settings ok`, status 0. Settings that are refused: `settings`, the error's name and the path of the
 /// key, if it names one, as `write_escaped` writes it, status 1. Where memory is refused (status 4) nothing is written.
 ///
-/// That `WriteFault` comes only where a refused write was noted is a clause of `check_lines_watched`, of which this is the case
-/// of a new writer that notes.
+/// That `WriteFault` comes only where a refused write was noted is a clause of `check_lines_watched`, of which this is
+/// the case of a new writer that notes.
 pub fn check_lines<W: Write>(alloc: Global, text: &[u8], writer: &mut W) -> Result<u8, WriteFault>
     // The line and the status are those of the settings' answer.
     ensures whole { IfOk result (TellsCheck text.now (W.contents writer.old) (W.contents writer.new)) }

@@ -13,8 +13,8 @@ pub enum SettingsError {
     /// The text is no TOML.
     #[error("the settings are no TOML")]
     NotToml,
-    /// The settings have no such key, or the key should be a table and isn't. Of several it is the first, where the keys
-    /// of a table are walked in the order of their bytes and those of a sub-table where its own key stands.
+    /// The settings have no such key, or the key should be a table and isn't. Of several it is the first, where the
+    /// keys of a table are walked in the order of their bytes and those of a sub-table where its own key stands.
     #[error("unknown key {0}")]
     UnknownKey(KeyPath),
     /// The key has to be there.

@@ -21,8 +21,10 @@ fn digit(number: u8) -> u8
 // Writes a byte of a path.
 fn write_byte<W: Write>(writer: &mut WatchedWriter<'_, W>, byte: u8) -> Result<(), WriteFault>
     ensures writer { IsSameWriter writer.old writer.new }
-    ensures whole { OnOk result (Appends (bytes_held W.contents writer.old) (bytes_held W.contents writer.new) (escaped_byte byte)) }
-    ensures part { IsErr result → WritesPart (bytes_held W.contents writer.old) (bytes_held W.contents writer.new) (escaped_byte byte) }
+    ensures whole { OnOk result (Appends (bytes_held W.contents writer.old) (bytes_held W.contents writer.new)
+        (escaped_byte byte)) }
+    ensures part { IsErr result → WritesPart (bytes_held W.contents writer.old) (bytes_held W.contents writer.new)
+        (escaped_byte byte) }
     ensures fault { IsErr result → has_refused writer.new ≡ true }
     ensures same { OnOk result (has_refused writer.new ≡ has_refused writer.old) }
 {
@@ -34,16 +36,18 @@ fn write_byte<W: Write>(writer: &mut WatchedWriter<'_, W>, byte: u8) -> Result<(
     }
 }
 
-/// Writes a path as it is printed: its control characters, the bytes below 32 and 127, as escapes of TOML by four upper-case
-/// hexadecimal digits, and all other bytes as they stand. So a path has no line feed where it is printed.
+/// Writes a path as it is printed: its control characters, the bytes below 32 and 127, as escapes of TOML by four
+/// upper-case hexadecimal digits, and all other bytes as they stand. So a path has no line feed where it is printed.
 pub fn write_escaped<W: Write>(
     writer: &mut WatchedWriter<'_, W>,
     path: &KeyPath,
 ) -> Result<(), WriteFault>
     ensures writer { IsSameWriter writer.old writer.new }
-    ensures whole { OnOk result (Appends (bytes_held W.contents writer.old) (bytes_held W.contents writer.new) (escaped path.now)) }
+    ensures whole { OnOk result (Appends (bytes_held W.contents writer.old) (bytes_held W.contents writer.new)
+        (escaped path.now)) }
     // After an error a first part of it was written, and not all.
-    ensures part { IsErr result → WritesPart (bytes_held W.contents writer.old) (bytes_held W.contents writer.new) (escaped path.now) }
+    ensures part { IsErr result → WritesPart (bytes_held W.contents writer.old) (bytes_held W.contents writer.new)
+        (escaped path.now) }
     // It fails where a write was refused, and only there.
     ensures fault { IsErr result → has_refused writer.new ≡ true }
     ensures same { OnOk result (has_refused writer.new ≡ has_refused writer.old) }

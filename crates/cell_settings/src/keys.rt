@@ -2,7 +2,8 @@
 ghost use Rattle.std.specs.Prelude.{◌≡◌, Err, Some, is_some, option_and_then, option_map};
 ghost use Rattle.toml.specs.Data.{as_table, get_member};
 ghost use Rattle.toml.specs.View.{table_view, view};
-ghost use Rattle.cell_settings.specs.Keys.{dotted, is_axis_key, is_limit_key, is_number_key, stray, stray_at, stray_axis, stray_limit, stray_top};
+ghost use Rattle.cell_settings.specs.Keys.{dotted, is_axis_key, is_limit_key, is_number_key, stray, stray_at};
+ghost use Rattle.cell_settings.specs.Keys.{stray_axis, stray_limit, stray_top};
 ghost use Rattle.cell_settings.specs.Settings.{KnowsKeys};
 
 use crate::error::SettingsError;
@@ -20,7 +21,8 @@ pub(crate) fn member<'a>(table: &'a Table, key: &str) -> Option<&'a Value>
 
 /// The table at a key.
 pub(crate) fn inner<'a>(table: &'a Table, key: &str) -> Option<&'a Table>
-    ensures { option_map (λ t. table_view t.now) result ≡ option_and_then as_table (get_member key.now (table_view table.now)) }
+    ensures { option_map (λ t. table_view t.now) result
+        ≡ option_and_then as_table (get_member key.now (table_view table.now)) }
 {
     match member(table, key) {
         Some(value) => value.as_table(),

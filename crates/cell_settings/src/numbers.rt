@@ -3,7 +3,8 @@ ghost use Rattle.std.specs.Prelude.{◌≡◌, ◌+◌, ◌<◌, ◌≤◌, IfOk
 ghost use Rattle.cell_types.specs.Texts.{axis_word};
 ghost use Rattle.toml.specs.Data.{get_member};
 ghost use Rattle.toml.specs.View.{table_view, view};
-ghost use Rattle.cell_settings.specs.Settings.{Gives, axis_due, axis_table, in_range, limit_due, member_due, number_due};
+ghost use Rattle.cell_settings.specs.Settings.{Gives, axis_due, axis_table, in_range, limit_due, member_due};
+ghost use Rattle.cell_settings.specs.Settings.{number_due};
 
 use crate::error::SettingsError;
 use crate::key_path::KeyPath;
@@ -81,7 +82,8 @@ pub(crate) fn member_number(
 
 // The value at a key of a table that may be missing.
 fn at<'a>(table: Option<&'a Table>, key: &str) -> Option<&'a Value>
-    ensures { option_map (λ v. view v.now) result ≡ option_and_then (get_member key.now) (option_map (λ t. table_view t.now) table.entry) }
+    ensures { option_map (λ v. view v.now) result ≡ option_and_then (get_member key.now)
+        (option_map (λ t. table_view t.now) table.entry) }
 {
     match table {
         Some(table) => member(table, key),
@@ -111,7 +113,8 @@ fn limit(
     low: u32,
     high: u32,
 ) -> Result<u32, SettingsError>
-    ensures due { Gives result (limit_due (axis_word axis) key.now (option_map (λ t. table_view t.now) table.entry) default low high) }
+    ensures due { Gives result (limit_due (axis_word axis) key.now (option_map (λ t. table_view t.now) table.entry)
+        default low high) }
     ensures within { IfOk result (λ n. (low ≤ n) × (n ≤ high)) }
 {
     let watched = KeyPath::join(alloc, "watch", axis_word(axis))?;

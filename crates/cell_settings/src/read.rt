@@ -1,7 +1,8 @@
 //! Reading settings.
 ghost use Rattle.std.specs.Prelude.{Result, Ok};
 ghost use Rattle.toml.specs.View.{table_view};
-ghost use Rattle.cell_settings.specs.Settings.{AnswersText, Gives, GivesNumbers, axes_due, numbers_due, numbers_of, settings_due};
+ghost use Rattle.cell_settings.specs.Settings.{AnswersText, Gives, GivesNumbers, axes_due, numbers_due, numbers_of};
+ghost use Rattle.cell_settings.specs.Settings.{settings_due};
 ghost use Rattle.cell_types.specs.Texts.{all_axis};
 
 use crate::error::SettingsError;
@@ -79,8 +80,8 @@ fn settings(alloc: Global, table: &Table) -> Result<Plan, SettingsError>
 }
 
 /// Reads settings, a text in TOML: `plates` (1 to 100,000), `journal_limit` (1 to 1,000,000, by default 100,000),
-/// `turns` (1 to 10,000,000, by default 100,000), and for each axis a table such as `[watch.press_one]` with `leave` (2 to
-/// 999, by default 3) and `limit` (above `leave`, to 1,000, by default 20).
+/// `turns` (1 to 10,000,000, by default 100,000), and for each axis a table such as `[watch.press_one]` with `leave` (2
+/// to 999, by default 3) and `limit` (above `leave`, to 1,000, by default 20).
 ///
 /// The error is the first that applies, in the order of `SettingsError`; `OutOfMemory` comes only where memory was
 /// refused. The keys and ranges are this project's profile.

@@ -1,5 +1,6 @@
 -- An answer on memory, and the good entries of a text.
-use Rattle.std.proofs.Common.{◌≡◌, ◌≢◌, ◌<◌, ◌≤◌, ℕ, List, [], length, Option, Some, None, Result, Err, inl, inr, refl, ap, arith, ◌⊎◌}
+use Rattle.std.proofs.Common.{◌≡◌, ◌≢◌, ◌<◌, ◌≤◌, ℕ, List, [], length, Option, Some, None, Result, Err, inl, inr, refl}
+use Rattle.std.proofs.Common.{ap, arith, ◌⊎◌}
 use Rattle.std.specs.Prelude.{IfSome, unwrap_or}
 use Rattle.std.specs.Result.{result_err}
 use Rattle.cell_rows.specs.Rows.{Row}
@@ -16,7 +17,8 @@ use Rattle.cell_show.specs.declared.error.ShowError.{ShowError}
 use Rattle.cell_show.specs.declared.error.ShowError.TheVariants as shown
 use Rattle.cell_show.specs.declared.show.Form.{Form}
 
-pub wants-memory : (rows : Option (List Row)) → IfSome rows (λ known. IsFault (Err error.OutOfMemory) ⊎ Due known (Err error.OutOfMemory))
+pub wants-memory : (rows : Option (List Row))
+    → IfSome rows (λ known. IsFault (Err error.OutOfMemory) ⊎ Due known (Err error.OutOfMemory))
 wants-memory None = tt
 wants-memory (Some known) = inl (inr refl)
 
@@ -32,7 +34,8 @@ good (Some known) answer J (inl (inr is)) before first low =
     let fault : status_of answer ≡ 4 = ap status_of is in absurd (omega (arith, fault, low))
 
 -- a page of the entries that are read is that of the good ones
-pub paged : (rows : Option (List Row)) (form : Form) (answer : Result (ℕ × Totals) AuditError) (J : List Entry) (old new : Option (List ℕ))
+pub paged : (rows : Option (List Row)) (form : Form) (answer : Result (ℕ × Totals) AuditError) (J : List Entry)
+    (old new : Option (List ℕ))
     → IfSome rows (λ known. IsFault answer ⊎ Due known answer) → IsBefore answer J → IfSome rows (SpellsFirst J)
     → status_of answer ≤ 1 → IsPage form J (result_err answer) old new → IfSome rows (ShowsPage form old new)
 paged None form answer J old new due before first low page = tt
@@ -53,14 +56,17 @@ has None entry n J are size most = tt
 has (Some known) entry n J are size most = (J, are, rw size (within entry n most))
 
 -- the page of a text's good entries and that of another text stand in one
-pub both_shown : (rows : Option (List Row)) (form : Form) (others : List Row) (old new : Option (List ℕ)) (first second : List ℕ)
-    → IfSome rows (ShowsPage form (Some []) (Some first)) → WritesBeside old new first second → IsOther form second others
+pub both_shown : (rows : Option (List Row)) (form : Form) (others : List Row) (old new : Option (List ℕ))
+    (first second : List ℕ)
+    → IfSome rows (ShowsPage form (Some []) (Some first)) → WritesBeside old new first second
+    → IsOther form second others
     → IfSome rows (ShowsBeside form others old new)
 both_shown None form others old new first second page both other = tt
 both_shown (Some known) form others old new first second page both other = (first, second, both, page, other)
 
 -- what is told where nothing is drawn: too many entries, and never one that isn't there
-pub told_of : (rows : Option (List Row)) (J : List Entry) (why : ShowError) → IfSome rows (AreGood J) → ((n : ℕ) → why ≢ shown.NoSuchEntry n)
+pub told_of : (rows : Option (List Row)) (J : List Entry) (why : ShowError) → IfSome rows (AreGood J)
+    → ((n : ℕ) → why ≢ shown.NoSuchEntry n)
     → (why ≡ shown.TooManyEntries → 20000 < length J) → IfSome rows (TellsEntries why)
 told_of None J why good there long = tt
 told_of (Some known) J (shown.NoSuchEntry n) good there long = absurd (there n refl)

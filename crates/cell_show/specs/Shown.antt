@@ -1,5 +1,6 @@
 -- What is told of a journal's text beside the picture
-use Rattle.std.specs.Prelude.{◌≡◌, ◌==◌, ◌⊎◌, ◌<◌, ◌≤◌, ℕ, List, [], ◌++◌, length, Option, None, Some, Result, IfSome, ⊤, codes, decimal, if◌then◌else◌}
+use Rattle.std.specs.Prelude.{◌≡◌, ◌==◌, ◌⊎◌, ◌<◌, ◌≤◌, ℕ, List, [], ◌++◌, length, Option, None, Some, Result, IfSome}
+use Rattle.std.specs.Prelude.{⊤, codes, decimal, if◌then◌else◌}
 use Rattle.std.specs.Borrow.{Bor}
 use Rattle.std.specs.Result.{result_err}
 use Rattle.cell_rows.specs.Rows.{Row}
@@ -30,10 +31,11 @@ of_page page.WriteFault = error.WriteFault
 -- the status is that of the answer that is due for the records of a text, or of one on the reader or on memory
 abbrev pub TellsStatus : Option (List Row) → ℕ → Type 0
 TellsStatus rows status =
-    (answer : Result (ℕ × Totals) AuditError) × IfSome rows (λ known. IsFault answer ⊎ Due known answer) × (status ≡ status_of answer)
+    (answer : Result (ℕ × Totals) AuditError) × IfSome rows (λ known. IsFault answer ⊎ Due known answer)
+    × (status ≡ status_of answer)
 
--- the good entries of a text: its first records are theirs, and the answer that is due for it names the place after them,
--- or has their counts
+-- the good entries of a text: its first records are theirs, and the answer that is due for it names the place after
+-- them, or has their counts
 abbrev pub AreGood : List Entry → List Row → Type 0
 AreGood J rows = (answer : Result (ℕ × Totals) AuditError) × Due rows answer × IsBefore answer J × SpellsFirst J rows
 
@@ -62,18 +64,21 @@ abbrev pub IsRefused : List Entry → Option AuditError → Option Entry → Typ
 IsRefused J (Some (audit.Refused place why)) refused = IsBarred J refused
 IsRefused J _ refused = refused ≡ None
 
--- a page of some entries is written, whose last step has the entry that is refused, where there is one, with some chart where the
--- form has one; of another form nothing is said
+-- a page of some entries is written, whose last step has the entry that is refused, where there is one, with some chart
+-- where the form has one; of another form nothing is said
 abbrev pub IsPage : Form → List Entry → Option AuditError → Option (List ℕ) → Option (List ℕ) → Type 0
-IsPage form.Page J answer old new = (refused : Option Entry) × IsRefused J answer refused × WritesPage old new J answer refused None
+IsPage form.Page J answer old new = (refused : Option Entry) × IsRefused J answer refused
+    × WritesPage old new J answer refused None
 IsPage (form.TimedPage durations) J answer old new =
-    (refused : Option Entry) × IsRefused J answer refused × (chart : Bor (List ℕ)) × WritesPage old new J answer refused (Some chart)
+    (refused : Option Entry) × IsRefused J answer refused × (chart : Bor (List ℕ))
+    × WritesPage old new J answer refused (Some chart)
 IsPage _ J answer old new = ⊤
 
 -- a page is that of a text's good entries, with the answer's line where the text isn't legal
 abbrev pub ShowsPage : Form → Option (List ℕ) → Option (List ℕ) → List Row → Type 0
 ShowsPage form old new rows =
-    (J : List Entry) × (answer : Result (ℕ × Totals) AuditError) × Due rows answer × IsBefore answer J × SpellsFirst J rows
+    (J : List Entry) × (answer : Result (ℕ × Totals) AuditError) × Due rows answer × IsBefore answer J
+    × SpellsFirst J rows
     × IsPage form J (result_err answer) old new
 
 -- the page of another journal: that of its good entries, or a line in its place where they are too many
@@ -83,7 +88,8 @@ IsOther form page rows = ShowsPage form (Some []) (Some page) rows ⊎ TellsEntr
 -- two pages were written into one: that of a text's good entries, and that of another text
 abbrev pub ShowsBeside : Form → List Row → Option (List ℕ) → Option (List ℕ) → List Row → Type 0
 ShowsBeside form others old new rows =
-    (first : List ℕ) × (second : List ℕ) × WritesBeside old new first second × ShowsPage form (Some []) (Some first) rows × IsOther form second others
+    (first : List ℕ) × (second : List ℕ) × WritesBeside old new first second
+    × ShowsPage form (Some []) (Some first) rows × IsOther form second others
 
 -- a form that shows only so many entries
 abbrev pub HasBound : Form → Type 0
@@ -99,5 +105,6 @@ entries_word n = if n == 1 then codes "entry" else codes "entries"
 -- what is printed of an error
 abbrev pub error_text : ShowError → List ℕ
 error_text (error.NoSuchEntry n) = codes "NoSuchEntry: the journal has " ++ (decimal n ++ (codes " " ++ entries_word n))
-error_text error.TooManyEntries = codes "TooManyEntries: a page or a chart shows at most " ++ (decimal 20000 ++ codes " entries")
+error_text error.TooManyEntries = codes "TooManyEntries: a page or a chart shows at most "
+    ++ (decimal 20000 ++ codes " entries")
 error_text error.WriteFault = codes "WriteFault"

@@ -33,11 +33,11 @@ fn other_page(alloc: Global, text: &[u8], form: Form) -> Option<Vec<u8>>
     }
 }
 
-/// Shows the page of the journal on the reader and beside it that of another one, both in one page by whose controls both are
-/// stepped, and gives the exit status, which is that of the first journal. The form is one of a page.
+/// Shows the page of the journal on the reader and beside it that of another one, both in one page by whose controls
+/// both are stepped, and gives the exit status, which is that of the first journal. The form is one of a page.
 ///
-/// Each journal is shown as by `show_journal`, the other one with all its entries. Where that has too many for a page its frame
-/// says so. Where memory is refused (status 4) nothing is written.
+/// Each journal is shown as by `show_journal`, the other one with all its entries. Where that has too many for a page
+/// its frame says so. Where memory is refused (status 4) nothing is written.
 pub fn show_beside<R: Read + Drop, W: Write>(
     alloc: Global,
     reader: R,
@@ -51,7 +51,9 @@ pub fn show_beside<R: Read + Drop, W: Write>(
     ensures unread { IfOk result (λ status. 1 < status → writer.new ≡ writer.old) }
     ensures there { IfOk result (λ status. status ≤ 1 → IfSome (rows_in (R.remaining reader)) (HasEntry entry)) }
     // Both pages stand in what was written.
-    ensures pages { IfOk result (λ status. status ≤ 1 → IfSome (rows_in (R.remaining reader)) (ShowsBeside form (rows_of other.now) (W.contents writer.old) (W.contents writer.new))) }
+    ensures pages { IfOk result (λ status. status ≤ 1
+        → IfSome (rows_in (R.remaining reader))
+        (ShowsBeside form (rows_of other.now) (W.contents writer.old) (W.contents writer.new))) }
     ensures past { IfErr result (AsksPast entry) }
     ensures entries { IfErr result (λ why. IfSome (rows_in (R.remaining reader)) (TellsEntries why)) }
     ensures bound { result ≡ Err ShowError.TooManyEntries → HasBound form }

@@ -4,7 +4,8 @@ ghost use Rattle.cell_rows.specs.Rows.{IsOpen, current_row, device_failed, rows_
 ghost use Rattle.cell_types.specs.Records.{read_row};
 ghost use Rattle.cell_audit.specs.Migrated.{rows_in};
 ghost use Rattle.cell_lines.specs.Lines.{status_of};
-ghost use Rattle.cell_show.specs.Shown.{TellsStatus, AsksPast, TellsEntries, HasBound, HasEntry, IsPage, IsBarred, IsRefused, ShowsPage};
+ghost use Rattle.cell_show.specs.Shown.{TellsStatus, AsksPast, TellsEntries, HasBound, HasEntry, IsPage, IsBarred};
+ghost use Rattle.cell_show.specs.Shown.{IsRefused, ShowsPage};
 
 use crate::ShowError;
 use cell_audit::{AuditError, read_rows};
@@ -133,7 +134,8 @@ fn draw_page<W: Write>(
 ) -> Result<bool, ShowError>
     ensures entry { (n : ℕ) → result ≢ Err (ShowError.NoSuchEntry n) }
     ensures long { result ≡ Err ShowError.TooManyEntries → 20000 < length book.now.entries }
-    ensures page { result ≡ Ok true → IsPage Form.Page book.now.entries answer (W.contents writer.old) (W.contents writer.new) }
+    ensures page { result ≡ Ok true → IsPage Form.Page book.now.entries answer (W.contents writer.old)
+        (W.contents writer.new) }
     ensures nothing { IfErr result (λ e. e ≢ ShowError.WriteFault → writer.new ≡ writer.old) }
     ensures memory { result ≢ Ok false }
 {
@@ -153,7 +155,8 @@ fn draw_timed_page<W: Write>(
 ) -> Result<bool, ShowError>
     ensures entry { (n : ℕ) → result ≢ Err (ShowError.NoSuchEntry n) }
     ensures long { result ≡ Err ShowError.TooManyEntries → 20000 < length book.now.entries }
-    ensures page { result ≡ Ok true → IsPage (Form.TimedPage durations) book.now.entries answer (W.contents writer.old) (W.contents writer.new) }
+    ensures page { result ≡ Ok true → IsPage (Form.TimedPage durations) book.now.entries answer (W.contents writer.old)
+        (W.contents writer.new) }
     ensures nothing { IfErr result (λ e. e ≢ ShowError.WriteFault → writer.new ≡ writer.old) }
     ensures memory { result ≡ Ok false → writer.new ≡ writer.old }
 {
@@ -179,7 +182,8 @@ fn draw<W: Write>(
     ensures entry { (n : ℕ) → result ≢ Err (ShowError.NoSuchEntry n) }
     ensures bound { result ≡ Err ShowError.TooManyEntries → HasBound form }
     ensures long { result ≡ Err ShowError.TooManyEntries → 20000 < length book.now.entries }
-    ensures page { result ≡ Ok true → IsPage form book.now.entries answer (W.contents writer.old) (W.contents writer.new) }
+    ensures page { result ≡ Ok true → IsPage form book.now.entries answer (W.contents writer.old)
+        (W.contents writer.new) }
     ensures nothing { IfErr result (λ e. e ≢ ShowError.WriteFault → writer.new ≡ writer.old) }
     ensures memory { result ≡ Ok false → writer.new ≡ writer.old }
 {
@@ -205,7 +209,8 @@ fn draw<W: Write>(
     Ok(true)
 }
 
-/// Shows the cell as the first entries of the records that a reader has left it, as `show_journal` does those of a text.
+/// Shows the cell as the first entries of the records that a reader has left it, as `show_journal` does those of a
+/// text.
 pub fn show_rows<R: TellsFault, W: Write>(
     alloc: Global,
     rows: &mut RowReader<R>,
@@ -217,7 +222,8 @@ pub fn show_rows<R: TellsFault, W: Write>(
     ensures status { IfOk result (TellsStatus (rows_left R.remaining rows.old)) }
     ensures unread { IfOk result (λ status. 1 < status → writer.new ≡ writer.old) }
     ensures there { IfOk result (λ status. status ≤ 1 → IfSome (rows_left R.remaining rows.old) (HasEntry entry)) }
-    ensures page { IfOk result (λ status. status ≤ 1 → IfSome (rows_left R.remaining rows.old) (ShowsPage form (W.contents writer.old) (W.contents writer.new))) }
+    ensures page { IfOk result (λ status. status ≤ 1
+        → IfSome (rows_left R.remaining rows.old) (ShowsPage form (W.contents writer.old) (W.contents writer.new))) }
     ensures past { IfErr result (AsksPast entry) }
     ensures entries { IfErr result (λ why. IfSome (rows_left R.remaining rows.old) (TellsEntries why)) }
     ensures bound { result ≡ Err ShowError.TooManyEntries → HasBound form }
@@ -246,13 +252,13 @@ pub fn show_rows<R: TellsFault, W: Write>(
     }
 }
 
-/// Shows the cell as the first `entry` entries of the journal on the reader left it, or all of them where `entry` is `None`,
-/// and gives the exit status. A page has all states.
+/// Shows the cell as the first `entry` entries of the journal on the reader left it, or all of them where `entry` is
+/// `None`, and gives the exit status. A page has all states.
 ///
-/// A journal that is refused or can't be read is shown up to its last good entry, with the audit's line below, status 1.
-/// Where the reader fails (status 3) or memory is refused (status 4) nothing is written; nor where the journal has fewer
-/// entries than that, or too many for a page or a chart. That status 3 comes only where a failed read was noted is a clause of
-/// `show_rows`, of which this is the case of a new reader of rows.
+/// A journal that is refused or can't be read is shown up to its last good entry, with the audit's line below, status
+/// 1. Where the reader fails (status 3) or memory is refused (status 4) nothing is written; nor where the journal has
+/// fewer entries than that, or too many for a page or a chart. That status 3 comes only where a failed read was noted
+/// is a clause of `show_rows`, of which this is the case of a new reader of rows.
 pub fn show_journal<R: Read + Drop, W: Write>(
     alloc: Global,
     reader: R,
@@ -266,7 +272,8 @@ pub fn show_journal<R: Read + Drop, W: Write>(
     // Where the cell is shown, the text has at least as many good entries as were asked for.
     ensures there { IfOk result (λ status. status ≤ 1 → IfSome (rows_in (R.remaining reader)) (HasEntry entry)) }
     // A page is that of the text's good entries, and has a chart where it was asked for.
-    ensures page { IfOk result (λ status. status ≤ 1 → IfSome (rows_in (R.remaining reader)) (ShowsPage form (W.contents writer.old) (W.contents writer.new))) }
+    ensures page { IfOk result (λ status. status ≤ 1
+        → IfSome (rows_in (R.remaining reader)) (ShowsPage form (W.contents writer.old) (W.contents writer.new))) }
     // Where there is no such entry, more were asked for than are told.
     ensures past { IfErr result (AsksPast entry) }
     // There are as many good entries as are told, or too many for a page.

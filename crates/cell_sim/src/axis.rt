@@ -55,7 +55,6 @@ impl AxisInWorld {
     }
 
     /// The switches that it shows.
-    #[inline(always)]
     pub(crate) fn switches(self, axis: Axis) -> u8 {
         let Some(motion) = self.motion else {
             return self.switch_at_rest(axis);
@@ -66,7 +65,6 @@ impl AxisInWorld {
         }
     }
 
-    #[inline(always)]
     fn switch_at_rest(self, axis: Axis) -> u8 {
         match axis {
             Axis::FeedBelt | Axis::DepositBelt => 0,

@@ -42,7 +42,8 @@ pub(crate) struct Motion {
     pub missing: u32,
     /// How many readings show nothing between its two ends, beside the first that does and those of a fault.
     pub further: u32,
-    /// Whether all motors of the machine were stopped since. The motion then stays in its phase, and shows what it showed.
+    /// Whether all motors of the machine were stopped since. The motion then stays in its phase, and shows what it
+    /// showed.
     pub stopped: bool,
 }
 
@@ -117,8 +118,8 @@ impl Motion {
         }
     }
 
-    /// Whether a fault of this motion shows a plate at a station, be one there or not: at where a plate was carried from,
-    /// or at both ends.
+    /// Whether a fault of this motion shows a plate at a station, be one there or not: at where a plate was carried
+    /// from, or at both ends.
     pub(crate) fn shows_by_fault(self, station: Station) -> bool {
         let Path::Stations { from, to, plate } = self.path else {
             return false;

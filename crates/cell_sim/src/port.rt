@@ -10,8 +10,9 @@ use cell_types::{Command, Machine, Station};
 use std::marker::Model;
 use std::sync::{Mutex, Wait};
 
-/// The port of a machine of a simulated cell. Each call takes the world's lock, so it may wait for another port. It keeps
-/// no lists of what it was asked. It fails only on a command to move whose motion has the fault of refused commands.
+/// The port of a machine of a simulated cell. Each call takes the world's lock, so it may wait for another port. It
+/// keeps no lists of what it was asked. It fails only on a command to move whose motion has the fault of refused
+/// commands.
 #[derive(Drop)]
 pub struct SimPort<'a, R: Wait> {
     rt: &'a R,
@@ -63,7 +64,15 @@ pub fn sim_ports<'a, R: Wait>(
     world: &'a Mutex<World>,
     faults: &'a FaultScript,
 ) -> Six<SimPort<'a, R>>
-    ensures { result ≡ record { feed = machine.Feed; table = machine.Table; robot = machine.Robot; press1 = machine.Press1; press2 = machine.Press2; deposit = machine.Deposit } }
+    ensures { result ≡ record {
+      feed = machine.Feed;
+      table = machine.Table;
+      robot = machine.Robot;
+      press1 =
+          machine.Press1;
+      press2 = machine.Press2;
+      deposit = machine.Deposit;
+    } }
 {
     Six {
         feed: SimPort::new(rt, world, Machine::Feed, faults),
@@ -75,8 +84,8 @@ pub fn sim_ports<'a, R: Wait>(
     }
 }
 
-/// The operator's hands in a simulated cell. Each call takes the world's lock, so it may wait for a port. None fails, and
-/// no list of what was done is kept.
+/// The operator's hands in a simulated cell. Each call takes the world's lock, so it may wait for a port. None fails,
+/// and no list of what was done is kept.
 #[derive(Drop)]
 pub struct SimOperator<'a, R: Wait> {
     rt: &'a R,

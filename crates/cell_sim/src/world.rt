@@ -1,10 +1,10 @@
 //! The simulated cell as it is.
 //!
-//! A motion begins with the command to move an axis and goes on with the readings of its machine. The first reading shows
-//! the pose that the axis leaves, the second nothing, the third and all later ones the pose that it reaches, and at the
-//! third the axis has that pose. A belt shows the plate that it carries, at the stations where the motion begins and ends,
-//! in place of switches; from the third reading on the plate is where the motion ends. All else is shown as it is. A motion
-//! of a longer duration shows nothing in as many readings.
+//! A motion begins with the command to move an axis and goes on with the readings of its machine. The first reading
+//! shows the pose that the axis leaves, the second nothing, the third and all later ones the pose that it reaches, and
+//! at the third the axis has that pose. A belt shows the plate that it carries, at the stations where the motion begins
+//! and ends, in place of switches; from the third reading on the plate is where the motion ends. All else is shown as
+//! it is. A motion of a longer duration shows nothing in as many readings.
 //!
 //! A stopped motion goes on showing what it last showed. A motion ends where another of its axis begins or the axis is
 //! put at home, and that of a belt also where the belt is turned off.
@@ -97,9 +97,9 @@ impl Model for World {
 }
 
 impl World {
-    /// A cell at the opening: all axes at home, no plate in it, both lights red. At the beginning of the feed belt up to
-    /// `plates` plates are laid, one at a time, where the feed light is green, and besides as many as were taken out by
-    /// hand from before a press.
+    /// A cell at the opening: all axes at home, no plate in it, both lights red. At the beginning of the feed belt up
+    /// to `plates` plates are laid, one at a time, where the feed light is green, and besides as many as were taken out
+    /// by hand from before a press.
     pub fn new(plates: u32) -> World
         ensures { result ≡ opening_with plates }
     {
@@ -147,8 +147,8 @@ impl World {
         }
     }
 
-    /// The same cell with motions that take these durations, each counted in readings of its machine. A motion of 1 or 0 is as
-    /// short as it can be, as all are in a new cell: one reading shows nothing between its ends.
+    /// The same cell with motions that take these durations, each counted in readings of its machine. A motion of 1 or
+    /// 0 is as short as it can be, as all are in a new cell: one reading shows nothing between its ends.
     pub fn with_durations(mut self, durations: Durations) -> World
         ensures { result ≡ self }
     {
@@ -157,7 +157,8 @@ impl World {
     }
 
     /// How often an axis of the table, a press or the deposit belt was told to move while an arm was out there, and how
-    /// often an arm was told to lay a plate down where there is no station or a full one. At `u32::MAX` the count stays.
+    /// often an arm was told to lay a plate down where there is no station or a full one. At `u32::MAX` the count
+    /// stays.
     pub fn collisions(&self) -> u32
         ensures { result ≡ self.now.collisions }
     {
@@ -204,7 +205,8 @@ impl World {
 
 /// What commands do.
 impl World {
-    /// Carries out a command. It fails only where it is to move an axis and this motion's fault is that its command fails.
+    /// Carries out a command. It fails only where it is to move an axis and this motion's fault is that its command
+    /// fails.
     pub(crate) fn command(
         &mut self,
         command: Command,
@@ -238,8 +240,8 @@ impl World {
         self.feed_light = colour;
     }
 
-    // A motion begins in place of the one before. A command that fails counts as a motion, and nothing else comes of it,
-    // no collision either. One to a pose that the axis doesn't have begins no motion.
+    // A motion begins in place of the one before. A command that fails counts as a motion, and nothing else comes of
+    // it, no collision either. One to a pose that the axis doesn't have begins no motion.
     fn start(&mut self, axis: Axis, to: Pose, faults: &FaultScript) -> Result<(), PortFault> {
         let place = axis_number(axis);
         let number = self.axes[place].commands.saturating_add(1);
@@ -312,8 +314,8 @@ impl World {
         }
     }
 
-    // The plate on an arm is at the empty station before it. Over a full station or none a collision is counted, whether
-    // the arm holds a plate or not, and nothing moves; in a watched world the plate is gone.
+    // The plate on an arm is at the empty station before it. Over a full station or none a collision is counted,
+    // whether the arm holds a plate or not, and nothing moves; in a watched world the plate is gone.
     fn lay_down(&mut self, arm: Arm) {
         let below = self.station_before(arm);
         match below {
@@ -364,8 +366,9 @@ impl World {
 
 /// What readings do and show.
 impl World {
-    /// What a machine shows; `None` where the reading is missing. Before each reading, also a missing one, a plate is laid
-    /// or taken where the machine's light is green. Each machine is told apart here, so that its reading is compiled by itself.
+    /// What a machine shows; `None` where the reading is missing. Before each reading, also a missing one, a plate is
+    /// laid or taken where the machine's light is green. Each machine is told apart here, so that its reading is
+    /// compiled by itself.
     pub(crate) fn read(&mut self, machine: Machine) -> Option<Reading> {
         match machine {
             Machine::Feed => {
@@ -578,7 +581,6 @@ impl World {
         }
     }
 
-    #[inline(always)]
     fn switches_of(&self, axis: Axis) -> u8 {
         self.axis(axis).switches(axis)
     }
@@ -611,8 +613,8 @@ impl World {
         }
     }
 
-    // The bit of a station as a belt's machine shows it. While the belt is between two stations it doesn't show the plate
-    // that it carries; a fault of the motion can keep the first station's bit or show both.
+    // The bit of a station as a belt's machine shows it. While the belt is between two stations it doesn't show the
+    // plate that it carries; a fault of the motion can keep the first station's bit or show both.
     fn sensor(&self, belt: Axis, station: Station, bit: u8) -> u8 {
         let Some(motion) = self.axis(belt).motion else {
             return self.plate_bit(station, bit);
@@ -629,9 +631,9 @@ impl World {
 
 /// What the operator does by hand.
 impl World {
-    /// Takes out the plate at a station. Where there is none and a belt's motion from there wasn't ended, it takes out the
-    /// plate that this motion carried, wherever it is. Where there is none either, nothing happens. A plate that was taken
-    /// so from a station before a press is laid at the belt's beginning once more, as any other.
+    /// Takes out the plate at a station. Where there is none and a belt's motion from there wasn't ended, it takes out
+    /// the plate that this motion carried, wherever it is. Where there is none either, nothing happens. A plate that
+    /// was taken so from a station before a press is laid at the belt's beginning once more, as any other.
     pub(crate) fn remove(&mut self, station: Station) {
         if !self.take_from(station) {
             return;
@@ -642,7 +644,8 @@ impl World {
         }
     }
 
-    // Takes out the plate of a station, or the one that a belt's motion carried from there, and says whether there was one.
+    // Takes out the plate of a station, or the one that a belt's motion carried from there, and says whether there was
+    // one.
     fn take_from(&mut self, station: Station) -> bool {
         if self.plate(station).is_some() {
             self.set_plate(station, None);

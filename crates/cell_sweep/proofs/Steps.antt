@@ -1,5 +1,7 @@
 -- Steps of the loops of a sweep
-use Rattle.std.proofs.Common.{◌≡◌, ◌≢◌, inl, inr, ℕ, suc, ◌+◌, ◌<◌, ◌≤◌, Bool, true, false, List, [], ◌∷◌, ◌++◌, Option, Some, None, Result, Ok, Err, IfOk, IsErr, OnOk, map, length, get_or, take, refl, sym, ap, subst, ◌∙◌, append_assoc, append-nil, add-one}
+use Rattle.std.proofs.Common.{◌≡◌, ◌≢◌, inl, inr, ℕ, suc, ◌+◌, ◌<◌, ◌≤◌, Bool, true, false, List, [], ◌∷◌, ◌++◌, Option}
+use Rattle.std.proofs.Common.{Some, None, Result, Ok, Err, IfOk, IsErr, OnOk, map, length, get_or, take, refl, sym, ap}
+use Rattle.std.proofs.Common.{subst, ◌∙◌, append_assoc, append-nil, add-one}
 use Rattle.std.specs.Borrow.{Bor}
 use Rattle.std.specs.Io.KnownBytes.{Appends}
 use Rattle.std.specs.List.{flat_map}
@@ -22,43 +24,57 @@ use Rattle.cell_sweep.specs.declared.sweep.Stop.{Stop}
 use Rattle.cell_sweep.specs.declared.sweep.Stop.TheVariants as stop
 use Rattle.cell_sweep.specs.Cases.{cases_of, in_motions, planned, script_of}
 use Rattle.cell_sweep.specs.Kinds.{kind_of}
-use Rattle.cell_sweep.specs.Rows.{Grows, GrowsBy, IsScript, IsToldOf, RunsTo, TellsRun, TellsServed, Told, csv_head, csv_line}
+use Rattle.cell_sweep.specs.Rows.{Grows, GrowsBy, IsScript, IsToldOf, RunsTo, TellsRun, TellsServed, Told, csv_head}
+use Rattle.cell_sweep.specs.Rows.{csv_line}
 use Rattle.cell_sweep.specs.Sweeps.{AreCounts, EndsSo, Sweeps, SweepsTexts, TellsCase, TellsCases, Wanted}
 
 -- the faults of one more motion come after those so far
 pub motions-more : (kinds : List Fault) (a : Axis) (n : ℕ) (old mid new : List PlannedFault)
-    → mid ≡ old ++ in_motions kinds a n → new ≡ mid ++ map (planned a (n + 1)) kinds → new ≡ old ++ in_motions kinds a (n + 1)
+    → mid ≡ old ++ in_motions kinds a n → new ≡ mid ++ map (planned a (n + 1)) kinds
+    → new ≡ old ++ in_motions kinds a (n + 1)
 motions-more kinds a n old mid new so_far next =
     let next_suc = rw add-one at next in
-    rw add-one (next_suc ∙ ap (λ ys. ys ++ map (planned a (suc n)) kinds) so_far ∙ append_assoc old (in_motions kinds a n) (map (planned a (suc n)) kinds))
+    rw add-one (next_suc ∙ ap (λ ys. ys ++ map (planned a (suc n)) kinds) so_far
+    ∙ append_assoc old (in_motions kinds a n) (map (planned a (suc n)) kinds))
 
 -- one more part of a list names one more kind
-pub named-more : (parts : List (List ℕ)) (i : ℕ) (kinds new : List Fault) (kind : Fault) → map kind_of (take i parts) ≡ map Some kinds → i < length parts
-    → kind_of (get_or parts i []) ≡ Some kind → new ≡ kinds ++ kind ∷ [] → map kind_of (take (i + 1) parts) ≡ map Some new
+pub named-more : (parts : List (List ℕ)) (i : ℕ) (kinds new : List Fault) (kind : Fault)
+    → map kind_of (take i parts) ≡ map Some kinds → i < length parts
+    → kind_of (get_or parts i []) ≡ Some kind → new ≡ kinds ++ kind ∷ []
+    → map kind_of (take (i + 1) parts) ≡ map Some new
 named-more parts i kinds new kind so_far inside here next =
     ap (map kind_of) (take_more parts i [] inside) ∙ map-append kind_of (take i parts) (get_or parts i [] ∷ [])
-    ∙ ap (λ ks. ks ++ kind_of (get_or parts i []) ∷ []) so_far ∙ ap (λ k. map Some kinds ++ k ∷ []) here ∙ sym (map-append Some kinds (kind ∷ []))
+    ∙ ap (λ ks. ks ++ kind_of (get_or parts i []) ∷ []) so_far ∙ ap (λ k. map Some kinds ++ k ∷ []) here
+    ∙ sym (map-append Some kinds (kind ∷ []))
     ∙ ap (map Some) (sym next)
 
 -- the same of parts that are lent
-pub named-part : (lent : List (Bor (List ℕ))) (parts : List (List ℕ)) (i : ℕ) (d : Bor (List ℕ)) (kinds new : List Fault) (kind : Fault)
+pub named-part : (lent : List (Bor (List ℕ))) (parts : List (List ℕ)) (i : ℕ) (d : Bor (List ℕ))
+    (kinds new : List Fault) (kind : Fault)
     → map (λ p. p.now) lent ≡ parts → map kind_of (take i parts) ≡ map Some kinds → i < length lent
-    → kind_of (get_or lent i d).now ≡ Some kind → new ≡ kinds ++ kind ∷ [] → map kind_of (take (i + 1) parts) ≡ map Some new
+    → kind_of (get_or lent i d).now ≡ Some kind → new ≡ kinds ++ kind ∷ []
+    → map kind_of (take (i + 1) parts) ≡ map Some new
 named-part lent parts i d kinds new kind same so_far inside here next =
-    named-more parts i kinds new kind so_far (subst (λ ps. i < length ps) same (subst (λ n. i < n) (sym (length-map lent (λ p. p.now))) inside))
-    (ap (λ ps. kind_of (get_or ps i [])) (sym same) ∙ ap kind_of (get_or-map (λ (p : Bor (List ℕ)). p.now) lent i d [] inside) ∙ here) next
+    named-more parts i kinds new kind so_far
+    (subst (λ ps. i < length ps) same (subst (λ n. i < n) (sym (length-map lent (λ p. p.now))) inside))
+    (ap (λ ps. kind_of (get_or ps i [])) (sym same)
+    ∙ ap kind_of (get_or-map (λ (p : Bor (List ℕ)). p.now) lent i d [] inside) ∙ here) next
 
 -- what a function gives of one more element comes after what it gives of those so far
 pub flat-more : {X Y : Type 0} (f : X → List Y) (mid new : List Y) (xs : List X) (i : ℕ) (d : X) → i < length xs
     → mid ≡ flat_map f (take i xs) → new ≡ mid ++ f (get_or xs i d) → new ≡ flat_map f (take (i + 1) xs)
 flat-more f mid new xs i d inside so_far next =
-    next ∙ ap (λ ys. ys ++ f (get_or xs i d)) so_far ∙ flat_map_more f [] (take i xs) (get_or xs i d) ∙ ap (flat_map f) (sym (take_more xs i d inside))
+    next ∙ ap (λ ys. ys ++ f (get_or xs i d)) so_far ∙ flat_map_more f [] (take i xs) (get_or xs i d)
+    ∙ ap (flat_map f) (sym (take_more xs i d inside))
 
 -- what is told of one more element comes after a first element and what is told of those so far
-pub told-behind : {X : Type 0} (f : X → List ℕ) (b : ℕ) (old mid new : Option (List ℕ)) (xs : List X) (i : ℕ) (d : X) → i < length xs
-    → Appends old mid (b ∷ flat_map f (take i xs)) → Appends mid new (f (get_or xs i d)) → Appends old new (b ∷ flat_map f (take (i + 1) xs))
+pub told-behind : {X : Type 0} (f : X → List ℕ) (b : ℕ) (old mid new : Option (List ℕ)) (xs : List X) (i : ℕ) (d : X)
+    → i < length xs
+    → Appends old mid (b ∷ flat_map f (take i xs)) → Appends mid new (f (get_or xs i d))
+    → Appends old new (b ∷ flat_map f (take (i + 1) xs))
 told-behind f b old mid new xs i d inside so_far next =
-    subst (Appends old new) (ap (λ ys. b ∷ ys) (flat_map_more f [] (take i xs) (get_or xs i d) ∙ ap (flat_map f) (sym (take_more xs i d inside)))) (Appends-trans old mid new _ _ so_far next)
+    subst (Appends old new) (ap (λ ys. b ∷ ys) (flat_map_more f [] (take i xs) (get_or xs i d)
+    ∙ ap (flat_map f) (sym (take_more xs i d inside)))) (Appends-trans old mid new _ _ so_far next)
 
 -- it grew by a text that was written
 pub grew : (old new : Option (List ℕ)) (text : List ℕ) → Appends old new text → Grows old new
@@ -69,39 +85,59 @@ pub grows-twice : (old mid new : Option (List ℕ)) → Grows old mid → Grows 
 grows-twice old mid new (text, h) (more, i) = (text ++ more, Appends-trans old mid new text more h i)
 
 -- one growth after another
-pub by-then : (old mid new : Option (List ℕ)) (csv : Bool) (line more : List ℕ) → GrowsBy old mid csv line → GrowsBy mid new csv more → GrowsBy old new csv (line ++ more)
-by-then old mid new csv line more (text, h, same) (next, i, alike) =
-    (text ++ next, Appends-trans old mid new text next h i, λ is_csv. ap (λ ys. ys ++ next) (same is_csv) ∙ ap (λ ys. line ++ ys) (alike is_csv))
+pub by-then : (old mid new : Option (List ℕ)) (csv : Bool) (line more : List ℕ) → GrowsBy old mid csv line
+    → GrowsBy mid new csv more → GrowsBy old new csv (line ++ more)
+by-then old mid new csv line more (text, h, same) (next, i, alike) = (
+  text ++ next,
+  Appends-trans old mid new text next h i,
+  λ is_csv. ap (λ ys. ys ++ next) (same is_csv)
+      ∙ ap (λ ys. line ++ ys) (alike is_csv),
+)
 
 -- no case is told yet
-pub no-cases : (settings operator : List ℕ) (w : Wanted) (old : Option (List ℕ)) → TellsCases settings operator w [] old old
-no-cases settings operator w old = ([], refl, All-nil (TellsServed settings operator w.service), ([], Appends-nil old, λ is_csv. refl))
+pub no-cases : (settings operator : List ℕ) (w : Wanted) (old : Option (List ℕ))
+    → TellsCases settings operator w [] old old
+no-cases settings operator w old = (
+  [],
+  refl,
+  All-nil (TellsServed settings operator w.service),
+  ([], Appends-nil old, λ is_csv. refl),
+)
 
 -- one more case is told
-pub case-more : (settings operator : List ℕ) (w : Wanted) (cases : List PlannedFault) (i : ℕ) (d : PlannedFault) (old mid new : Option (List ℕ)) → i < length cases
+pub case-more : (settings operator : List ℕ) (w : Wanted) (cases : List PlannedFault) (i : ℕ) (d : PlannedFault)
+    (old mid new : Option (List ℕ)) → i < length cases
     → TellsCases settings operator w (take i cases) old mid → TellsCase settings operator w (get_or cases i d) mid new
     → TellsCases settings operator w (take (i + 1) cases) old new
 case-more settings operator w cases i d old mid new inside (runs, same, told, grown) (t, is_planned, tells, line) = (
   runs ++ t ∷ [],
-  map-append (λ (s : Told). s.planned) runs (t ∷ []) ∙ ap (λ fs. fs ++ t.planned ∷ []) same ∙ ap (λ (f : PlannedFault). take i cases ++ f ∷ []) is_planned ∙ sym (take_more cases i d inside),
-  All-append (TellsServed settings operator w.service) runs (t ∷ []) told (All-cons (TellsServed settings operator w.service) t [] tells (All-nil (TellsServed settings operator w.service))),
-  subst (GrowsBy old new w.csv) (flat_map_more csv_line [] runs t) (by-then old mid new w.csv (flat_map csv_line runs) (csv_line t) grown line),
+  map-append (λ (s : Told). s.planned) runs (t ∷ []) ∙ ap (λ fs. fs ++ t.planned ∷ []) same
+      ∙ ap (λ (f : PlannedFault). take i cases ++ f ∷ []) is_planned ∙ sym (take_more cases i d inside),
+  All-append (TellsServed settings operator w.service) runs (t ∷ []) told
+      (All-cons (TellsServed settings operator w.service) t [] tells
+      (All-nil (TellsServed settings operator w.service))),
+  subst (GrowsBy old new w.csv) (flat_map_more csv_line [] runs t)
+      (by-then old mid new w.csv (flat_map csv_line runs) (csv_line t) grown line),
 )
 
 -- what was written of the cases so far is whole lines
-pub cases-grow : (settings operator : List ℕ) (w : Wanted) (cases : List PlannedFault) (old mid : Option (List ℕ)) → TellsCases settings operator w cases old mid → Grows old mid
+pub cases-grow : (settings operator : List ℕ) (w : Wanted) (cases : List PlannedFault) (old mid : Option (List ℕ))
+    → TellsCases settings operator w cases old mid → Grows old mid
 cases-grow settings operator w cases old mid (runs, same, told, (text, h, line)) = (text, h)
 
 -- a run by the script of a fault is one of which a row with this fault tells
-pub told-of : (settings script faults : List ℕ) (f : PlannedFault) (t : Told) (plan : Plan) (J : List Entry) (e : End) → t.planned ≡ f → faults ≡ script_of f
+pub told-of : (settings script faults : List ℕ) (f : PlannedFault) (t : Told) (plan : Plan) (J : List Entry) (e : End)
+    → t.planned ≡ f → faults ≡ script_of f
     → RunsTo settings faults script plan J e → IsToldOf t script plan J e → TellsRun settings script t
 told-of settings script faults f t plan J e same is_script runs told =
     (plan, J, e, subst (λ fs. RunsTo settings fs script plan J e) (is_script ∙ ap script_of (sym same)) runs, told)
 
 -- the line above all, the lines of the cases, and what stands below them
-pub swept : (settings operator : List ℕ) (w : Wanted) (counts : Axis → ℕ) (cases : List PlannedFault) (p q r s : Option (List ℕ))
+pub swept : (settings operator : List ℕ) (w : Wanted) (counts : Axis → ℕ) (cases : List PlannedFault)
+    (p q r s : Option (List ℕ))
     → AreCounts settings operator w.service w.motions counts → cases ≡ cases_of counts w.kinds
-    → GrowsBy p q w.csv csv_head → TellsCases settings operator w cases q r → GrowsBy r s w.csv [] → Sweeps settings operator w p s
+    → GrowsBy p q w.csv csv_head → TellsCases settings operator w cases q r → GrowsBy r s w.csv []
+    → Sweeps settings operator w p s
 swept settings operator w counts cases p q r s counted same head (runs, in_order, told, rows) below =
     record {
       counts = counts;
@@ -109,7 +145,8 @@ swept settings operator w counts cases p q r s counted same head (runs, in_order
       runs = runs;
       cases = in_order ∙ same;
       told = told;
-      written = subst (GrowsBy p s w.csv) (append-nil (csv_head ++ flat_map csv_line runs)) (by-then p r s w.csv _ [] (by-then p q r w.csv csv_head (flat_map csv_line runs) head rows) below);
+      written = subst (GrowsBy p s w.csv) (append-nil (csv_head ++ flat_map csv_line runs))
+          (by-then p r s w.csv _ [] (by-then p q r w.csv csv_head (flat_map csv_line runs) head rows) below);
     }
 
 -- it grew by the part of a text that was written
@@ -117,38 +154,52 @@ pub grew-part : (old new : Option (List ℕ)) (text : List ℕ) → WritesPart o
 grew-part old new text (n, inside, h) = (take n text, h)
 
 -- where no text is refused, the sweep is whole, or it broke off and its status says so
-pub sweeps-or-breaks : (swept : Result Unit Stop) (ended : Result ℕ WriteFault) (settings operator : List ℕ) (w : Wanted) (old new : Option (List ℕ)) (inputs : Result Inputs InputError)
-    → AreInputs settings [] operator inputs → ((e : InputError) → inputs ≢ Err e) → OnOk swept (Sweeps settings operator w old new) → (IsErr swept → Grows old new)
+pub sweeps-or-breaks : (swept : Result Unit Stop) (ended : Result ℕ WriteFault) (settings operator : List ℕ)
+    (w : Wanted) (old new : Option (List ℕ)) (inputs : Result Inputs InputError)
+    → AreInputs settings [] operator inputs → ((e : InputError) → inputs ≢ Err e)
+    → OnOk swept (Sweeps settings operator w old new) → (IsErr swept → Grows old new)
     → IfOk ended (EndsSo swept) → IfOk ended (λ status. SweepsTexts settings operator w old new status)
 sweeps-or-breaks swept (Err fault) settings operator w old new inputs are good told part ends = tt
 sweeps-or-breaks swept (Ok status) settings operator w old new (Err e) are good told part ends = absurd (good e refl)
-sweeps-or-breaks (Ok done) (Ok status) settings operator w old new (Ok inputs) are good told part ends = (Ok inputs, are, inl (ends, told))
-sweeps-or-breaks (Err (stop.NoRun why)) (Ok status) settings operator w old new (Ok inputs) are good told part ends = (Ok inputs, are, inr (ends, part refl))
-sweeps-or-breaks (Err stop.WriteFault) (Ok status) settings operator w old new (Ok inputs) are good told part ends = absurd ends
+sweeps-or-breaks (Ok done) (Ok status) settings operator w old new (Ok inputs) are good told part ends =
+    (Ok inputs, are, inl (ends, told))
+sweeps-or-breaks (Err (stop.NoRun why)) (Ok status) settings operator w old new (Ok inputs) are good told part ends =
+    (Ok inputs, are, inr (ends, part refl))
+sweeps-or-breaks (Err stop.WriteFault) (Ok status) settings operator w old new (Ok inputs) are good told part ends =
+    absurd ends
 
 -- what is known of a writer grew by some text
 pub by-grows : (old new : Option (List ℕ)) (csv : Bool) (line : List ℕ) → GrowsBy old new csv line → Grows old new
 by-grows old new csv line (text, h, same) = (text, h)
 
 -- all cases are told
-pub all-cases : (settings operator : List ℕ) (w : Wanted) (cases : List PlannedFault) (i : ℕ) (old new : Option (List ℕ)) → length cases ≤ i
+pub all-cases : (settings operator : List ℕ) (w : Wanted) (cases : List PlannedFault) (i : ℕ)
+    (old new : Option (List ℕ)) → length cases ≤ i
     → TellsCases settings operator w (take i cases) old new → TellsCases settings operator w cases old new
-all-cases settings operator w cases i old new past told = subst (λ (fs : List PlannedFault). TellsCases settings operator w fs old new) (take_all i cases past) told
+all-cases settings operator w cases i old new past told =
+    subst (λ (fs : List PlannedFault). TellsCases settings operator w fs old new) (take_all i cases past) told
 
--- a run by the script of a fault and by a script that serves, or the operator's, is one of which a row with this fault tells
-pub served-of : (settings operator one other script faults : List ℕ) (service : Bool) (f : PlannedFault) (t : Told) (plan : Plan) (J : List Entry) (e : End)
+-- a run by the script of a fault and by a script that serves, or the operator's, is one of which a row with this fault
+-- tells
+pub served-of : (settings operator one other script faults : List ℕ) (service : Bool) (f : PlannedFault) (t : Told)
+    (plan : Plan) (J : List Entry) (e : End)
     → one ≡ script → other ≡ script → IsScript service operator script → t.planned ≡ f → faults ≡ script_of f
-    → RunsTo settings faults one plan J e → (faults ≡ script_of f → IsToldOf t other plan J e) → TellsServed settings operator service t
+    → RunsTo settings faults one plan J e → (faults ≡ script_of f → IsToldOf t other plan J e)
+    → TellsServed settings operator service t
 served-of settings operator one other script faults service f t plan J e first second is same is_script runs told = (
   script,
   is,
-  told-of settings script faults f t plan J e same is_script (subst (λ (s : List ℕ). RunsTo settings faults s plan J e) first runs)
+  told-of settings script faults f t plan J e same is_script
+      (subst (λ (s : List ℕ). RunsTo settings faults s plan J e) first runs)
       (subst (λ (s : List ℕ). IsToldOf t s plan J e) second (told is_script)),
 )
 
 -- where no number is given the motions are counted in the run without faults
-pub counted-by-run : (settings operator script : List ℕ) (service : Bool) (motions : Option ℕ) (counts : Axis → ℕ) (plan : Plan) (J : List Entry) (e : End)
-    → ((n : ℕ) → motions ≢ Some n) → IsScript service operator script → RunsTo settings [] script plan J e → ((a : Axis) → counts a ≡ motions_of J a)
+pub counted-by-run : (settings operator script : List ℕ) (service : Bool) (motions : Option ℕ) (counts : Axis
+    → ℕ) (plan : Plan) (J : List Entry) (e : End)
+    → ((n : ℕ) → motions ≢ Some n) → IsScript service operator script → RunsTo settings [] script plan J e
+    → ((a : Axis) → counts a ≡ motions_of J a)
     → AreCounts settings operator service motions counts
 counted-by-run settings operator script service (Some n) counts plan J e none is runs counted = absurd (none n refl)
-counted-by-run settings operator script service None counts plan J e none is runs counted = (script, plan, J, e, is, runs, counted)
+counted-by-run settings operator script service None counts plan J e none is runs counted =
+    (script, plan, J, e, is, runs, counted)

@@ -31,7 +31,8 @@ number_or_nothing None = []
 
 -- the script of faults with one fault: one record
 abbrev pub script_of : PlannedFault → List ℕ
-script_of f = line (axis_word f.axis ∷ decimal f.motion ∷ word_of f.fault ∷ number_or_nothing (readings_of f.fault) ∷ [])
+script_of f = line (axis_word f.axis ∷ decimal f.motion ∷ word_of f.fault ∷ number_or_nothing (readings_of f.fault)
+    ∷ [])
 
 -- a fault of this kind in this motion of an axis
 abbrev pub planned : Axis → ℕ → Fault → PlannedFault

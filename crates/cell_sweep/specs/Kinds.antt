@@ -1,5 +1,6 @@
 -- Lists of kinds of faults
-use Rattle.std.specs.Prelude.{◌≡◌, ◌==◌, ◌+◌, ◌<◌, ℕ, Bool, List, [], ◌∷◌, map, min, take, length, get_or, Option, Some, None, if◌then◌else◌, ⊤}
+use Rattle.std.specs.Prelude.{◌≡◌, ◌==◌, ◌+◌, ◌<◌, ℕ, Bool, List, [], ◌∷◌, map, min, take, length, get_or, Option, Some}
+use Rattle.std.specs.Prelude.{None, if◌then◌else◌, ⊤}
 use Rattle.std.specs.List.{after_first, before_first, position_or_len, slice_split}
 use Rattle.cell_sim.specs.declared.fault.Fault.{Fault}
 use Rattle.cell_sim.specs.declared.fault.Fault.TheVariants as fault
@@ -11,7 +12,8 @@ use Rattle.cell_sweep.specs.Cases.{word_of}
 
 -- every kind of fault, each that takes a number of readings with 30 of them
 abbrev pub all_kinds : List Fault
-all_kinds = fault.NoMotion ∷ fault.KeepsOld ∷ fault.Both ∷ fault.Slow 30 ∷ fault.LosePlate ∷ fault.Silent 30 ∷ fault.RefuseCommand ∷ []
+all_kinds = fault.NoMotion ∷ fault.KeepsOld ∷ fault.Both ∷ fault.Slow 30 ∷ fault.LosePlate ∷ fault.Silent 30
+    ∷ fault.RefuseCommand ∷ []
 
 -- the kind whose word a text is
 abbrev pub kind_named : List ℕ → Option Fault

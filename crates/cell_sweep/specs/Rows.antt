@@ -1,5 +1,6 @@
 -- What is told of each run of a sweep
-use Rattle.std.specs.Prelude.{◌≡◌, ◌==◌, ℕ, Bool, true, false, List, [], ◌∷◌, ◌++◌, Option, Some, None, Result, Ok, Err, codes, decimal, if◌then◌else◌, replicate, ⊤}
+use Rattle.std.specs.Prelude.{◌≡◌, ◌==◌, ℕ, Bool, true, false, List, [], ◌∷◌, ◌++◌, Option, Some, None, Result, Ok, Err}
+use Rattle.std.specs.Prelude.{codes, decimal, if◌then◌else◌, replicate, ⊤}
 use Rattle.std.specs.List.{flat_map}
 use Rattle.std.specs.Io.KnownBytes.{Appends}
 use Rattle.cell_types.specs.declared.words.Entry.{Entry}
@@ -34,7 +35,8 @@ pub record Told : Type 0 where
 -- a run by these three texts, none of which is refused, leads by this plan to this journal and this end
 abbrev pub RunsTo : List ℕ → List ℕ → List ℕ → Plan → List Entry → End → Type 0
 RunsTo settings faults operator plan J e =
-    (inputs : Inputs) × AreInputs settings faults operator (Ok inputs) × (inputs.plan ≡ plan) × IsRun (limits_of plan) plan inputs.script J e
+    (inputs : Inputs) × AreInputs settings faults operator (Ok inputs) × (inputs.plan ≡ plan)
+    × IsRun (limits_of plan) plan inputs.script J e
 
 -- why there is no run by these three texts; want of memory says nothing
 abbrev pub RefusesRun : List ℕ → List ℕ → List ℕ → NoRun → Type 0
@@ -60,7 +62,8 @@ pub record IsToldOf (t : Told) (operator : List ℕ) (plan : Plan) (J : List Ent
 -- what is told is of a run with the one fault, by this script of the operator
 abbrev pub TellsRun : List ℕ → List ℕ → Told → Type 0
 TellsRun settings operator t =
-    (plan : Plan) × (J : List Entry) × (e : End) × RunsTo settings (script_of t.planned) operator plan J e × IsToldOf t operator plan J e
+    (plan : Plan) × (J : List Entry) × (e : End) × RunsTo settings (script_of t.planned) operator plan J e
+    × IsToldOf t operator plan J e
 
 -- without a service the script of the operator stays as it is
 abbrev pub IsScript : Bool → List ℕ → List ℕ → Type 0
@@ -68,7 +71,8 @@ IsScript service operator script = service ≡ false → script ≡ operator
 
 -- what is told is of a run with the one fault, by the operator's script or by one that serves
 abbrev pub TellsServed : List ℕ → List ℕ → Bool → Told → Type 0
-TellsServed settings operator service t = (script : List ℕ) × IsScript service operator script × TellsRun settings script t
+TellsServed settings operator service t = (script : List ℕ) × IsScript service operator script
+    × TellsRun settings script t
 
 -- a kind with its number of readings, as a list of kinds has it
 abbrev pub kind_with : List ℕ → Option ℕ → List ℕ
@@ -100,7 +104,8 @@ with_commas (field ∷ fields) = field ++ 44 ∷ with_commas fields
 abbrev pub csv_line : Told → List ℕ
 csv_line t =
     with_commas (axis_word t.planned.axis ∷ decimal t.planned.motion ∷ kind_text t.planned.fault ∷ end_word t.end
-    ∷ decimal t.totals.admitted ∷ decimal t.totals.forged ∷ decimal t.totals.quarantined ∷ decimal t.totals.delivered ∷ decimal t.time ∷ [])
+    ∷ decimal t.totals.admitted ∷ decimal t.totals.forged ∷ decimal t.totals.quarantined ∷ decimal t.totals.delivered
+    ∷ decimal t.time ∷ [])
     ++ (quoted_if_any t.waits ++ 10 ∷ [])
 
 -- what is known of a writer grows by some text

@@ -26,15 +26,16 @@ pub record Wanted : Type 0 where
 abbrev pub wanted : List Fault → Option ℕ → Bool → Bool → Wanted
 wanted kinds motions service csv = record { kinds = kinds; motions = motions; service = service; csv = csv }
 
--- how many motions of each axis a sweep goes through: a number that is given, or as many as each has in the run without faults
+-- how many motions of each axis a sweep goes through: a number that is given, or as many as each has in the run without
+-- faults
 abbrev pub AreCounts : List ℕ → List ℕ → Bool → Option ℕ → (Axis → ℕ) → Type 0
 AreCounts settings operator service (Some n) counts = (a : Axis) → counts a ≡ n
 AreCounts settings operator service None counts =
     (script : List ℕ) × (plan : Plan) × (J : List Entry) × (e : End)
     × IsScript service operator script × RunsTo settings [] script plan J e × ((a : Axis) → counts a ≡ motions_of J a)
 
--- each kind in each motion of each axis has one run, in order, and what is told of them is written: as CSV a line above all, and a
--- line of each
+-- each kind in each motion of each axis has one run, in order, and what is told of them is written: as CSV a line above
+-- all, and a line of each
 pub record Sweeps (settings operator : List ℕ) (w : Wanted) (old new : Option (List ℕ)) : Type 0 where
   pub counts : Axis → ℕ
   pub counted : AreCounts settings operator w.service w.motions counts
@@ -65,11 +66,13 @@ TellsCase settings operator w planned old new =
 -- the runs of these cases are told, and their lines are written
 abbrev pub TellsCases : List ℕ → List ℕ → Wanted → List PlannedFault → Option (List ℕ) → Option (List ℕ) → Type 0
 TellsCases settings operator w cases old new =
-    (runs : List Told) × (map (λ (t : Told). t.planned) runs ≡ cases) × All (TellsServed settings operator w.service) runs
+    (runs : List Told) × (map (λ (t : Told). t.planned) runs ≡ cases)
+    × All (TellsServed settings operator w.service) runs
     × GrowsBy old new w.csv (flat_map csv_line runs)
 
 -- what is written where no text is refused, or of the first that is
-abbrev pub SweepsInputs : List ℕ → List ℕ → Wanted → Option (List ℕ) → Option (List ℕ) → ℕ → Result Inputs InputError → Type 0
+abbrev pub SweepsInputs : List ℕ → List ℕ → Wanted → Option (List ℕ) → Option (List ℕ) → ℕ → Result Inputs InputError
+    → Type 0
 SweepsInputs settings operator w old new status (Err e) = WritesError old new (input_line e) (input_status e) status
 SweepsInputs settings operator w old new status (Ok inputs) =
     ((status ≡ 0) × Sweeps settings operator w old new) ⊎ BreaksOff old new status
@@ -77,4 +80,5 @@ SweepsInputs settings operator w old new status (Ok inputs) =
 -- what is written of a sweep by its texts, or of the first that is refused
 abbrev pub SweepsTexts : List ℕ → List ℕ → Wanted → Option (List ℕ) → Option (List ℕ) → ℕ → Type 0
 SweepsTexts settings operator w old new status =
-    (inputs : Result Inputs InputError) × AreInputs settings [] operator inputs × SweepsInputs settings operator w old new status inputs
+    (inputs : Result Inputs InputError) × AreInputs settings [] operator inputs
+    × SweepsInputs settings operator w old new status inputs

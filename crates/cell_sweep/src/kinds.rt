@@ -138,8 +138,8 @@ fn push_kind(kinds: &mut Vec<Fault>, kind: Fault) -> Result<(), AllocError>
     Ok(())
 }
 
-/// Reads a list of kinds, which are parted by commas, as `no_motion,slow:5`: each by its word, with 30 readings where it takes
-/// a number of them, or by its word, a colon and a number from 1 to 1,000.
+/// Reads a list of kinds, which are parted by commas, as `no_motion,slow:5`: each by its word, with 30 readings where
+/// it takes a number of them, or by its word, a colon and a number from 1 to 1,000.
 pub fn read_kinds(alloc: Global, list: &str) -> Result<Vec<Fault>, KindsError>
     // The kinds are those that the list names, part by part.
     ensures kinds { IfOk result (λ kinds. NamesKinds list.now kinds.items) }

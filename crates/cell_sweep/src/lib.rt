@@ -1,5 +1,5 @@
-//! Sweeps over the simulated cell: each kind of fault in each motion of each axis, in a run of its own, and what is told
-//! of each.
+//! Sweeps over the simulated cell: each kind of fault in each motion of each axis, in a run of its own, and what is
+//! told of each.
 #![tactic(auto)]
 
 mod cases;

@@ -79,7 +79,8 @@ fn write_if_any<W: Write>(writer: &mut W, text: &[u8]) -> Result<()>
 
 // Writes a row of CSV.
 fn write_csv<W: Write>(writer: &mut W, kind: &str, row: &Row) -> Result<()>
-    ensures { kind.now ≡ kind_text row.now.planned.fault → OnOk result (Appends (W.contents writer.old) (W.contents writer.new) (csv_line row.now)) }
+    ensures { kind.now ≡ kind_text row.now.planned.fault
+        → OnOk result (Appends (W.contents writer.old) (W.contents writer.new) (csv_line row.now)) }
 {
     write!(
         writer,
@@ -136,7 +137,8 @@ pub(crate) fn head_of(csv: bool) -> &'static str
 
 // Writes a row, whose kind has this text.
 fn write_row<W: Write>(writer: &mut W, csv: bool, kind: &str, row: &Row) -> Result<()>
-    ensures { csv ≡ true → kind.now ≡ kind_text row.now.planned.fault → OnOk result (Appends (W.contents writer.old) (W.contents writer.new) (csv_line row.now)) }
+    ensures { csv ≡ true → kind.now ≡ kind_text row.now.planned.fault
+        → OnOk result (Appends (W.contents writer.old) (W.contents writer.new) (csv_line row.now)) }
 {
     if csv {
         write_csv(writer, kind, row)

@@ -31,7 +31,14 @@ impl Model for Row {
 
     ghost Value = { Told };
 
-    ghost view = { λ r. record { planned = r.planned; end = r.end; totals = r.totals; time = r.time; waits = r.waits.items } };
+    ghost view = { λ r. record {
+      planned = r.planned;
+      end = r.end;
+      totals = r.totals;
+      time = r.time;
+      waits =
+          r.waits.items;
+    } };
 }
 
 // The first line of a text, without its end.
@@ -48,7 +55,9 @@ fn first_line(text: &[u8]) -> &[u8]
 
 // The first line of what is told of a run's end.
 fn wait_of(alloc: Global, ran: &Ran, faults: &[u8], operator: &[u8]) -> io::Result<Vec<u8>>
-    ensures { IfOk result (λ line. line.items ≡ first_line (ending_of ran.now.outcome.book.entries ran.now.outcome.end ran.now.plan faults.now operator.now)) }
+    ensures { IfOk result (λ line. line.items
+        ≡ first_line (ending_of ran.now.outcome.book.entries ran.now.outcome.end ran.now.plan faults.now
+        operator.now)) }
 {
     let mut text = Vec::new(alloc);
     let outcome = &ran.outcome;
@@ -73,7 +82,8 @@ pub(crate) fn row_of(
     operator: &[u8],
 ) -> Result<Row, AllocError>
     ensures planned { IfOk result (λ row. row.planned ≡ planned) }
-    ensures told { IfOk result (λ row. faults.now ≡ script_of planned → IsToldOf row operator.now ran.now.plan ran.now.outcome.book.entries ran.now.outcome.end) }
+    ensures told { IfOk result (λ row. faults.now ≡ script_of planned
+        → IsToldOf row operator.now ran.now.plan ran.now.outcome.book.entries ran.now.outcome.end) }
 {
     let Ok(waits) = wait_of(alloc, ran, faults, operator) else {
         return Err(AllocError);

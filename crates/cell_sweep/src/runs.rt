@@ -45,7 +45,8 @@ pub(crate) fn run_texts<R: AllocGlobal + Wait>(
     faults: &[u8],
     operator: &[u8],
 ) -> Result<Ran, NoRun>
-    ensures ran { IfOk result (λ ran. RunsTo settings.now faults.now operator.now ran.plan ran.outcome.book.entries ran.outcome.end) }
+    ensures ran { IfOk result (λ ran. RunsTo settings.now faults.now operator.now ran.plan ran.outcome.book.entries
+        ran.outcome.end) }
     ensures refused { IfErr result (RefusesRun settings.now faults.now operator.now) }
 {
     let Inputs {

@@ -90,8 +90,8 @@ fn has_spare(ran: &Ran) -> bool {
     ran.left > due
 }
 
-/// What an operator does at the end of a run who clears what is in a failed machine and repairs it, or else expects what can
-/// be laid back: the lines that the book allows one after another. They are booked.
+/// What an operator does at the end of a run who clears what is in a failed machine and repairs it, or else expects
+/// what can be laid back: the lines that the book allows one after another. They are booked.
 pub(crate) fn plan_service(alloc: Global, ran: &mut Ran) -> Result<Vec<Line>, AllocError> {
     let mut lines = Vec::new(alloc);
     plan_repairs(&mut lines, &mut ran.outcome.book)?;

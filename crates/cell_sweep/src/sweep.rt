@@ -6,7 +6,8 @@ ghost use Rattle.cell_sweep.specs.Cases.{cases_of};
 ghost use Rattle.cell_sweep.specs.declared.sweep.Stop.TheVariants as stop;
 ghost use Rattle.cell_types.specs.declared.words.Axis.{Axis as AxisValue};
 ghost use Rattle.cell_sweep.specs.Rows.{Grows, IsScript, TellsServed};
-ghost use Rattle.cell_sweep.specs.Sweeps.{AreCounts, EndsSo, IsToBlame, Sweeps, SweepsTexts, TellsCase, TellsCases, wanted};
+ghost use Rattle.cell_sweep.specs.Sweeps.{AreCounts, EndsSo, IsToBlame, Sweeps, SweepsTexts, TellsCase, TellsCases};
+ghost use Rattle.cell_sweep.specs.Sweeps.{wanted};
 
 use crate::cases::{cases_of, script_of};
 use crate::print::{counts_text, head_of, line_of};
@@ -111,7 +112,8 @@ fn run_case<R: AllocGlobal + Wait>(
     planned: PlannedFault,
 ) -> Result<Row, NoRun>
     ensures planned { IfOk result (λ row. row.planned ≡ planned) }
-    ensures told { IfOk result (λ row. TellsServed task.now.settings.now task.now.operator.now task.now.sweep.service row) }
+    ensures told { IfOk result (λ row. TellsServed task.now.settings.now task.now.operator.now task.now.sweep.service
+        row) }
 {
     let faults = script_of(rt.alloc(), planned)?;
     let faults = faults.as_str().as_bytes();
@@ -123,7 +125,8 @@ fn run_case<R: AllocGlobal + Wait>(
 
 // How many motions of each axis the sweep goes through.
 fn counts_of<R: AllocGlobal + Wait>(rt: &R, task: &Task<'_>) -> Result<[u32; 9], NoRun>
-    ensures { IfOk result (λ counts. AreCounts task.now.settings.now task.now.operator.now task.now.sweep.service task.now.sweep.motions (λ a. slice_index counts (axis_number a))) }
+    ensures { IfOk result (λ counts. AreCounts task.now.settings.now task.now.operator.now task.now.sweep.service
+        task.now.sweep.motions (λ a. slice_index counts (axis_number a))) }
 {
     if let Some(count) = task.sweep.motions {
         return Ok([count; 9]);
@@ -135,7 +138,9 @@ fn counts_of<R: AllocGlobal + Wait>(rt: &R, task: &Task<'_>) -> Result<[u32; 9],
 
 // The faults of a sweep.
 fn begin<R: AllocGlobal + Wait>(rt: &R, task: &Task<'_>) -> Result<Vec<PlannedFault>, NoRun>
-    ensures { IfOk result (λ cases. (counts : AxisValue → ℕ) × AreCounts task.now.settings.now task.now.operator.now task.now.sweep.service task.now.sweep.motions counts × (cases.items ≡ cases_of counts task.now.sweep.kinds.now)) }
+    ensures { IfOk result (λ cases. (counts : AxisValue → ℕ)
+        × AreCounts task.now.settings.now task.now.operator.now task.now.sweep.service task.now.sweep.motions counts
+        × (cases.items ≡ cases_of counts task.now.sweep.kinds.now)) }
 {
     let counts = counts_of(rt, task)?;
     let cases = cases_of(rt.alloc(), &counts, task.sweep.kinds)?;
@@ -156,7 +161,9 @@ fn write_case<R: AllocGlobal + Wait, W: Write>(
     writer: &mut WatchedWriter<'_, W>,
 ) -> Result<End, Stop>
     ensures writer { IsSameWriter writer.old writer.new }
-    ensures told { OnOk result (TellsCase task.now.settings.now task.now.operator.now (wanted task.now.sweep.kinds.now task.now.sweep.motions task.now.sweep.service task.now.sweep.csv) planned (bytes_held W.contents writer.old) (bytes_held W.contents writer.new)) }
+    ensures told { OnOk result (TellsCase task.now.settings.now task.now.operator.now
+        (wanted task.now.sweep.kinds.now task.now.sweep.motions task.now.sweep.service task.now.sweep.csv) planned
+        (bytes_held W.contents writer.old) (bytes_held W.contents writer.new)) }
     ensures part { IsErr result → Grows (bytes_held W.contents writer.old) (bytes_held W.contents writer.new) }
     ensures fault { IfErr result (IsToBlame (has_refused writer.new)) }
 {
@@ -175,7 +182,9 @@ fn write_rows<R: AllocGlobal + Wait, W: Write, E: Write>(
     errors: &mut E,
 ) -> Result<Vec<End>, Stop>
     ensures writer { IsSameWriter writer.old writer.new }
-    ensures told { OnOk result (TellsCases task.now.settings.now task.now.operator.now (wanted task.now.sweep.kinds.now task.now.sweep.motions task.now.sweep.service task.now.sweep.csv) cases.now (bytes_held W.contents writer.old) (bytes_held W.contents writer.new)) }
+    ensures told { OnOk result (TellsCases task.now.settings.now task.now.operator.now
+        (wanted task.now.sweep.kinds.now task.now.sweep.motions task.now.sweep.service task.now.sweep.csv) cases.now
+        (bytes_held W.contents writer.old) (bytes_held W.contents writer.new)) }
     ensures part { IsErr result → Grows (bytes_held W.contents writer.old) (bytes_held W.contents writer.new) }
     ensures fault { IfErr result (IsToBlame (has_refused writer.new)) }
 {
@@ -204,7 +213,9 @@ fn write_sweep<R: AllocGlobal + Wait, W: Write, E: Write>(
     errors: &mut E,
 ) -> Result<(), Stop>
     ensures writer { IsSameWriter writer.old writer.new }
-    ensures told { OnOk result (Sweeps task.now.settings.now task.now.operator.now (wanted task.now.sweep.kinds.now task.now.sweep.motions task.now.sweep.service task.now.sweep.csv) (bytes_held W.contents writer.old) (bytes_held W.contents writer.new)) }
+    ensures told { OnOk result (Sweeps task.now.settings.now task.now.operator.now
+        (wanted task.now.sweep.kinds.now task.now.sweep.motions task.now.sweep.service task.now.sweep.csv)
+        (bytes_held W.contents writer.old) (bytes_held W.contents writer.new)) }
     ensures part { IsErr result → Grows (bytes_held W.contents writer.old) (bytes_held W.contents writer.new) }
     ensures fault { IfErr result (IsToBlame (has_refused writer.new)) }
 {
@@ -230,8 +241,8 @@ fn ended(swept: Result<(), Stop>) -> Result<u8, WriteFault>
     }
 }
 
-/// Runs the simulated cell once for each fault of a sweep, as `sweep_texts` does, and writes what is told of it to a writer
-/// that notes whether a write of it was refused.
+/// Runs the simulated cell once for each fault of a sweep, as `sweep_texts` does, and writes what is told of it to a
+/// writer that notes whether a write of it was refused.
 pub fn sweep_texts_watched<R: AllocGlobal + Wait, W: Write, E: Write>(
     rt: &R,
     settings: &[u8],
@@ -241,7 +252,9 @@ pub fn sweep_texts_watched<R: AllocGlobal + Wait, W: Write, E: Write>(
     errors: &mut E,
 ) -> Result<u8, WriteFault>
     ensures writer { IsSameWriter writer.old writer.new }
-    ensures whole { IfOk result (SweepsTexts settings.now operator.now (wanted sweep.entry.kinds.now sweep.entry.motions sweep.entry.service sweep.entry.csv) (bytes_held W.contents writer.old) (bytes_held W.contents writer.new)) }
+    ensures whole { IfOk result (SweepsTexts settings.now operator.now
+        (wanted sweep.entry.kinds.now sweep.entry.motions sweep.entry.service sweep.entry.csv)
+        (bytes_held W.contents writer.old) (bytes_held W.contents writer.new)) }
     // Where the writer failed, what was written before only grew.
     ensures part { IsErr result → Grows (bytes_held W.contents writer.old) (bytes_held W.contents writer.new) }
     // It answers that the writer failed only where a write was refused.
@@ -259,13 +272,13 @@ pub fn sweep_texts_watched<R: AllocGlobal + Wait, W: Write, E: Write>(
     ended(swept)
 }
 
-/// Runs the simulated cell in rounds once for each fault of a sweep, alone, and writes a row of each run, and then, unless
-/// it is CSV, how many runs had each end; gives the exit status.
+/// Runs the simulated cell in rounds once for each fault of a sweep, alone, and writes a row of each run, and then,
+/// unless it is CSV, how many runs had each end; gives the exit status.
 ///
 /// The faults are those of each kind in each motion of each axis. The settings or the operator's script, where one is
 /// refused, are told as by `run_texts`, and nothing runs. Else the status is 0, however the runs end, or 4 where memory
-/// was refused, with the rows of the runs before. That `WriteFault` comes only where a refused write was noted is a clause
-/// of `sweep_texts_watched`, of which this is the case of a new writer that notes.
+/// was refused, with the rows of the runs before. That `WriteFault` comes only where a refused write was noted is a
+/// clause of `sweep_texts_watched`, of which this is the case of a new writer that notes.
 pub fn sweep_texts<R: AllocGlobal + Wait, W: Write, E: Write>(
     rt: &R,
     settings: &[u8],
@@ -276,7 +289,9 @@ pub fn sweep_texts<R: AllocGlobal + Wait, W: Write, E: Write>(
 ) -> Result<u8, WriteFault>
     // What is written is of the first text that is refused, or of one run for each fault; or the status says that the
     // sweep broke off.
-    ensures whole { IfOk result (SweepsTexts settings.now operator.now (wanted sweep.entry.kinds.now sweep.entry.motions sweep.entry.service sweep.entry.csv) (W.contents output.old) (W.contents output.new)) }
+    ensures whole { IfOk result (SweepsTexts settings.now operator.now
+        (wanted sweep.entry.kinds.now sweep.entry.motions sweep.entry.service sweep.entry.csv) (W.contents output.old)
+        (W.contents output.new)) }
     // Where the writer failed, what was written before only grew.
     ensures part { IsErr result → Grows (W.contents output.old) (W.contents output.new) }
 {

@@ -1,5 +1,6 @@
 -- What the operator did, with one entry more
-use Rattle.std.proofs.Common.{◌≡◌, inl, inr, refl, true, add-zero, List, [], ◌∷◌, ◌++◌, Option, Some, None, sym, ap, ◌∙◌, append_assoc, append-nil}
+use Rattle.std.proofs.Common.{◌≡◌, inl, inr, refl, true, add-zero, List, [], ◌∷◌, ◌++◌, Option, Some, None, sym, ap}
+use Rattle.std.proofs.Common.{◌∙◌, append_assoc, append-nil}
 use Rattle.std.specs.Prelude.{option_to_list}
 use Rattle.cell_types.specs.declared.words.Entry.{Entry}
 use Rattle.cell_turns.specs.declared.port.Act.{Act}
@@ -8,11 +9,15 @@ use Rattle.cell_turns.specs.Acts.{act_of, hands, ActedAtMost, Did}
 
 hands-push : (es : List Entry) (e : Entry) → hands (es ++ e ∷ []) ≡ hands es ++ option_to_list (act_of e)
 hands-push [] e = append-nil (option_to_list (act_of e))
-hands-push (x ∷ es) e = ap (λ l. option_to_list (act_of x) ++ l) (hands-push es e) ∙ sym (append_assoc (option_to_list (act_of x)) (hands es) (option_to_list (act_of e)))
+hands-push (x ∷ es) e = ap (λ l. option_to_list (act_of x) ++ l) (hands-push es e)
+    ∙ sym (append_assoc (option_to_list (act_of x)) (hands es) (option_to_list (act_of e)))
 
-pub did_push : (before now after : ActLog) (es es' : List Entry) (e : Entry) → after.acts ≡ now.acts ++ option_to_list (act_of e) → es' ≡ es ++ e ∷ [] → Did before now es → Did before after es'
+pub did_push : (before now after : ActLog) (es es' : List Entry) (e : Entry)
+    → after.acts ≡ now.acts ++ option_to_list (act_of e) → es' ≡ es ++ e ∷ [] → Did before now es → Did before after es'
 did_push before now after es es' e is more d = record {
-  acts = is ∙ ap (λ l. l ++ option_to_list (act_of e)) d.acts ∙ append_assoc before.acts (hands es) (option_to_list (act_of e)) ∙ ap (λ l. before.acts ++ l) (sym (hands-push es e) ∙ ap hands (sym more));
+  acts = is ∙ ap (λ l. l ++ option_to_list (act_of e)) d.acts
+      ∙ append_assoc before.acts (hands es) (option_to_list (act_of e))
+      ∙ ap (λ l. before.acts ++ l) (sym (hands-push es e) ∙ ap hands (sym more));
 }
 
 pub did_start : (log : ActLog) (es : List Entry) → es ≡ [] → Did log log es

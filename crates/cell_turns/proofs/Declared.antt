@@ -1,5 +1,6 @@
 -- The entry that a turn decides on is a CommandFault exactly where the last command failed
-use Rattle.std.proofs.Common.{◌≡◌, ℕ, ◌+◌, Bool, true, false, ◌&&◌, nat_lt, Option, Some, None, List, IfSome, if◌then◌else◌, refl, sym, ap, ◌∙◌, subst}
+use Rattle.std.proofs.Common.{◌≡◌, ℕ, ◌+◌, Bool, true, false, ◌&&◌, nat_lt, Option, Some, None, List, IfSome}
+use Rattle.std.proofs.Common.{if◌then◌else◌, refl, sym, ap, ◌∙◌, subst}
 use Rattle.std.specs.Option.{option_map}
 use Rattle.std.specs.List.{count_by}
 use Rattle.cell_types.specs.declared.words.Machine.{Machine}
@@ -49,7 +50,8 @@ unfolding is_command_verdict
 of_cause m cause.CommandFault h = cc
 of_cause m _ h = refl
 
-of_conveyed : (a : Axis) (dest : Station) (o : Option ℕ) → FaultRuling false (books (option_map (λ k. Conveyed a k dest) o))
+of_conveyed : (a : Axis) (dest : Station) (o : Option ℕ)
+    → FaultRuling false (books (option_map (λ k. Conveyed a k dest) o))
 of_conveyed a dest None = refl
 of_conveyed a dest (Some k) = refl
 
@@ -91,41 +93,50 @@ of_sign : (J : List Entry) (m : Machine) (sign : Bool) → FaultRuling false (by
 of_sign J m true = of_signed J m
 of_sign J m false = refl
 
-of_arrival : (J : List Entry) (m : Machine) (sign : Bool) (o : Option Motion) (v : Verdict) → FaultRuling false (by_end J m sign o v)
+of_arrival : (J : List Entry) (m : Machine) (sign : Bool) (o : Option Motion) (v : Verdict)
+    → FaultRuling false (by_end J m sign o v)
 of_arrival J m sign None v = of_sign J m sign
 of_arrival J m sign (Some mo) Pending = of_sign J m sign
 of_arrival J m sign (Some mo) (Fault c) = of_sign J m sign
 of_arrival J m sign (Some mo) Arrived = of_ending J mo.axis mo.to
 
-of_rest_point : (J : List Entry) (m : Machine) (sign : Bool) (o : Option Motion) (v u : Verdict) → is_command_verdict u ≡ false → FaultRuling false (by_rest J m sign o v u)
+of_rest_point : (J : List Entry) (m : Machine) (sign : Bool) (o : Option Motion) (v u : Verdict)
+    → is_command_verdict u ≡ false → FaultRuling false (by_rest J m sign o v u)
 of_rest_point J m sign o v (Fault c) h = of_cause m c h
 of_rest_point J m sign o v Arrived h = of_arrival J m sign o v
 of_rest_point J m sign o v Pending h = of_arrival J m sign o v
 
-of_axis_point : (J : List Entry) (m : Machine) (sign : Bool) (o : Option Motion) (v u : Verdict) → is_command_verdict v ≡ false → is_command_verdict u ≡ false → FaultRuling false (by_axis J m sign o v u)
+of_axis_point : (J : List Entry) (m : Machine) (sign : Bool) (o : Option Motion) (v u : Verdict)
+    → is_command_verdict v ≡ false → is_command_verdict u ≡ false → FaultRuling false (by_axis J m sign o v u)
 of_axis_point J m sign o (Fault c) u h k = of_cause m c h
 of_axis_point J m sign o Arrived u h k = of_rest_point J m sign o Arrived u k
 of_axis_point J m sign o Pending u h k = of_rest_point J m sign o Pending u k
 
-of_points : (J : List Entry) (m : Machine) (kept : Memory) (found : Findings) → is_command_verdict found.at_axis ≡ false → is_command_verdict found.at_rest ≡ false → FaultRuling kept.command_failed (ruling_by J m kept found)
+of_points : (J : List Entry) (m : Machine) (kept : Memory) (found : Findings) → is_command_verdict found.at_axis ≡ false
+    → is_command_verdict found.at_rest ≡ false → FaultRuling kept.command_failed (ruling_by J m kept found)
 of_points J m kept found h k = go (is_failed J m) kept.command_failed (is_asked J m) kept.failed
   where
-    go : (failed a b c : Bool) → FaultRuling a (by_all J m failed a b c (kept.sign && found.sign) found.motion found.at_axis found.at_rest)
+    go : (failed a b c : Bool) → FaultRuling a (by_all J m failed a b c (kept.sign && found.sign) found.motion
+        found.at_axis found.at_rest)
     go true a b c = tt
     go false true b c = refl
     go false false true c = refl
     go false false false true = refl
-    go false false false false = of_axis_point J m (kept.sign && found.sign) found.motion found.at_axis found.at_rest h k
+    go false false false false = of_axis_point J m (kept.sign && found.sign) found.motion found.at_axis found.at_rest h
+        k
 
-of_ruling : (J : List Entry) (m : Machine) (p : Plan) (s : Mind) (r : Option Reading) → FaultRuling s.memory.command_failed (ruling J m p s r)
+of_ruling : (J : List Entry) (m : Machine) (p : Plan) (s : Mind) (r : Option Reading)
+    → FaultRuling s.memory.command_failed (ruling J m p s r)
 unfolding ruling
-of_ruling J m p s r = of_points J m s.memory (findings J m p s r) (of_following (axis_noted J m p s.axis r)) (of_rest (rest_noted J m s.memory s.rest r))
+of_ruling J m p s r = of_points J m s.memory (findings J m p s r) (of_following (axis_noted J m p s.axis r))
+    (of_rest (rest_noted J m s.memory s.rest r))
 
 left : (a b : Bool) → (a && b) ≡ true → a ≡ true
 left true b h = refl
 left false b h = cc
 
-unwanted : (l : BookLimits) (c : Situation) (plan : ℕ) (m n : Machine) (why : Cause) → wants l c plan m (Declared n why) ≡ false
+unwanted : (l : BookLimits) (c : Situation) (plan : ℕ) (m n : Machine) (why : Cause)
+    → wants l c plan m (Declared n why) ≡ false
 unwanted l c plan machine.Feed n why = refl
 unwanted l c plan machine.Table n why = refl
 unwanted l c plan machine.Robot n why = refl
@@ -133,15 +144,19 @@ unwanted l c plan machine.Press1 n why = refl
 unwanted l c plan machine.Press2 n why = refl
 unwanted l c plan machine.Deposit n why = refl
 
-of_useful : (l : BookLimits) (J : List Entry) (plan : ℕ) (m : Machine) (e : Entry) → is_useful l J plan m e ≡ true → is_command_fault e ≡ false
+of_useful : (l : BookLimits) (J : List Entry) (plan : ℕ) (m : Machine) (e : Entry) → is_useful l J plan m e ≡ true
+    → is_command_fault e ≡ false
 unfolding is_useful_now
-of_useful l J plan m (Declared n why) h = absurd (differ (sym (unwanted l (situation_of J) plan m n why) ∙ left (wants l (situation_of J) plan m (Declared n why)) (is_bookable l (situation_of J) (Declared n why)) h))
+of_useful l J plan m (Declared n why) h =
+    absurd (differ (sym (unwanted l (situation_of J) plan m n why)
+    ∙ left (wants l (situation_of J) plan m (Declared n why)) (is_bookable l (situation_of J) (Declared n why)) h))
   where
     differ : false ≡ true → ⊥
     differ q = cc
 of_useful l J plan m _ h = refl
 
-of_ruled : (l : BookLimits) (J : List Entry) (m : Machine) (plates : ℕ) (failed : Bool) (k : Ruling) (e : Entry) → FaultRuling failed k → IsRuled l J m plates k (Some e) → is_command_fault e ≡ failed
+of_ruled : (l : BookLimits) (J : List Entry) (m : Machine) (plates : ℕ) (failed : Bool) (k : Ruling) (e : Entry)
+    → FaultRuling failed k → IsRuled l J m plates k (Some e) → is_command_fault e ≡ failed
 of_ruled l J m plates failed Nothing e f h = cc
 of_ruled l J m plates failed PastLast e f h = absurd h
 of_ruled l J m plates failed Proposes e f h = of_useful l J plates m e h ∙ sym f
@@ -152,11 +167,15 @@ of_ruled l J m plates failed (Books x) e f h = subst (λ (o : Option Entry). on_
     on_entry (Some y) = is_command_fault y ≡ failed
 
 -- a turn books a CommandFault exactly where the last command failed
-pub fault_decided : (l : BookLimits) (J : List Entry) (m : Machine) (p : Plan) (s : Mind) (r : Option Reading) (e : Entry) → IsDecided l J m p s r (Some e) → is_command_fault e ≡ s.memory.command_failed
-fault_decided l J m p s r e h = of_ruled l J m p.plates s.memory.command_failed (ruling J m p s r) e (of_ruling J m p s r) h
+pub fault_decided : (l : BookLimits) (J : List Entry) (m : Machine) (p : Plan) (s : Mind) (r : Option Reading)
+    (e : Entry) → IsDecided l J m p s r (Some e) → is_command_fault e ≡ s.memory.command_failed
+fault_decided l J m p s r e h = of_ruled l J m p.plates s.memory.command_failed (ruling J m p s r) e
+    (of_ruling J m p s r) h
 
 -- the same of a watch
-pub fault_booked : (l : BookLimits) (J : List Entry) (m : Machine) (p : Plan) (w : Watch) (r : Option Reading) (o : Option Entry)
+pub fault_booked : (l : BookLimits) (J : List Entry) (m : Machine) (p : Plan) (w : Watch) (r : Option Reading)
+    (o : Option Entry)
     → ((s : Mind) → FitsMind w s → IsDecided l J m p s r o) → IfSome o (λ e. is_command_fault e ≡ has_failed_command w)
 fault_booked l J m p w r None h = tt
-fault_booked l J m p w r (Some e) h = of_some w (is_command_fault e) (has_failed_command w) (λ s fit. fault_decided l J m p s r e (h s fit) ∙ sym (ap (λ (k : Memory). k.command_failed) fit.memory))
+fault_booked l J m p w r (Some e) h = of_some w (is_command_fault e) (has_failed_command w)
+    (λ s fit. fault_decided l J m p s r e (h s fit) ∙ sym (ap (λ (k : Memory). k.command_failed) fit.memory))

@@ -7,9 +7,11 @@ use Rattle.cell_diagnosis.specs.declared.verdict.Verdict.TheVariants.{Pending, A
 use Rattle.cell_diagnosis.specs.Ends.{last_are}
 use Rattle.cell_diagnosis.specs.Verdicts.{then_verdict, verdict_after}
 use Rattle.cell_diagnosis.specs.Readings.{Seen}
-use Rattle.cell_diagnosis.specs.AxisRules.{judged, verdict, has_arrived, is_stuck_at_end, is_stuck, is_contradictory, is_stray, is_silent, has_not_left, is_late}
+use Rattle.cell_diagnosis.specs.AxisRules.{judged, verdict, has_arrived, is_stuck_at_end, is_stuck, is_contradictory}
+use Rattle.cell_diagnosis.specs.AxisRules.{is_stray, is_silent, has_not_left, is_late}
 use Rattle.cell_diagnosis.specs.RestFacts.{Noted, disagrees, shows_several_at}
-use Rattle.cell_diagnosis.specs.RestRules.{is_silent_at_rest, axis_fault, is_plate_lost, is_plate_strange, plate_fault, judged_at_rest, rest}
+use Rattle.cell_diagnosis.specs.RestRules.{is_silent_at_rest, axis_fault, is_plate_lost, is_plate_strange, plate_fault}
+use Rattle.cell_diagnosis.specs.RestRules.{judged_at_rest, rest}
 use Rattle.cell_turns.specs.Following.{Following}
 use Rattle.cell_turns.specs.Observed.{axis_verdict}
 
@@ -18,19 +20,23 @@ unfoldable pub is_command_verdict : Verdict → Bool
 is_command_verdict (Fault cause.CommandFault) = true
 is_command_verdict _ = false
 
-of_either : (b : Bool) (x y : Verdict) → is_command_verdict x ≡ false → is_command_verdict y ≡ false → is_command_verdict (if b then x else y) ≡ false
+of_either : (b : Bool) (x y : Verdict) → is_command_verdict x ≡ false → is_command_verdict y ≡ false
+    → is_command_verdict (if b then x else y) ≡ false
 of_either true x y h k = h
 of_either false x y h k = k
 
-of_both : (x y : Verdict) → is_command_verdict x ≡ false → is_command_verdict y ≡ false → is_command_verdict (then_verdict x y) ≡ false
+of_both : (x y : Verdict) → is_command_verdict x ≡ false → is_command_verdict y ≡ false
+    → is_command_verdict (then_verdict x y) ≡ false
 of_both Pending y h k = k
 of_both Arrived y h k = h
 of_both (Fault c) y h k = h
 
-of_list : {X : Type 0} (judge : List X → Verdict) (before L : List X) → ((M : List X) → is_command_verdict (judge M) ≡ false) → is_command_verdict (verdict_after judge before L) ≡ false
+of_list : {X : Type 0} (judge : List X → Verdict) (before L : List X)
+    → ((M : List X) → is_command_verdict (judge M) ≡ false) → is_command_verdict (verdict_after judge before L) ≡ false
 unfolding is_command_verdict
 of_list judge before [] h = refl
-of_list judge before (r ∷ rs) h = of_both (judge (before ++ r ∷ [])) (verdict_after judge (before ++ r ∷ []) rs) (h (before ++ r ∷ [])) (of_list judge (before ++ r ∷ []) rs h)
+of_list judge before (r ∷ rs) h = of_both (judge (before ++ r ∷ [])) (verdict_after judge (before ++ r ∷ []) rs)
+    (h (before ++ r ∷ [])) (of_list judge (before ++ r ∷ []) rs h)
 
 of_judged : (m : Motion) (L : List Seen) → is_command_verdict (judged m L) ≡ false
 unfolding is_command_verdict judged
@@ -46,7 +52,8 @@ of_judged m L =
 
 of_axis_fault : (j : ℕ) (L : List Noted) → is_command_verdict (axis_fault j L) ≡ false
 unfolding is_command_verdict axis_fault
-of_axis_fault j L = of_either (last_are 2 (disagrees j) L) _ _ (of_either (last_are 2 (shows_several_at j) L) _ _ refl refl) refl
+of_axis_fault j L = of_either (last_are 2 (disagrees j) L) _ _
+    (of_either (last_are 2 (shows_several_at j) L) _ _ refl refl) refl
 
 of_plate_fault : (L : List Noted) → is_command_verdict (plate_fault L) ≡ false
 unfolding is_command_verdict plate_fault

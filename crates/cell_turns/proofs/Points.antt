@@ -20,14 +20,19 @@ by_end J m sign motion at_axis = first_ruling (end_found J motion at_axis ∷ wh
 
 -- from the sixth on
 abbrev pub by_rest : List Entry → Machine → Bool → Option Motion → Verdict → Verdict → Ruling
-by_rest J m sign motion at_axis at_rest = first_ruling (fault_found m at_rest ∷ end_found J motion at_axis ∷ when sign (signed J m) ∷ Some Proposes ∷ [])
+by_rest J m sign motion at_axis at_rest =
+    first_ruling (fault_found m at_rest ∷ end_found J motion at_axis ∷ when sign (signed J m) ∷ Some Proposes ∷ [])
 
 -- from the fifth on
 abbrev pub by_axis : List Entry → Machine → Bool → Option Motion → Verdict → Verdict → Ruling
-by_axis J m sign motion at_axis at_rest = first_ruling (fault_found m at_axis ∷ fault_found m at_rest ∷ end_found J motion at_axis ∷ when sign (signed J m) ∷ Some Proposes ∷ [])
+by_axis J m sign motion at_axis at_rest =
+    first_ruling (fault_found m at_axis ∷ fault_found m at_rest ∷ end_found J motion at_axis ∷ when sign (signed J m)
+    ∷ Some Proposes ∷ [])
 
 -- all nine, by the conditions of the first four
 abbrev pub by_all : List Entry → Machine → Bool → Bool → Bool → Bool → Bool → Option Motion → Verdict → Verdict → Ruling
 by_all J m failed command_failed asked was_failed sign motion at_axis at_rest =
     first_ruling
-    (when failed Nothing ∷ when command_failed (declares m cause.CommandFault) ∷ when asked (declares m cause.OperatorStop) ∷ when was_failed Proposes ∷ fault_found m at_axis ∷ fault_found m at_rest ∷ end_found J motion at_axis ∷ when sign (signed J m) ∷ Some Proposes ∷ [])
+    (when failed Nothing ∷ when command_failed (declares m cause.CommandFault)
+    ∷ when asked (declares m cause.OperatorStop) ∷ when was_failed Proposes ∷ fault_found m at_axis
+    ∷ fault_found m at_rest ∷ end_found J motion at_axis ∷ when sign (signed J m) ∷ Some Proposes ∷ [])

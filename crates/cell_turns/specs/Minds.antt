@@ -1,5 +1,5 @@
--- What a machine's watch stands for from one turn to the next: the readings that its two watches noted, and what it keeps
--- besides. Nothing stores the readings.
+-- What a machine's watch stands for from one turn to the next: the readings that its two watches noted, and what it
+-- keeps besides. Nothing stores the readings.
 use Rattle.std.specs.Prelude.{◌≡◌, ◌&&◌, Bool, true, false, not, Option, None, List, [], length}
 use Rattle.cell_types.specs.declared.words.Machine.{Machine}
 use Rattle.cell_types.specs.declared.words.Entry.{Entry}

@@ -17,7 +17,8 @@ abbrev pub limits_of : Plan → Axis → Bounds
 limits_of p a = slice_index_or p.limits (axis_number a) (record { leave = 2; limit = 3 })
 
 abbrev pub motion_on : List Entry → Plan → Axis → Option Motion
-motion_on J p a = option_map (λ to. record { axis = a; from = at_of J a; to = to; limits = limits_of p a }) (going_of J a)
+motion_on J p a = option_map (λ to. record { axis = a; from = at_of J a; to = to; limits = limits_of p a })
+    (going_of J a)
 
 -- the same of the i-th axis of a machine, if it has so many
 abbrev pub motion_of_axis : List Entry → Plan → Machine → ℕ → Option Motion
@@ -25,4 +26,5 @@ motion_of_axis J p m i = option_and_then (motion_on J p) (slice_get (axes_of m) 
 
 -- the first of the machine's axes that moves, of which there is one at most; a machine has at most three axes
 abbrev pub motion_of_machine : List Entry → Plan → Machine → Option Motion
-motion_of_machine J p m = option_or (option_or (motion_of_axis J p m 0) (motion_of_axis J p m 1)) (motion_of_axis J p m 2)
+motion_of_machine J p m = option_or (option_or (motion_of_axis J p m 0) (motion_of_axis J p m 1))
+    (motion_of_axis J p m 2)

@@ -11,7 +11,8 @@ use Rattle.cell_types.specs.declared.words.Pose.TheVariants as pose
 use Rattle.cell_types.specs.declared.words.Cause.{Cause}
 use Rattle.cell_types.specs.declared.words.Cause.TheVariants as cause
 use Rattle.cell_types.specs.declared.words.Entry.{Entry}
-use Rattle.cell_types.specs.declared.words.Entry.TheVariants.{Admitted, Arrived as ArrivedAt, Conveyed, Forged, Delivered, Declared, Reinstated}
+use Rattle.cell_types.specs.declared.words.Entry.TheVariants.{Admitted, Arrived as ArrivedAt, Conveyed, Forged}
+use Rattle.cell_types.specs.declared.words.Entry.TheVariants.{Delivered, Declared, Reinstated}
 use Rattle.cell_types.specs.declared.cell.BeltMotion.{BeltMotion}
 use Rattle.cell_types.specs.declared.cell.Press.{Press}
 use Rattle.cell_types.specs.Cell.{home, machine_of_axis, motion_named, press_of}
@@ -52,8 +53,8 @@ ended J a to None None = arrived a to
 abbrev pub ending : List Entry → Axis → Pose → Option Entry
 ending J a to = ended J a to (motion_named a to) (press_of (machine_of_axis a))
 
--- what is booked where a sign was seen: the expected plate, laid back, or the next one, whose number is at most the greatest;
--- or the delivery of the plate at DepEnd
+-- what is booked where a sign was seen: the expected plate, laid back, or the next one, whose number is at most the
+-- greatest; or the delivery of the plate at DepEnd
 abbrev pub next_plate : ℕ → Ruling
 next_plate k = if nat_lt max_plates k then PastLast else Books (Admitted k)
 
@@ -93,9 +94,9 @@ first_ruling (Some k ∷ points) = k
 first_ruling (None ∷ points) = first_ruling points
 
 -- what a turn of m decides by what was kept of its last turn and by what it found:
--- one, the machine is booked failed; two, its last command failed; three, a stop is asked; four, it was booked failed at its
--- last turn; five, the axis watch found a fault; six, the rest watch found one; seven, the motion has ended; eight, this
--- reading and the last one show a sign; nine, whatever else
+-- one, the machine is booked failed; two, its last command failed; three, a stop is asked; four, it was booked failed
+-- at its last turn; five, the axis watch found a fault; six, the rest watch found one; seven, the motion has ended;
+-- eight, this reading and the last one show a sign; nine, whatever else
 abbrev pub ruling_by : List Entry → Machine → Memory → Findings → Ruling
 ruling_by J m kept found =
     first_ruling

@@ -17,8 +17,8 @@ abbrev pub fails_before : Bool → List Entry → Bool
 fails_before failed [] = failed
 fails_before failed (e ∷ es) = is_command_fault e
 
--- the commands of the entries in order, without that of an entry directly followed by a CommandFault, and without that of
--- the last entry where it failed
+-- the commands of the entries in order, without that of an entry directly followed by a CommandFault, and without that
+-- of the last entry where it failed
 abbrev pub sent_for : Bool → List Entry → List Command
 sent_for failed [] = []
 sent_for failed (e ∷ es) = (if fails_before failed es then [] else option_to_list (command_of e)) ++ sent_for failed es
@@ -32,8 +32,8 @@ command_faults es = count_by is_command_fault es
 abbrev pub one_where : Bool → ℕ
 one_where test = if test then 1 else 0
 
--- from one log to another the commands of these entries were sent. `was` and `failed` say whether the last command failed,
--- before them and after them: the first of the entries is a CommandFault exactly where it had.
+-- from one log to another the commands of these entries were sent. `was` and `failed` say whether the last command
+-- failed, before them and after them: the first of the entries is a CommandFault exactly where it had.
 pub record Sends (before : Log) (was : Bool) (after : Log) (es : List Entry) (failed : Bool) : Type 0 where
   pub begins : fails_before failed es ≡ was
   pub sent : after.sent ≡ before.sent ++ sent_for failed es

@@ -29,11 +29,12 @@ pub record TurnedAt (p : Plan) (m : Machine) (r : Option Reading) (before after 
   pub fits : (s : Mind) → FitsMind w s → FitsMind w' (mind_sent lost (mind_after before.entries m p s r booked))
 
 -- a turn of m that was refused
-pub record TurnedAway (p : Plan) (m : Machine) (r : Option Reading) (before after : History) (w w' : Watch) : Type 0 where
-  pub why : Refusal
-  pub away : (s : Mind) → FitsMind w s → IsTurnedAway before.limits before.entries m p s r why
-  pub journal : after ≡ before
-  pub watch : w' ≡ w
+pub record TurnedAway (p : Plan) (m : Machine) (r : Option Reading) (before after : History) (w w' : Watch) : Type 0
+  where
+    pub why : Refusal
+    pub away : (s : Mind) → FitsMind w s → IsTurnedAway before.limits before.entries m p s r why
+    pub journal : after ≡ before
+    pub watch : w' ≡ w
 
 -- at most one entry, of this actor, was booked, listed and counted
 pub record GrewBy (a : Actor) (before after : History) (h h' : Held) (es es' : List Entry) : Type 0 where

@@ -1,5 +1,6 @@
 -- What a turn does
-use Rattle.std.specs.Prelude.{ℕ, ◌≡◌, ◌≢◌, ◌&&◌, ◌||◌, Bool, true, false, not, Option, Some, None, List, [], ◌++◌, option_to_list, if◌then◌else◌, ◌⊎◌, IfSome, is_none}
+use Rattle.std.specs.Prelude.{ℕ, ◌≡◌, ◌≢◌, ◌&&◌, ◌||◌, Bool, true, false, not, Option, Some, None, List, [], ◌++◌}
+use Rattle.std.specs.Prelude.{option_to_list, if◌then◌else◌, ◌⊎◌, IfSome, is_none}
 use Rattle.cell_types.specs.declared.words.Machine.{Machine}
 use Rattle.cell_types.specs.declared.words.Command.{Command}
 use Rattle.cell_types.specs.declared.words.Entry.{Entry}
@@ -76,7 +77,8 @@ mind_after J m p s r e =
 -- why the book didn't book an entry
 abbrev pub IsUnbooked : BookLimits → List Entry → Option Entry → Refusal → Type 0
 IsUnbooked l J None why = ⊥
-IsUnbooked l J (Some e) why = (why ≡ OutOfMemory → is_quarantined e ≡ true) × (why ≢ OutOfMemory → first_of l J e ≡ Some why)
+IsUnbooked l J (Some e) why = (why ≡ OutOfMemory → is_quarantined e ≡ true)
+    × (why ≢ OutOfMemory → first_of l J e ≡ Some why)
 
 -- the refusals that a turn may meet: the journal has no room, or an Admitted would pass the plate limit
 abbrev pub may_meet : Entry → Option Refusal → Bool
@@ -86,7 +88,8 @@ may_meet e (Some PlateLimit) = is_admitted e
 may_meet e (Some _) = false
 
 -- a turn of m is refused: the plates' numbers have run out, or the book refuses the entry that was decided
-pub record IsRefused (l : BookLimits) (J : List Entry) (m : Machine) (p : Plan) (s : Mind) (r : Option Reading) (why : Refusal) : Type 0 where
+pub record IsRefused (l : BookLimits) (J : List Entry) (m : Machine) (p : Plan) (s : Mind) (r : Option Reading)
+    (why : Refusal) : Type 0 where
   pub entry : Entry
   pub decided : IsDecided l J m p s r (Some entry)
   pub first : first_of l J entry ≡ Some why
@@ -103,7 +106,8 @@ IsExcused l J m p r w (Refused why) =
 IsExcused l J m p r w NoMemory = Unit {0}
 
 -- a turn of m that answered c: what it booked, if anything, and what it did
-pub record Turned (m : Machine) (p : Plan) (r : Option Reading) (c : Option Command) (before after : History) (es es' : List Entry) (h h' : Held) (w w' : Watch) : Type 0 where
+pub record Turned (m : Machine) (p : Plan) (r : Option Reading) (c : Option Command) (before after : History)
+    (es es' : List Entry) (h h' : Held) (w w' : Watch) : Type 0 where
   pub booked : Option Entry
   pub decided : (s : Mind) → FitsMind w s → IsDecided before.limits before.entries m p s r booked
   pub actor : IfSome booked (λ e. actor_of e ≡ actor.Machine m)

@@ -27,7 +27,8 @@ pub fn act_of(entry: &Entry) -> Option<Act>
 
 fn act<O: OperatorPort>(operator: &mut O, act: Act) -> Result<(), PortFault>
     ensures still { O.tells operator.new ≡ true → O.tells operator.old ≡ true }
-    ensures told { O.tells operator.new ≡ true → O.log operator.new ≡ after_act (O.log operator.old) act (is_ok result) }
+    ensures told { O.tells operator.new ≡ true
+        → O.log operator.new ≡ after_act (O.log operator.old) act (is_ok result) }
 {
     match act {
         Act::Remove(station) => operator.remove(station),
@@ -38,7 +39,8 @@ fn act<O: OperatorPort>(operator: &mut O, act: Act) -> Result<(), PortFault>
 /// Does by hand what an entry wants, if it wants an act.
 pub fn do_by_hand<O: OperatorPort>(operator: &mut O, entry: &Entry) -> Result<(), PortFault>
     ensures still { O.tells operator.new ≡ true → O.tells operator.old ≡ true }
-    ensures told { O.tells operator.new ≡ true → O.log operator.new ≡ after_hand (O.log operator.old) (act_of entry.now) (is_ok result) }
+    ensures told { O.tells operator.new ≡ true
+        → O.log operator.new ≡ after_hand (O.log operator.old) (act_of entry.now) (is_ok result) }
     ensures wanted { OnErr result (is_some (act_of entry.now) ≡ true) }
 {
     match act_of(entry) {
@@ -64,14 +66,23 @@ pub fn hand<O: OperatorPort, R: Run>(
     entries: &mut Vec<Entry>,
 ) -> Result<Handed, OutOfMemory>
     ensures handed { IfOk result (λ how. IsHanded kept.old.limits kept.old.entries entry how) }
-    ensures entries { IfOk result (λ how. entries.new.items ≡ entries.old.items ++ option_to_list (handed_entry how entry)) }
-    ensures kept { IfOk result (λ how. kept.new ≡ record { limits = kept.old.limits; entries = kept.old.entries ++ option_to_list (handed_entry how entry) }) }
-    ensures shares { IfOk result (λ how. shares.new ≡ held shares.old.parts (plus shares.old.counts (count_of (option_to_list (handed_entry how entry))))) }
-    ensures told { O.tells operator.new ≡ true → IfOk result (λ how. O.log operator.new ≡ handed_log how (O.log operator.old) entry) }
+    ensures entries { IfOk result (λ how. entries.new.items ≡ entries.old.items ++ option_to_list
+        (handed_entry how entry)) }
+    ensures kept { IfOk result (λ how. kept.new ≡ record {
+      limits = kept.old.limits;
+      entries =
+          kept.old.entries ++ option_to_list (handed_entry how entry);
+    }) }
+    ensures shares { IfOk result (λ how. shares.new
+        ≡ held shares.old.parts (plus shares.old.counts (count_of (option_to_list (handed_entry how entry))))) }
+    ensures told { O.tells operator.new ≡ true
+        → IfOk result (λ how. O.log operator.new ≡ handed_log how (O.log operator.old) entry) }
     ensures still { O.tells operator.new ≡ true → O.tells operator.old ≡ true }
     ensures his { OnErr result (IsHis kept.old.limits kept.old.entries entry) }
-    ensures unchanged { OnErr result ((entries.new.items ≡ entries.old.items) × (kept.new ≡ kept.old) × (shares.new ≡ shares.old)) }
-    ensures acted { O.tells operator.new ≡ true → OnErr result (ActedAtMost (act_of entry) (O.log operator.old) (O.log operator.new)) }
+    ensures unchanged { OnErr result ((entries.new.items ≡ entries.old.items) × (kept.new ≡ kept.old)
+        × (shares.new ≡ shares.old)) }
+    ensures acted { O.tells operator.new ≡ true
+        → OnErr result (ActedAtMost (act_of entry) (O.log operator.old) (O.log operator.new)) }
 {
     if !is_his(kept.book(), &entry) {
         return Ok(Handed::Spared);

@@ -6,9 +6,9 @@ use cell_types::{Command, Machine, Station};
 #[derive(Clone, Copy, PartialEq, Eq, Debug)]
 pub struct PortFault;
 
-/// A machine's port. It may tell what it was asked: its answers to `read`, the commands that it sent, and how many of its
-/// commands failed. A port that stores neither lists nor count, or whose lists or count can hold no more, needn't tell
-/// them; one that ceased to tell doesn't begin again.
+/// A machine's port. It may tell what it was asked: its answers to `read`, the commands that it sent, and how many of
+/// its commands failed. A port that stores neither lists nor count, or whose lists or count can hold no more, needn't
+/// tell them; one that ceased to tell doesn't begin again.
 pub trait Port {
     ghost use Rattle.std.specs.Prelude.{◌≡◌, Bool, true, false, is_ok};
     ghost use Rattle.cell_turns.specs.Logs.{Log, no_log, after_read, after_command};
@@ -54,10 +54,12 @@ pub trait OperatorPort {
     /// Takes out the plate at a station. It fails only where the device failed in this call.
     fn remove(&mut self, station: Station) -> Result<(), PortFault>
         ensures still { tells self.new ≡ true → tells self.old ≡ true }
-        ensures told { tells self.new ≡ true → log self.new ≡ after_act (log self.old) (Act.Remove station) (is_ok result) };
+        ensures told { tells self.new ≡ true → log self.new ≡ after_act (log self.old) (Act.Remove station)
+            (is_ok result) };
 
     /// Puts the axes of a machine at home. It fails only where the device failed in this call.
     fn home(&mut self, machine: Machine) -> Result<(), PortFault>
         ensures still { tells self.new ≡ true → tells self.old ≡ true }
-        ensures told { tells self.new ≡ true → log self.new ≡ after_act (log self.old) (Act.Home machine) (is_ok result) };
+        ensures told { tells self.new ≡ true → log self.new ≡ after_act (log self.old) (Act.Home machine)
+            (is_ok result) };
 }

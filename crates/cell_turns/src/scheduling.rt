@@ -81,14 +81,20 @@ fn take_turn<P: Port, R: Run>(
     plan: &Plan,
 ) -> Result<bool, OutOfMemory>
     requires { machine_of_watch watch.old ≡ machine }
-    ensures turned { IfOk result (λ refused. refused ≡ false → TurnedAt plan.now machine reading kept.old kept.new watch.old watch.new) }
-    ensures refused { IfOk result (λ refused. refused ≡ true → TurnedAway plan.now machine reading kept.old kept.new watch.old watch.new) }
-    ensures grew { IfOk result (λ _. GrewBy (actors.Machine machine) kept.old kept.new shares.old shares.new entries.old.items entries.new.items) }
-    ensures sends { P.tells port.new ≡ true → (before : Log) (was : Bool) → Sends before was (P.log port.old) entries.old.items (has_failed_command watch.old) → Sends before was (P.log port.new) entries.new.items (has_failed_command watch.new) }
+    ensures turned { IfOk result (λ refused. refused ≡ false
+        → TurnedAt plan.now machine reading kept.old kept.new watch.old watch.new) }
+    ensures refused { IfOk result (λ refused. refused ≡ true
+        → TurnedAway plan.now machine reading kept.old kept.new watch.old watch.new) }
+    ensures grew { IfOk result (λ _. GrewBy (actors.Machine machine) kept.old kept.new shares.old shares.new
+        entries.old.items entries.new.items) }
+    ensures sends { P.tells port.new ≡ true → (before : Log) (was : Bool)
+        → Sends before was (P.log port.old) entries.old.items (has_failed_command watch.old)
+        → Sends before was (P.log port.new) entries.new.items (has_failed_command watch.new) }
     ensures unread { P.tells port.new ≡ true → (P.log port.new).answers ≡ (P.log port.old).answers }
     ensures still { P.tells port.new ≡ true → P.tells port.old ≡ true }
     ensures machine { machine_of_watch watch.new ≡ machine }
-    ensures unchanged { OnErr result ((port.new ≡ port.old) × (kept.new ≡ kept.old) × (shares.new ≡ shares.old) × (watch.new ≡ watch.old)) }
+    ensures unchanged { OnErr result ((port.new ≡ port.old) × (kept.new ≡ kept.old) × (shares.new ≡ shares.old)
+        × (watch.new ≡ watch.old)) }
 {
     let booked = match book_turn(machine, kept, shares, watch, reading, entries, plan) {
         Ok(booked) => booked,
@@ -118,12 +124,22 @@ fn take_step<P: Port, O: OperatorPort, R: Run>(
     ensures machines { (m : MachineValue) → machine_of_watch (at watches.new m) ≡ m }
     ensures few { ran.new.refused ≤ ran.old.refused + 1 }
     ensures still { O.tells operator.new ≡ true → O.tells operator.old ≡ true }
-    ensures grown { OnOk result ((before : History) (h : Held) → Grown before kept.old h shares.old (map_six (λ v. v.items) ran.old.machines) ran.old.operator.items → Grown before kept.new h shares.new (map_six (λ v. v.items) ran.new.machines) ran.new.operator.items) }
-    ensures sent { OnOk result ((before : SixValue P) (ws : SixValue WatchValue) → AllSent P.tells P.log before ports.old ws watches.old (map_six (λ v. v.items) ran.old.machines) → AllSent P.tells P.log before ports.new ws watches.new (map_six (λ v. v.items) ran.new.machines)) }
-    ensures did { OnOk result ((acts : ActLog) → O.tells operator.new ≡ true → Did acts (O.log operator.old) ran.old.operator.items → Did acts (O.log operator.new) ran.new.operator.items) }
-    ensures scheduled { OnOk result ((steps : List StepValue) (before : History) (ws : SixValue WatchValue) (acts : ActLog) → Scheduled plan.now steps ran.old.refused before kept.old ws watches.old (O.tells operator.old) acts (O.log operator.old) → Scheduled plan.now (steps ++ step.now ∷ []) ran.new.refused before kept.new ws watches.new (O.tells operator.new) acts (O.log operator.new)) }
-    ensures unchanged { OnErr result ((kept.new ≡ kept.old) × (shares.new ≡ shares.old) × (watches.new ≡ watches.old) × (ports.new ≡ ports.old)) }
-    ensures acted { O.tells operator.new ≡ true → OnErr result (ActedAtMost (act_at step.now) (O.log operator.old) (O.log operator.new)) }
+    ensures grown { OnOk result ((before : History) (h : Held)
+        → Grown before kept.old h shares.old (map_six (λ v. v.items) ran.old.machines) ran.old.operator.items
+        → Grown before kept.new h shares.new (map_six (λ v. v.items) ran.new.machines) ran.new.operator.items) }
+    ensures sent { OnOk result ((before : SixValue P) (ws : SixValue WatchValue)
+        → AllSent P.tells P.log before ports.old ws watches.old (map_six (λ v. v.items) ran.old.machines)
+        → AllSent P.tells P.log before ports.new ws watches.new (map_six (λ v. v.items) ran.new.machines)) }
+    ensures did { OnOk result ((acts : ActLog) → O.tells operator.new ≡ true
+        → Did acts (O.log operator.old) ran.old.operator.items → Did acts (O.log operator.new) ran.new.operator.items) }
+    ensures scheduled { OnOk result ((steps : List StepValue) (before : History) (ws : SixValue WatchValue)
+        (acts : ActLog) → Scheduled plan.now steps ran.old.refused before kept.old ws watches.old (O.tells operator.old)
+        acts (O.log operator.old) → Scheduled plan.now (steps ++ step.now ∷ []) ran.new.refused before kept.new ws
+        watches.new (O.tells operator.new) acts (O.log operator.new)) }
+    ensures unchanged { OnErr result ((kept.new ≡ kept.old) × (shares.new ≡ shares.old) × (watches.new ≡ watches.old)
+        × (ports.new ≡ ports.old)) }
+    ensures acted { O.tells operator.new ≡ true
+        → OnErr result (ActedAtMost (act_at step.now) (O.log operator.old) (O.log operator.new)) }
     ensures stops { OnErr result (CanStop kept.old.limits kept.old.entries step.now) }
 {
     match *step {
@@ -160,9 +176,9 @@ fn no_entries(alloc: Global) -> Six<Vec<Entry>>
     }
 }
 
-/// Takes the steps, one after another, on this thread. The readings of turns come from the steps, and commands go to the
-/// ports, which aren't read. A turn that answers `Refused` does nothing but count. An entry by hand that isn't the operator's, that the book
-/// refuses, or whose act by hand fails, does nothing.
+/// Takes the steps, one after another, on this thread. The readings of turns come from the steps, and commands go to
+/// the ports, which aren't read. A turn that answers `Refused` does nothing but count. An entry by hand that isn't the
+/// operator's, that the book refuses, or whose act by hand fails, does nothing.
 ///
 /// `OutOfMemory` comes where a list can't take one more entry, or the book can't for a plate in quarantine. The steps
 /// before stand; at an entry by hand the operator's act may have been done without its entry.
@@ -178,12 +194,18 @@ pub fn run_schedule<P: Port, O: OperatorPort, R: Run>(
 ) -> Result<Ran, OutOfMemory>
     requires { (m : MachineValue) → machine_of_watch (at watches.old m) ≡ m }
     ensures machines { (m : MachineValue) → machine_of_watch (at watches.new m) ≡ m }
-    ensures grown { IfOk result (λ ran. Grown kept.old kept.new shares.old shares.new (map_six (λ v. v.items) ran.machines) ran.operator.items) }
-    ensures sent { IfOk result (λ ran. AllSent P.tells P.log ports.old ports.new watches.old watches.new (map_six (λ v. v.items) ran.machines)) }
-    ensures did { IfOk result (λ ran. O.tells operator.new ≡ true → Did (O.log operator.old) (O.log operator.new) ran.operator.items) }
-    ensures scheduled { IfOk result (λ ran. Scheduled plan.now steps.now ran.refused kept.old kept.new watches.old watches.new (O.tells operator.new) (O.log operator.old) (O.log operator.new)) }
+    ensures grown { IfOk result (λ ran. Grown kept.old kept.new shares.old shares.new
+        (map_six (λ v. v.items) ran.machines) ran.operator.items) }
+    ensures sent { IfOk result (λ ran. AllSent P.tells P.log ports.old ports.new watches.old watches.new
+        (map_six (λ v. v.items) ran.machines)) }
+    ensures did { IfOk result (λ ran. O.tells operator.new ≡ true
+        → Did (O.log operator.old) (O.log operator.new) ran.operator.items) }
+    ensures scheduled { IfOk result (λ ran. Scheduled plan.now steps.now ran.refused kept.old kept.new watches.old
+        watches.new (O.tells operator.new) (O.log operator.old) (O.log operator.new)) }
     ensures legal { OnOk result (legal kept.new.limits kept.new.entries ≡ true) }
-    ensures stopped { OnErr result (Stopped P.tells P.log plan.now steps.now ports.old ports.new kept.old kept.new shares.old shares.new watches.old watches.new (O.tells operator.new) (O.log operator.old) (O.log operator.new)) }
+    ensures stopped { OnErr result (Stopped P.tells P.log plan.now steps.now ports.old ports.new kept.old kept.new
+        shares.old shares.new watches.old watches.new (O.tells operator.new) (O.log operator.old)
+        (O.log operator.new)) }
 {
     let mut ran = Ran {
         machines: no_entries(alloc),
@@ -200,8 +222,9 @@ pub fn run_schedule<P: Port, O: OperatorPort, R: Run>(
     Ok(ran)
 }
 
-/// Takes one step, as `run_schedule` takes a list of one. What it did is told in `ran`, whose lists the caller keeps from
-/// step to step; what they had before is dropped, and their places stay, so that a step that books nothing takes no memory.
+/// Takes one step, as `run_schedule` takes a list of one. What it did is told in `ran`, whose lists the caller keeps
+/// from step to step; what they had before is dropped, and their places stay, so that a step that books nothing takes
+/// no memory.
 #[inline(always)]
 pub fn run_step<P: Port, O: OperatorPort, R: Run>(
     step: &Step,
@@ -215,12 +238,18 @@ pub fn run_step<P: Port, O: OperatorPort, R: Run>(
 ) -> Result<(), OutOfMemory>
     requires { (m : MachineValue) → machine_of_watch (at watches.old m) ≡ m }
     ensures machines { (m : MachineValue) → machine_of_watch (at watches.new m) ≡ m }
-    ensures grown { OnOk result (Grown kept.old kept.new shares.old shares.new (map_six (λ v. v.items) ran.new.machines) ran.new.operator.items) }
-    ensures sent { OnOk result (AllSent P.tells P.log ports.old ports.new watches.old watches.new (map_six (λ v. v.items) ran.new.machines)) }
-    ensures did { OnOk result (O.tells operator.new ≡ true → Did (O.log operator.old) (O.log operator.new) ran.new.operator.items) }
-    ensures scheduled { OnOk result (Scheduled plan.now (step.now ∷ []) ran.new.refused kept.old kept.new watches.old watches.new (O.tells operator.new) (O.log operator.old) (O.log operator.new)) }
+    ensures grown { OnOk result (Grown kept.old kept.new shares.old shares.new (map_six (λ v. v.items) ran.new.machines)
+        ran.new.operator.items) }
+    ensures sent { OnOk result (AllSent P.tells P.log ports.old ports.new watches.old watches.new
+        (map_six (λ v. v.items) ran.new.machines)) }
+    ensures did { OnOk result (O.tells operator.new ≡ true
+        → Did (O.log operator.old) (O.log operator.new) ran.new.operator.items) }
+    ensures scheduled { OnOk result (Scheduled plan.now (step.now ∷ []) ran.new.refused kept.old kept.new watches.old
+        watches.new (O.tells operator.new) (O.log operator.old) (O.log operator.new)) }
     ensures legal { OnOk result (legal kept.new.limits kept.new.entries ≡ true) }
-    ensures stopped { OnErr result (Stopped P.tells P.log plan.now (step.now ∷ []) ports.old ports.new kept.old kept.new shares.old shares.new watches.old watches.new (O.tells operator.new) (O.log operator.old) (O.log operator.new)) }
+    ensures stopped { OnErr result (Stopped P.tells P.log plan.now (step.now ∷ []) ports.old ports.new kept.old kept.new
+        shares.old shares.new watches.old watches.new (O.tells operator.new) (O.log operator.old)
+        (O.log operator.new)) }
 {
     ran.clear();
     let taken = take_step(step, ran, ports, operator, kept, shares, watches, plan);

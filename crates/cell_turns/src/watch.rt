@@ -21,9 +21,9 @@ pub struct Memory {
     pub length: u32,
 }
 
-/// What a machine's worker remembers from one turn to the next: a watch of the axis that moves and one of the machine at
-/// rest, and what is kept of the last turn and the last command. Nothing stores the readings; which verdicts follow is said
-/// of the lists of all readings that a watch fits.
+/// What a machine's worker remembers from one turn to the next: a watch of the axis that moves and one of the machine
+/// at rest, and what is kept of the last turn and the last command. Nothing stores the readings; which verdicts follow
+/// is said of the lists of all readings that a watch fits.
 #[derive(Clone, Copy, PartialEq, Eq, Debug)]
 pub struct Watch {
     pub(crate) machine: Machine,

@@ -1,6 +1,7 @@
 //! The start of a machine's watch, and what is asked of it.
 ghost use Rattle.std.specs.Prelude.{◌≡◌, true};
-ghost use Rattle.cell_turns.specs.Minds.{Mind, FitsMind, machine_of_watch, has_failed_command, first_mind, with_failure, is_quiet};
+ghost use Rattle.cell_turns.specs.Minds.{Mind, FitsMind, machine_of_watch, has_failed_command, first_mind};
+ghost use Rattle.cell_turns.specs.Minds.{with_failure, is_quiet};
 
 use crate::turns::remember::remembered;
 use crate::watch::Watch;
@@ -32,8 +33,8 @@ impl Watch {
         self.memory.command_failed = true;
     }
 
-    /// Whether the last reading was present and agreed with what was expected of it, and no sign is open. False before the
-    /// first reading.
+    /// Whether the last reading was present and agreed with what was expected of it, and no sign is open. False before
+    /// the first reading.
     pub fn quiet(&self) -> bool
         ensures { (s : Mind) → FitsMind self.now s → result ≡ is_quiet s }
     {

@@ -1,8 +1,12 @@
-//! The cell in tables: the lists of its words, what belongs to which machine, homes and zones, the motions of the belts,
-//! and what an arm faces. Who owns and visits a zone, and the numbers of words and bits, are this project's profile.
+//! The cell in tables: the lists of its words, what belongs to which machine, homes and zones, the motions of the
+//! belts, and what an arm faces. Who owns and visits a zone, and the numbers of words and bits, are this project's
+//! profile.
 ghost use Rattle.std.specs.Prelude.{◌≡◌, ◌<◌, [], Some, IfSome, option_map};
 ghost use Rattle.cell_types.specs.Same.{machine_number, station_number, axis_number, zone_number, belt_number};
-ghost use Rattle.cell_types.specs.Cell.{machine_of_axis, machine_of_station, is_before_press, machine_of_belt, axes_of, stations_of, place_in_machine, poses, is_pose_of, home, owner, visitor, press_axis, press_of, station_of_arm, axis_of_arm, motion_to, motion_named, faced_of, faced, grips_at, drops_at};
+ghost use Rattle.cell_types.specs.Cell.{machine_of_axis, machine_of_station, is_before_press, machine_of_belt, axes_of};
+ghost use Rattle.cell_types.specs.Cell.{stations_of, place_in_machine, poses, is_pose_of, home, owner, visitor};
+ghost use Rattle.cell_types.specs.Cell.{press_axis, press_of, station_of_arm, axis_of_arm, motion_to, motion_named};
+ghost use Rattle.cell_types.specs.Cell.{faced_of, faced, grips_at, drops_at};
 
 use crate::{Arm, Axis, Belt, Machine, Pose, Station, Zone};
 

@@ -16,12 +16,16 @@ pub plus_nothing : (k : Totals) → plus k nothing ≡ k
 plus_nothing k = sym (plus_none k)
 
 -- a list that agrees with the first entries of the journal, with the next one
-pub agrees_more : (a : Actor) (J own : List Entry) (place k n : ℕ) (e : Entry) → slice_get J place ≡ Some e → take k own ≡ entries_of a (take place J) → take n own ≡ take k own ++ entries_of a (e ∷ []) → take n own ≡ entries_of a (take (place + 1) J)
+pub agrees_more : (a : Actor) (J own : List Entry) (place k n : ℕ) (e : Entry) → slice_get J place ≡ Some e
+    → take k own ≡ entries_of a (take place J) → take n own ≡ take k own ++ entries_of a (e ∷ [])
+    → take n own ≡ entries_of a (take (place + 1) J)
 agrees_more a J own place k n e there so more =
     more
     ∙ ap (λ (l : List Entry). l ++ entries_of a (e ∷ [])) so
-    ∙ sym (ap (entries_of a) (take_get J place e there) ∙ filter-append (λ (x : Entry). same_actor a (actor_of x)) (take place J) (e ∷ []))
+    ∙ sym (ap (entries_of a) (take_get J place e there) ∙ filter-append (λ (x : Entry). same_actor a (actor_of x))
+    (take place J) (e ∷ []))
 
 -- a list that agrees, as its slice does
-pub listed : {items slice : List Entry} (J : List Entry) (a : Actor) → items ≡ slice → slice ≡ entries_of a J → items ≡ entries_of a J
+pub listed : {items slice : List Entry} (J : List Entry) (a : Actor) → items ≡ slice → slice ≡ entries_of a J
+    → items ≡ entries_of a J
 listed J a is own = is ∙ own

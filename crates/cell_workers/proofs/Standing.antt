@@ -1,5 +1,7 @@
 -- What a turn books is useful where it stands
-use Rattle.std.proofs.Common.{◌≡◌, ℕ, ◌+◌, Bool, true, false, ◌&&◌, nat_lt, Option, Some, None, List, [], ◌∷◌, ◌++◌, IfSome, option_to_list, if◌then◌else◌, refl, sym, ap, ◌∙◌, subst, append_assoc, append-nil}
+use Rattle.std.proofs.Common.{◌≡◌, ℕ, ◌+◌, Bool, true, false, ◌&&◌, nat_lt, Option, Some, None, List, [], ◌∷◌, ◌++◌}
+use Rattle.std.proofs.Common.{IfSome, option_to_list, if◌then◌else◌, refl, sym, ap, ◌∙◌, subst, append_assoc}
+use Rattle.std.proofs.Common.{append-nil}
 use Rattle.std.specs.Option.{option_map}
 use Rattle.std.specs.List.{count_by}
 use Rattle.cell_types.specs.declared.words.Machine.{Machine}
@@ -13,7 +15,8 @@ use Rattle.cell_types.specs.declared.words.Pose.TheVariants as pose
 use Rattle.cell_types.specs.declared.words.Actor.TheVariants as actor
 use Rattle.cell_types.specs.declared.words.Actor.{Actor}
 use Rattle.cell_types.specs.declared.words.Entry.{Entry}
-use Rattle.cell_types.specs.declared.words.Entry.TheVariants.{Lamp, Admitted, Claimed, Yielded, Started, Conveyed, Forged, Gripped, Dropped, Delivered}
+use Rattle.cell_types.specs.declared.words.Entry.TheVariants.{Lamp, Admitted, Claimed, Yielded, Started, Conveyed}
+use Rattle.cell_types.specs.declared.words.Entry.TheVariants.{Forged, Gripped, Dropped, Delivered}
 use Rattle.cell_types.specs.Entries.{actor_of}
 use Rattle.cell_views.specs.Views.{plate_of, is_failed, is_asked, expected_of, is_admitted}
 use Rattle.plate_book.specs.declared.limits.BookLimits.{BookLimits}
@@ -85,18 +88,21 @@ of_sign : (J : List Entry) (m : Machine) (sign : Bool) → Still (by_sign J m si
 of_sign J m true = of_signed J m
 of_sign J m false = tt
 
-of_arrival : (J : List Entry) (m : Machine) (sign : Bool) (o : Option Motion) (v : Verdict) → Still (by_end J m sign o v)
+of_arrival : (J : List Entry) (m : Machine) (sign : Bool) (o : Option Motion) (v : Verdict)
+    → Still (by_end J m sign o v)
 of_arrival J m sign None v = of_sign J m sign
 of_arrival J m sign (Some mo) Pending = of_sign J m sign
 of_arrival J m sign (Some mo) (Fault c) = of_sign J m sign
 of_arrival J m sign (Some mo) Arrived = of_ending J mo.axis mo.to
 
-of_rest_point : (J : List Entry) (m : Machine) (sign : Bool) (o : Option Motion) (v u : Verdict) → Still (by_rest J m sign o v u)
+of_rest_point : (J : List Entry) (m : Machine) (sign : Bool) (o : Option Motion) (v u : Verdict)
+    → Still (by_rest J m sign o v u)
 of_rest_point J m sign o v (Fault c) = refl
 of_rest_point J m sign o v Arrived = of_arrival J m sign o v
 of_rest_point J m sign o v Pending = of_arrival J m sign o v
 
-of_axis_point : (J : List Entry) (m : Machine) (sign : Bool) (o : Option Motion) (v u : Verdict) → Still (by_axis J m sign o v u)
+of_axis_point : (J : List Entry) (m : Machine) (sign : Bool) (o : Option Motion) (v u : Verdict)
+    → Still (by_axis J m sign o v u)
 of_axis_point J m sign o (Fault c) u = refl
 of_axis_point J m sign o Arrived u = of_rest_point J m sign o Arrived u
 of_axis_point J m sign o Pending u = of_rest_point J m sign o Pending u
@@ -104,7 +110,8 @@ of_axis_point J m sign o Pending u = of_rest_point J m sign o Pending u
 of_points : (J : List Entry) (m : Machine) (kept : Memory) (found : Findings) → Still (ruling_by J m kept found)
 of_points J m kept found = go (is_failed J m) kept.command_failed (is_asked J m) kept.failed
   where
-    go : (failed a b c : Bool) → Still (by_all J m failed a b c (kept.sign && found.sign) found.motion found.at_axis found.at_rest)
+    go : (failed a b c : Bool) → Still (by_all J m failed a b c (kept.sign && found.sign) found.motion found.at_axis
+        found.at_rest)
     go true a b c = tt
     go false true b c = refl
     go false false true c = refl
@@ -127,12 +134,15 @@ no_lamp (Lamp b to) h = cc
 no_lamp _ h = refl
 
 -- a useful entry that is a move is useful with no plates planned
-useful_called : (l : BookLimits) (J : List Entry) (plates : ℕ) (m : Machine) (e : Entry) → is_useful l J plates m e ≡ true → is_called_for l J e ≡ true
+useful_called : (l : BookLimits) (J : List Entry) (plates : ℕ) (m : Machine) (e : Entry)
+    → is_useful l J plates m e ≡ true → is_called_for l J e ≡ true
 useful_called l J plates m e h =
     either (is_move e) (is_useful_for l J e (actor_of e))
-    (λ moves. ap (λ (a : Actor). is_useful_for l J e a) (useful_own l J plates m e h) ∙ (plan_law l J 0 plates m e (no_lamp e moves) ∙ h))
+    (λ moves. ap (λ (a : Actor). is_useful_for l J e a) (useful_own l J plates m e h)
+    ∙ (plan_law l J 0 plates m e (no_lamp e moves) ∙ h))
 
-of_ruled : (l : BookLimits) (J : List Entry) (m : Machine) (plates : ℕ) (k : Ruling) (e : Entry) → Still k → IsRuled l J m plates k (Some e) → is_called_for l J e ≡ true
+of_ruled : (l : BookLimits) (J : List Entry) (m : Machine) (plates : ℕ) (k : Ruling) (e : Entry) → Still k
+    → IsRuled l J m plates k (Some e) → is_called_for l J e ≡ true
 of_ruled l J m plates Nothing e f h = cc
 of_ruled l J m plates PastLast e f h = absurd h
 of_ruled l J m plates Proposes e f h = useful_called l J plates m e h
@@ -142,17 +152,21 @@ of_ruled l J m plates (Books x) e f h = still_called l J e (subst (λ (o : Optio
     on_entry None = Unit {0}
     on_entry (Some y) = is_move y ≡ false
 
-pub decided_called : (l : BookLimits) (J : List Entry) (m : Machine) (p : Plan) (s : Mind) (r : Option Reading) (e : Entry) → IsDecided l J m p s r (Some e) → is_called_for l J e ≡ true
+pub decided_called : (l : BookLimits) (J : List Entry) (m : Machine) (p : Plan) (s : Mind) (r : Option Reading)
+    (e : Entry) → IsDecided l J m p s r (Some e) → is_called_for l J e ≡ true
 decided_called l J m p s r e h = of_ruled l J m p.plates (ruling J m p s r) e (of_ruling J m p s r) h
 
 -- the same of a watch
-pub called_booked : (l : BookLimits) (J : List Entry) (m : Machine) (p : Plan) (w : Watch) (r : Option Reading) (o : Option Entry)
+pub called_booked : (l : BookLimits) (J : List Entry) (m : Machine) (p : Plan) (w : Watch) (r : Option Reading)
+    (o : Option Entry)
     → ((s : Mind) → FitsMind w s → IsDecided l J m p s r o) → IfSome o (λ e. is_called_for l J e ≡ true)
 called_booked l J m p w r None h = tt
-called_booked l J m p w r (Some e) h = of_some w (is_called_for l J e) true (λ s fit. decided_called l J m p s r e (h s fit))
+called_booked l J m p w r (Some e) h = of_some w (is_called_for l J e) true
+    (λ s fit. decided_called l J m p s r e (h s fit))
 
 -- the operator's entries are no moves
-pub his_called : (l : BookLimits) (J : List Entry) (e : Entry) → actor_of e ≡ actor.Operator → is_called_for l J e ≡ true
+pub his_called : (l : BookLimits) (J : List Entry) (e : Entry) → actor_of e ≡ actor.Operator
+    → is_called_for l J e ≡ true
 his_called l J (Claimed m z) h = cc
 his_called l J (Yielded m z) h = cc
 his_called l J (Started a to) h = cc
@@ -169,12 +183,18 @@ split : (a b : Bool) → (a && b) ≡ true → (a ≡ true) × (b ≡ true)
 split true b e = (refl, e)
 split false b e = cc
 
-called-push : (l : BookLimits) (done es : List Entry) (e : Entry) → called_for_from l done es ≡ true → is_called_for l (done ++ es) e ≡ true → called_for_from l done (es ++ e ∷ []) ≡ true
+called-push : (l : BookLimits) (done es : List Entry) (e : Entry) → called_for_from l done es ≡ true
+    → is_called_for l (done ++ es) e ≡ true → called_for_from l done (es ++ e ∷ []) ≡ true
 called-push l done [] e h t = both _ _ (ap (λ d. is_called_for l d e) (sym (append-nil done)) ∙ t) refl
 called-push l done (x ∷ es) e h t =
     let p = split (is_called_for l done x) (called_for_from l (done ++ x ∷ []) es) h in
-    both _ _ p.0 (called-push l (done ++ x ∷ []) es e p.1 (ap (λ d. is_called_for l d e) (append_assoc done (x ∷ []) es) ∙ t))
+    both _ _ p.0 (called-push l (done ++ x ∷ []) es e p.1 (ap (λ d. is_called_for l d e) (append_assoc done (x ∷ []) es)
+    ∙ t))
 
-pub called_after : (l : BookLimits) (J : List Entry) (next : History) (o : Option Entry) → next ≡ record { limits = l; entries = J ++ option_to_list o } → all_called_for l J ≡ true → IfSome o (λ e. is_called_for l J e ≡ true) → all_called_for next.limits next.entries ≡ true
-called_after l J next None is all h = ap (λ (k : History). all_called_for k.limits k.entries) is ∙ ap (all_called_for l) (append-nil J) ∙ all
-called_after l J next (Some e) is all h = ap (λ (k : History). all_called_for k.limits k.entries) is ∙ called-push l [] J e all h
+pub called_after : (l : BookLimits) (J : List Entry) (next : History) (o : Option Entry)
+    → next ≡ record { limits = l; entries = J ++ option_to_list o } → all_called_for l J ≡ true
+    → IfSome o (λ e. is_called_for l J e ≡ true) → all_called_for next.limits next.entries ≡ true
+called_after l J next None is all h = ap (λ (k : History). all_called_for k.limits k.entries) is
+    ∙ ap (all_called_for l) (append-nil J) ∙ all
+called_after l J next (Some e) is all h = ap (λ (k : History). all_called_for k.limits k.entries) is
+    ∙ called-push l [] J e all h

@@ -1,5 +1,7 @@
 -- Turns of one worker, one after another
-use Rattle.std.proofs.Common.{◌≡◌, ◌<◌, ◌≤◌, ℕ, ◌+◌, Bool, true, false, not, ◌&&◌, Option, Some, None, List, [], ◌∷◌, ◌++◌, length, All, IfSome, IfNone, option_to_list, if◌then◌else◌, refl, sym, ap, ap₂, ◌∙◌, subst, append_assoc, append-nil, length-append, arith, inl, inr}
+use Rattle.std.proofs.Common.{◌≡◌, ◌<◌, ◌≤◌, ℕ, ◌+◌, Bool, true, false, not, ◌&&◌, Option, Some, None, List, [], ◌∷◌}
+use Rattle.std.proofs.Common.{◌++◌, length, All, IfSome, IfNone, option_to_list, if◌then◌else◌, refl, sym, ap, ap₂, ◌∙◌}
+use Rattle.std.proofs.Common.{subst, append_assoc, append-nil, length-append, arith, inl, inr}
 use Rattle.std.specs.Prelude.{is_none}
 use Rattle.std.proofs.lemmas.List.Elements.{All-append, All-nil, All-cons}
 use Rattle.cell_types.specs.declared.words.Machine.{Machine}
@@ -34,8 +36,10 @@ use Rattle.cell_turns.proofs.Schedules.{shares_more, plus_none}
 
 -- what a watch saw
 
-pub saw_after : (l : BookLimits) (J : List Entry) (m : Machine) (p : Plan) (r : Option Reading) (e : Option Entry) (w w' : Watch) → IsSafe J → IsCarrying J
-    → ((s : Mind) → FitsMind w s → IsDecided l J m p s r e) → ((s : Mind) → FitsMind w s → FitsMind w' (mind_after J m p s r e))
+pub saw_after : (l : BookLimits) (J : List Entry) (m : Machine) (p : Plan) (r : Option Reading) (e : Option Entry)
+    (w w' : Watch) → IsSafe J → IsCarrying J
+    → ((s : Mind) → FitsMind w s → IsDecided l J m p s r e)
+    → ((s : Mind) → FitsMind w s → FitsMind w' (mind_after J m p s r e))
     → (got : List (Option Reading)) → Saw m p got w → Saw m p (got ++ r ∷ []) w'
 saw_after l J m p r e w w' safe carrying decided fits got x = record {
   mind = mind_after J m p x.mind r e;
@@ -44,15 +48,21 @@ saw_after l J m p r e w w' safe carrying decided fits got x = record {
   calm = calm_after l J m p x.mind r e (has_endings J safe carrying) (decided x.mind x.fits);
 }
 
-pub backed_at : (l : BookLimits) (J : List Entry) (m : Machine) (p : Plan) (r : Option Reading) (e : Option Entry) (w : Watch)
-    → ((s : Mind) → FitsMind w s → IsDecided l J m p s r e) → (got : List (Option Reading)) → Saw m p got w → IfSome e (Backed p (got ++ r ∷ []))
+pub backed_at : (l : BookLimits) (J : List Entry) (m : Machine) (p : Plan) (r : Option Reading) (e : Option Entry)
+    (w : Watch)
+    → ((s : Mind) → FitsMind w s → IsDecided l J m p s r e) → (got : List (Option Reading)) → Saw m p got w
+    → IfSome e (Backed p (got ++ r ∷ []))
 backed_at l J m p r e w decided got x = decided_backed l J m p got x.mind r e x.traces x.calm (decided x.mind x.fits)
 
 -- a turn, as the code has it
-pub served : (l : BookLimits) (J : List Entry) (m : Machine) (p : Plan) (r : Option Reading) (e : Option Entry) (es es' : List Entry) (h h' : Held) (w w' : Watch) → IsSafe J → IsCarrying J
-    → es' ≡ es ++ option_to_list e → h' ≡ held h.parts (plus h.counts (count_of (option_to_list e))) → IfSome e (λ x. actor_of x ≡ actor.Machine m)
-    → ((s : Mind) → FitsMind w s → IsDecided l J m p s r e) → ((s : Mind) → FitsMind w s → FitsMind w' (mind_after J m p s r e))
-    → IfSome e (λ x. is_command_fault x ≡ has_failed_command w) → has_failed_command w' ≡ (is_none e && has_failed_command w)
+pub served : (l : BookLimits) (J : List Entry) (m : Machine) (p : Plan) (r : Option Reading) (e : Option Entry)
+    (es es' : List Entry) (h h' : Held) (w w' : Watch) → IsSafe J → IsCarrying J
+    → es' ≡ es ++ option_to_list e → h' ≡ held h.parts (plus h.counts (count_of (option_to_list e)))
+    → IfSome e (λ x. actor_of x ≡ actor.Machine m)
+    → ((s : Mind) → FitsMind w s → IsDecided l J m p s r e)
+    → ((s : Mind) → FitsMind w s → FitsMind w' (mind_after J m p s r e))
+    → IfSome e (λ x. is_command_fault x ≡ has_failed_command w)
+    → has_failed_command w' ≡ (is_none e && has_failed_command w)
     → Served m p r e es es' h h' w w'
 served l J m p r e es es' h h' w w' safe carrying list shares own decided fits fault flag = record {
   entries = list;
@@ -65,9 +75,16 @@ served l J m p r e es es' h h' w w' safe carrying list shares own decided fits f
 }
 
 pub saw_start : (J : List Entry) (m : Machine) (p : Plan) (w : Watch) → FitsMind w (first_mind J m) → Saw m p [] w
-saw_start J m p w fits = record { mind = first_mind J m; fits = fits; traces = traces_first m p (remembered J m false false) refl; calm = calm_first (remembered J m false false) }
+saw_start J m p w fits = record {
+  mind = first_mind J m;
+  fits = fits;
+  traces =
+      traces_first m p (remembered J m false false) refl;
+  calm = calm_first (remembered J m false false);
+}
 
-failed_traces : (m : Machine) (p : Plan) (got : List (Option Reading)) (s : Mind) (b : Bool) → Traces m p got s → Traces m p got (if b then with_failure s else s)
+failed_traces : (m : Machine) (p : Plan) (got : List (Option Reading)) (s : Mind) (b : Bool) → Traces m p got s
+    → Traces m p got (if b then with_failure s else s)
 failed_traces m p got s true t = record { axis = t.axis; rest = t.rest; sign = t.sign }
 failed_traces m p got s false t = t
 
@@ -76,7 +93,9 @@ failed_calm s true (inl h) = inl h
 failed_calm s true (inr h) = inr h
 failed_calm s false c = c
 
-pub saw_sent : (m : Machine) (p : Plan) (failed : Bool) (w w' : Watch) → ((s : Mind) → FitsMind w s → FitsMind w' (if failed then with_failure s else s)) → (got : List (Option Reading)) → Saw m p got w → Saw m p got w'
+pub saw_sent : (m : Machine) (p : Plan) (failed : Bool) (w w' : Watch)
+    → ((s : Mind) → FitsMind w s → FitsMind w' (if failed then with_failure s else s)) → (got : List (Option Reading))
+    → Saw m p got w → Saw m p got w'
 saw_sent m p failed w w' fits got x = record {
   mind = if failed then with_failure x.mind else x.mind;
   fits = fits x.mind x.fits;
@@ -86,30 +105,45 @@ saw_sent m p failed w w' fits got x = record {
 
 -- a turn, and what it did to the list and the shares
 
-pub serves_more : (a : Actor) (e : Option Entry) (es es' : List Entry) (h h' start : Held) → es' ≡ es ++ option_to_list e → h' ≡ held h.parts (plus h.counts (count_of (option_to_list e))) → IfSome e (λ x. actor_of x ≡ a)
+pub serves_more : (a : Actor) (e : Option Entry) (es es' : List Entry) (h h' start : Held)
+    → es' ≡ es ++ option_to_list e → h' ≡ held h.parts (plus h.counts (count_of (option_to_list e)))
+    → IfSome e (λ x. actor_of x ≡ a)
     → Serves a start es h → Serves a start es' h'
 serves_more a e es es' h h' start list shares actor_is s = record {
-  actor = subst (All (λ (x : Entry). actor_of x ≡ a)) (sym list) (All-append (λ (x : Entry). actor_of x ≡ a) es (option_to_list e) s.actor (own e actor_is));
-  counts = shares_more start h h' es (option_to_list e) s.counts shares ∙ ap (λ l. held start.parts (plus start.counts (count_of l))) (sym list);
+  actor = subst (All (λ (x : Entry). actor_of x ≡ a)) (sym list)
+      (All-append (λ (x : Entry). actor_of x ≡ a) es (option_to_list e) s.actor (own e actor_is));
+  counts = shares_more start h h' es (option_to_list e) s.counts shares
+      ∙ ap (λ l. held start.parts (plus start.counts (count_of l))) (sym list);
 }
   where
     own : (e : Option Entry) → IfSome e (λ x. actor_of x ≡ a) → All (λ (x : Entry). actor_of x ≡ a) (option_to_list e)
     own None h = All-nil (λ (x : Entry). actor_of x ≡ a)
     own (Some x) h = All-cons (λ (x : Entry). actor_of x ≡ a) x [] h (All-nil (λ (x : Entry). actor_of x ≡ a))
 
-pub serves_turn : (m : Machine) (p : Plan) (r : Option Reading) (e : Option Entry) (es es' : List Entry) (h h' : Held) (w w' : Watch) (start : Held) → Served m p r e es es' h h' w w' → Serves (actor.Machine m) start es h → Serves (actor.Machine m) start es' h'
-serves_turn m p r e es es' h h' w w' start t s = serves_more (actor.Machine m) e es es' h h' start t.entries t.shares t.actor s
+pub serves_turn : (m : Machine) (p : Plan) (r : Option Reading) (e : Option Entry) (es es' : List Entry) (h h' : Held)
+    (w w' : Watch) (start : Held) → Served m p r e es es' h h' w w' → Serves (actor.Machine m) start es h
+    → Serves (actor.Machine m) start es' h'
+serves_turn m p r e es es' h h' w w' start t s = serves_more (actor.Machine m) e es es' h h' start t.entries t.shares
+    t.actor s
 
-pub serves_same : (a : Actor) (es es' : List Entry) (h h' start : Held) → es' ≡ es → h' ≡ h → Serves a start es h → Serves a start es' h'
+pub serves_same : (a : Actor) (es es' : List Entry) (h h' start : Held) → es' ≡ es → h' ≡ h → Serves a start es h
+    → Serves a start es' h'
 serves_same a es es' h h' start list shares s = rw (list, shares) s
 
 pub serves_start : (a : Actor) (es : List Entry) (now start : Held) → es ≡ [] → now ≡ start → Serves a start es now
-serves_start a es now start e is = rw (e, is) (record { actor = All-nil (λ (x : Entry). actor_of x ≡ a); counts = ap (held start.parts) (plus_none start.counts) })
+serves_start a es now start e is = rw (e, is)
+    (record {
+      actor = All-nil (λ (x : Entry). actor_of x ≡ a);
+      counts =
+          ap (held start.parts) (plus_none start.counts);
+    })
 
 -- the answers of a call, with one more
 
-pub shown_turn : (m : Machine) (p : Plan) (r : Option Reading) (e : Option Entry) (es es' : List Entry) (h h' : Held) (w w' : Watch) (before now after : Log) (k : ℕ)
-    → after.answers ≡ now.answers ++ r ∷ [] → Served m p r e es es' h h' w w' → Shown m p before now es w k → Shown m p before after es' w' (k + 1)
+pub shown_turn : (m : Machine) (p : Plan) (r : Option Reading) (e : Option Entry) (es es' : List Entry) (h h' : Held)
+    (w w' : Watch) (before now after : Log) (k : ℕ)
+    → after.answers ≡ now.answers ++ r ∷ [] → Served m p r e es es' h h' w w' → Shown m p before now es w k
+    → Shown m p before after es' w' (k + 1)
 shown_turn m p r e es es' h h' w w' before now after k is t s = record {
   got = s.got ++ r ∷ [];
   are = is ∙ ap (λ l. l ++ r ∷ []) s.are ∙ append_assoc before.answers s.got (r ∷ []);
@@ -118,13 +152,16 @@ shown_turn m p r e es es' h h' w w' before now after k is t s = record {
   many = length-append s.got (r ∷ []) ∙ ap (λ j. j + 1) s.many;
 }
   where
-    backs : (e : Option Entry) → IfSome e (Backed p (s.got ++ r ∷ [])) → Backs p (s.got ++ r ∷ []) (es ++ option_to_list e)
+    backs : (e : Option Entry) → IfSome e (Backed p (s.got ++ r ∷ []))
+        → Backs p (s.got ++ r ∷ []) (es ++ option_to_list e)
     backs None b = subst (Backs p (s.got ++ r ∷ [])) (sym (append-nil es)) (idled r s.backs)
     backs (Some x) b = based r x s.backs b
 
 -- the worker ends at this reading
-pub answered_quiet : (m : Machine) (p : Plan) (r : Option Reading) (es es' : List Entry) (w : Watch) (before now after : Log) (k : ℕ)
-    → after.answers ≡ now.answers ++ r ∷ [] → es' ≡ es → Shown m p before now es w k → Answered p before after es' (k + 1)
+pub answered_quiet : (m : Machine) (p : Plan) (r : Option Reading) (es es' : List Entry) (w : Watch)
+    (before now after : Log) (k : ℕ)
+    → after.answers ≡ now.answers ++ r ∷ [] → es' ≡ es → Shown m p before now es w k
+    → Answered p before after es' (k + 1)
 answered_quiet m p r es es' w before now after k is same s = record {
   got = s.got ++ r ∷ [];
   are = is ∙ ap (λ l. l ++ r ∷ []) s.are ∙ append_assoc before.answers s.got (r ∷ []);
@@ -132,40 +169,69 @@ answered_quiet m p r es es' w before now after k is same s = record {
   many = length-append s.got (r ∷ []) ∙ ap (λ j. j + 1) s.many;
 }
 
-pub answered_shown : (m : Machine) (p : Plan) (before now : Log) (es : List Entry) (w : Watch) (k : ℕ) → Shown m p before now es w k → Answered p before now es k
+pub answered_shown : (m : Machine) (p : Plan) (before now : Log) (es : List Entry) (w : Watch) (k : ℕ)
+    → Shown m p before now es w k → Answered p before now es k
 answered_shown m p before now es w k s = record { got = s.got; are = s.are; backs = s.backs; many = s.many }
 
 -- a command was sent, which reads nothing
-pub shown_sent : (m : Machine) (p : Plan) (before now after : Log) (es : List Entry) (w w' : Watch) (k : ℕ) → after.answers ≡ now.answers → ((got : List (Option Reading)) → Saw m p got w → Saw m p got w') → Shown m p before now es w k → Shown m p before after es w' k
-shown_sent m p before now after es w w' k is sees s = record { got = s.got; are = is ∙ s.are; backs = s.backs; saw = sees s.got s.saw; many = s.many }
+pub shown_sent : (m : Machine) (p : Plan) (before now after : Log) (es : List Entry) (w w' : Watch) (k : ℕ)
+    → after.answers ≡ now.answers → ((got : List (Option Reading)) → Saw m p got w → Saw m p got w')
+    → Shown m p before now es w k → Shown m p before after es w' k
+shown_sent m p before now after es w w' k is sees s = record {
+  got = s.got;
+  are = is ∙ s.are;
+  backs = s.backs;
+  saw =
+      sees s.got s.saw;
+  many = s.many;
+}
 
-pub shown_start : (m : Machine) (p : Plan) (log : Log) (es : List Entry) (w : Watch) → es ≡ [] → Saw m p [] w → Shown m p log log es w 0
-shown_start m p log es w e x = rw e (record { got = []; are = sym (append-nil log.answers); backs = begun; saw = x; many = refl })
+pub shown_start : (m : Machine) (p : Plan) (log : Log) (es : List Entry) (w : Watch) → es ≡ [] → Saw m p [] w
+    → Shown m p log log es w 0
+shown_start m p log es w e x = rw e (record {
+  got = [];
+  are = sym (append-nil log.answers);
+  backs = begun;
+  saw =
+      x;
+  many = refl;
+})
 
 pub at_none : {X : Type 0} {P : Type 0} (o : Option X) → P → IfNone o P
 at_none None p = p
 at_none (Some x) p = tt
 
 -- a reading sends nothing
-pub sends_read : (before now after : Log) (was failed : Bool) (es : List Entry) (r : Option Reading) → after ≡ after_read now r → Sends before was now es failed → Sends before was after es failed
-sends_read before now after was failed es r is s = record { begins = s.begins; sent = ap (λ (l : Log). l.sent) is ∙ s.sent; failures = ap (λ (l : Log). l.failures + one_where was) is ∙ s.failures }
+pub sends_read : (before now after : Log) (was failed : Bool) (es : List Entry) (r : Option Reading)
+    → after ≡ after_read now r → Sends before was now es failed → Sends before was after es failed
+sends_read before now after was failed es r is s = record {
+  begins = s.begins;
+  sent = ap (λ (l : Log). l.sent) is
+      ∙ s.sent;
+  failures = ap (λ (l : Log). l.failures + one_where was) is ∙ s.failures;
+}
 
-pub sends_begun : (log : Log) (es : List Entry) (failed : Bool) → es ≡ [] → failed ≡ false → Sends log false log es failed
+pub sends_begun : (log : Log) (es : List Entry) (failed : Bool) → es ≡ [] → failed ≡ false
+    → Sends log false log es failed
 sends_begun log es failed e is = rw is (sends_start log false es e)
 
 -- a command reads nothing
-pub answers_sent : (now after : Log) (o : Option Command) (failed : Bool) → after ≡ after_sending now o failed → after.answers ≡ now.answers
+pub answers_sent : (now after : Log) (o : Option Command) (failed : Bool) → after ≡ after_sending now o failed
+    → after.answers ≡ now.answers
 answers_sent now after None failed is = ap (λ (l : Log). l.answers) is
 answers_sent now after (Some c) failed is = ap (λ (l : Log). l.answers) is
 
 -- the machine's AllOff, at the end
-pub sent_all : (m : Machine) (before now after : Log) (es : List Entry) (failed ok : Bool) → after ≡ after_command now (AllOff m) ok → Sends before false now es failed → SentAll m before after es
+pub sent_all : (m : Machine) (before now after : Log) (es : List Entry) (failed ok : Bool)
+    → after ≡ after_command now (AllOff m) ok → Sends before false now es failed → SentAll m before after es
 sent_all m before now after es failed ok is s = record {
   lost = failed;
   off = not ok;
   begins = s.begins;
   sent = ap (λ (l : Log). l.sent) is ∙ ap₂ (λ l x. l ++ x) s.sent (turned ok);
-  failures = ap (λ (l : Log). l.failures) is ∙ ap₂ (λ l x. l + x) (grew now.failures (before.failures + (command_faults es + one_where failed)) s.failures) (counted ok);
+  failures = ap (λ (l : Log). l.failures) is
+      ∙ ap₂ (λ l x. l + x) (grew now.failures (before.failures + (command_faults es + one_where failed)) s.failures)
+      (counted ok);
 }
   where
     grew : (n k : ℕ) → n + 0 ≡ k → n ≡ k
@@ -182,14 +248,25 @@ sent_all m before now after es failed ok is s = record {
 backs_short : {p : Plan} {rs : List (Option Reading)} {es : List Entry} → Backs p rs es → length es ≤ length rs
 backs_short begun = omega arith
 backs_short (idled {rs} {es} r b) = let q = backs_short b in omega (arith, length-append rs (r ∷ []), q)
-backs_short (based {rs} {es} r e b w) = let q = backs_short b in omega (arith, length-append rs (r ∷ []), length-append es (e ∷ []), q)
+backs_short (based {rs} {es} r e b w) = let q =
+    backs_short b in omega (arith, length-append rs (r ∷ []), length-append es (e ∷ []), q)
 
-pub evidence : (p : Plan) (before now after : Log) (es : List Entry) (k : ℕ) → after.answers ≡ now.answers → Answered p before now es k → Evidence p before after es
-evidence p before now after es k is t = record { got = t.got; are = is ∙ t.are; backs = t.backs; short = backs_short t.backs }
+pub evidence : (p : Plan) (before now after : Log) (es : List Entry) (k : ℕ) → after.answers ≡ now.answers
+    → Answered p before now es k → Evidence p before after es
+evidence p before now after es k is t = record {
+  got = t.got;
+  are = is ∙ t.are;
+  backs = t.backs;
+  short =
+      backs_short t.backs;
+}
 
-pub turns_answered : (p : Plan) (before now after : Log) (es : List Entry) (k : ℕ) → after.answers ≡ now.answers → Answered p before now es k → length after.answers ≡ length before.answers + k
-turns_answered p before now after es k is t = ap length (is ∙ t.are) ∙ length-append before.answers t.got ∙ ap (λ n. length before.answers + n) t.many
+pub turns_answered : (p : Plan) (before now after : Log) (es : List Entry) (k : ℕ) → after.answers ≡ now.answers
+    → Answered p before now es k → length after.answers ≡ length before.answers + k
+turns_answered p before now after es k is t = ap length (is ∙ t.are) ∙ length-append before.answers t.got
+    ∙ ap (λ n. length before.answers + n) t.many
 
-pub lost_more : (before now after : Log) (es : List Entry) (failed : Bool) (c : Command) (ok : Bool) → failed ≡ true → after ≡ after_command now c ok → Sends before false now es failed → before.failures < after.failures
+pub lost_more : (before now after : Log) (es : List Entry) (failed : Bool) (c : Command) (ok : Bool) → failed ≡ true
+    → after ≡ after_command now c ok → Sends before false now es failed → before.failures < after.failures
 lost_more before now after es false c ok f is s = cc
 lost_more before now after es true c ok f is s = omega (arith, ap (λ (l : Log). l.failures) is, s.failures)

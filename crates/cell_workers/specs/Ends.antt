@@ -18,8 +18,8 @@ is_lit J machine.Feed = same_colour (lamp_of J belt.Feed) colour.Green
 is_lit J machine.Deposit = same_colour (lamp_of J belt.Deposit) colour.Green
 is_lit J _ = false
 
--- a machine whose turn booked nothing has nothing to do: it is booked failed, or none of its axes moves, its light isn't
--- green, its last reading was present and agreed, and no sign is open
+-- a machine whose turn booked nothing has nothing to do: it is booked failed, or none of its axes moves, its light
+-- isn't green, its last reading was present and agreed, and no sign is open
 abbrev pub is_idle : List Entry → Machine → Plan → Mind → Bool
 is_idle J m p s = is_failed J m || (is_none (motion_of_machine J p m) && (not (is_lit J m) && is_quiet s))
 
@@ -28,7 +28,8 @@ unfoldable pub is_vacant : List Entry → Bool
 is_vacant J =
     is_none (plate_of J station.FeedIn) && (is_none (plate_of J station.FeedEnd) && (is_none (plate_of J station.Table)
     && (is_none (plate_of J station.Arm1) && (is_none (plate_of J station.Arm2) && (is_none (plate_of J station.Press1)
-    && (is_none (plate_of J station.Press2) && (is_none (plate_of J station.DepIn) && is_none (plate_of J station.DepEnd))))))))
+    && (is_none (plate_of J station.Press2)
+    && (is_none (plate_of J station.DepIn) && is_none (plate_of J station.DepEnd))))))))
 
 -- so many plates were admitted, and no station has a plate
 pub record IsDone (plates : ℕ) (J : List Entry) : Type 0 where

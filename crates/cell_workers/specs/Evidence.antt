@@ -9,7 +9,8 @@ use Rattle.cell_types.specs.declared.words.Pose.TheVariants as pose
 use Rattle.cell_types.specs.declared.words.Cause.{Cause}
 use Rattle.cell_types.specs.declared.words.Cause.TheVariants as cause
 use Rattle.cell_types.specs.declared.words.Entry.{Entry}
-use Rattle.cell_types.specs.declared.words.Entry.TheVariants.{Admitted, Arrived as ArrivedAt, Conveyed, Forged, Delivered, Declared, Reinstated}
+use Rattle.cell_types.specs.declared.words.Entry.TheVariants.{Admitted, Arrived as ArrivedAt, Conveyed, Forged}
+use Rattle.cell_types.specs.declared.words.Entry.TheVariants.{Delivered, Declared, Reinstated}
 use Rattle.cell_types.specs.declared.cell.BeltMotion.{BeltMotion}
 use Rattle.cell_types.specs.Cell.{machine_of_axis, press_axis, motion_to}
 use Rattle.cell_diagnosis.specs.declared.motion.Motion.{Motion}
@@ -28,8 +29,8 @@ use Rattle.cell_turns.specs.Moving.{limits_of}
 abbrev pub seen_all : Motion → List (Option Reading) → List Seen
 seen_all mo rs = map (seen mo) rs
 
--- the answers `got` end with consecutive readings whose verdict for this motion, with the plan's limits, is v. Before the
--- last of them it is Pending.
+-- the answers `got` end with consecutive readings whose verdict for this motion, with the plan's limits, is v. Before
+-- the last of them it is Pending.
 pub record MotionShows (p : Plan) (got : List (Option Reading)) (mo : Motion) (v : Verdict) : Type 0 where
   pub early : List (Option Reading)
   pub run : List (Option Reading)
@@ -50,8 +51,8 @@ readings_of ws = map (λ (w : Watched). w.1) ws
 abbrev pub noted_all : Machine → List Watched → List Noted
 noted_all m ws = map (λ (w : Watched). noted m w.0 w.1) ws
 
--- the answers end with consecutive readings whose verdict for machine m at rest, for some Expects, is v. Before the last of
--- them it is Pending.
+-- the answers end with consecutive readings whose verdict for machine m at rest, for some Expects, is v. Before the
+-- last of them it is Pending.
 pub record RestShows (m : Machine) (got : List (Option Reading)) (v : Verdict) : Type 0 where
   pub early : List (Option Reading)
   pub run : List Watched
@@ -119,5 +120,7 @@ Backed p got _ = Unit {0}
 -- each entry was booked at a reading of its own, in order, and the answers up to that one are its evidence
 pub data Backs (p : Plan) : List (Option Reading) → List Entry → Type 0 where
   begun : Backs p [] []
-  idled : {rs : List (Option Reading)} {es : List Entry} (r : Option Reading) → Backs p rs es → Backs p (rs ++ r ∷ []) es
-  based : {rs : List (Option Reading)} {es : List Entry} (r : Option Reading) (e : Entry) → Backs p rs es → Backed p (rs ++ r ∷ []) e → Backs p (rs ++ r ∷ []) (es ++ e ∷ [])
+  idled : {rs : List (Option Reading)} {es : List Entry} (r : Option Reading) → Backs p rs es
+      → Backs p (rs ++ r ∷ []) es
+  based : {rs : List (Option Reading)} {es : List Entry} (r : Option Reading) (e : Entry) → Backs p rs es
+      → Backed p (rs ++ r ∷ []) e → Backs p (rs ++ r ∷ []) (es ++ e ∷ [])

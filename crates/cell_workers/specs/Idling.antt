@@ -14,8 +14,8 @@ use Rattle.cell_workers.specs.Ends.{IsDone}
 abbrev pub are_all_idle : List Bool → Bool
 are_all_idle idle = list_all (λ b. b) idle
 
--- the marks after a machine's turn: where it booked an entry only those are idle whose ports are lost, and else its own mark
--- alone is set anew
+-- the marks after a machine's turn: where it booked an entry only those are idle whose ports are lost, and else its own
+-- mark alone is set anew
 abbrev pub idle_after : Machine → Option Entry → Bool → List Bool → List Bool → List Bool
 idle_after m None rests idle lost = slice_set idle (machine_number m) rests
 idle_after m (Some e) rests idle lost = lost

@@ -15,7 +15,8 @@ use Rattle.plate_book.specs.declared.limits.BookLimits.{BookLimits}
 use Rattle.plate_book.specs.declared.refusal.Refusal.{Refusal}
 use Rattle.plate_book.specs.declared.refusal.Refusal.TheVariants.{JournalFull}
 
--- on some journal that is legal within the limits, the lines that aren't done yet give an action that is booked by this entry
+-- on some journal that is legal within the limits, the lines that aren't done yet give an action that is booked by this
+-- entry
 pub record IsDue (l : BookLimits) (lines : List Line) (e : Entry) : Type 0 where
   pub history : History
   pub within : history.limits ≡ l
@@ -66,8 +67,10 @@ pub record FailedHands (l : BookLimits) (left : List Line) (before now : ActLog)
   pub acts : now.acts ≡ before.acts ++ hands es
   pub failures : now.failures ≡ before.failures + 1
 
--- these, and the act of an entry that was due with these lines left; none failed, and the booking of that entry was refused
-pub record WastedHand (l : BookLimits) (left : List Line) (before now : ActLog) (es : List Entry) (ended : Ended) : Type 0 where
+-- these, and the act of an entry that was due with these lines left; none failed, and the booking of that entry was
+-- refused
+pub record WastedHand (l : BookLimits) (left : List Line) (before now : ActLog) (es : List Entry) (ended : Ended) : Type
+    0 where
   pub entry : Entry
   pub due : IsDue l left entry
   pub act : Act
@@ -76,9 +79,9 @@ pub record WastedHand (l : BookLimits) (left : List Line) (before now : ActLog) 
   pub failures : now.failures ≡ before.failures
   pub refused : RefusedAs l entry ended
 
--- at the end of his worker the acts of its list were done: exactly these, and then he was told to end or refused memory; or
--- these, and then the act of the next line's entry failed, and it ended as PortLost; or these and the act of the next line's
--- entry, whose booking was refused
+-- at the end of his worker the acts of its list were done: exactly these, and then he was told to end or refused
+-- memory; or these, and then the act of the next line's entry failed, and it ended as PortLost; or these and the act of
+-- the next line's entry, whose booking was refused
 abbrev pub HandsEnded : BookLimits → List Line → ActLog → ActLog → List Entry → Ended → Type 0
 HandsEnded l lines before now es ended =
     (DidHands before now es × ((ended ≡ Told) ⊎ (ended ≡ Memory)))

@@ -16,7 +16,8 @@ use Rattle.cell_workers.specs.Standing.{all_called_for}
 -- the workers, in their order
 abbrev pub workers : List Actor
 workers =
-    actor.Machine machine.Feed ∷ actor.Machine machine.Table ∷ actor.Machine machine.Robot ∷ actor.Machine machine.Press1
+    actor.Machine machine.Feed ∷ actor.Machine machine.Table ∷ actor.Machine machine.Robot
+    ∷ actor.Machine machine.Press1
     ∷ actor.Machine machine.Press2 ∷ actor.Machine machine.Deposit ∷ actor.Operator ∷ []
 
 -- each worker's list is its entries in the journal, and its counts are the list's

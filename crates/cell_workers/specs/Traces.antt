@@ -1,5 +1,5 @@
--- How what a machine's watch stands for goes back to its port's answers. No journal is named, so this holds on while others
--- book.
+-- How what a machine's watch stands for goes back to its port's answers. No journal is named, so this holds on while
+-- others book.
 use Rattle.std.specs.Prelude.{◌≡◌, ◌⊎◌, true, Option, Some, None, List, [], ◌∷◌, ◌++◌}
 use Rattle.cell_types.specs.declared.words.Machine.{Machine}
 use Rattle.cell_types.specs.Cell.{machine_of_axis}

@@ -1,5 +1,6 @@
 -- What one worker does, turn by turn
-use Rattle.std.specs.Prelude.{ℕ, ◌+◌, ◌≡◌, ◌≤◌, ◌&&◌, Bool, false, Option, Some, List, [], ◌∷◌, ◌++◌, length, All, IfSome, is_none, option_to_list, if◌then◌else◌}
+use Rattle.std.specs.Prelude.{ℕ, ◌+◌, ◌≡◌, ◌≤◌, ◌&&◌, Bool, false, Option, Some, List, [], ◌∷◌, ◌++◌, length, All}
+use Rattle.std.specs.Prelude.{IfSome, is_none, option_to_list, if◌then◌else◌}
 use Rattle.cell_types.specs.declared.words.Machine.{Machine}
 use Rattle.cell_types.specs.declared.words.Actor.{Actor}
 use Rattle.cell_types.specs.declared.words.Actor.TheVariants as actor
@@ -23,9 +24,10 @@ use Rattle.cell_workers.specs.declared.ends.End.{End}
 use Rattle.cell_workers.specs.Evidence.{Backed, Backs}
 use Rattle.cell_workers.specs.Traces.{Saw}
 
--- one turn under the lock, at this reading: what was booked, if anything, and what it did to the worker's list, shares and
--- watch. The book is the others' too, and isn't named.
-pub record Served (m : Machine) (p : Plan) (r : Option Reading) (e : Option Entry) (es es' : List Entry) (h h' : Held) (w w' : Watch) : Type 0 where
+-- one turn under the lock, at this reading: what was booked, if anything, and what it did to the worker's list, shares
+-- and watch. The book is the others' too, and isn't named.
+pub record Served (m : Machine) (p : Plan) (r : Option Reading) (e : Option Entry) (es es' : List Entry) (h h' : Held)
+    (w w' : Watch) : Type 0 where
   pub entries : es' ≡ es ++ option_to_list e
   pub shares : h' ≡ held h.parts (plus h.counts (count_of (option_to_list e)))
   pub actor : IfSome e (λ x. actor_of x ≡ actor.Machine m)
@@ -34,7 +36,8 @@ pub record Served (m : Machine) (p : Plan) (r : Option Reading) (e : Option Entr
   pub saw : (got : List (Option Reading)) → Saw m p got w → Saw m p (got ++ r ∷ []) w'
   pub backed : (got : List (Option Reading)) → Saw m p got w → IfSome e (Backed p (got ++ r ∷ []))
 
--- the journal takes no further entry, or no further plate has a number, and what the machine would do at this reading wants it
+-- the journal takes no further entry, or no further plate has a number, and what the machine would do at this reading
+-- wants it
 abbrev pub IsFullFor : BookLimits → List Entry → Machine → Plan → Option Reading → Watch → Type 0
 IsFullFor l J m p r w = (why : Refusal) × IsExcused l J m p r w (Refused why)
 
@@ -58,8 +61,8 @@ pub record Answered (p : Plan) (before now : Log) (es : List Entry) (k : ℕ) : 
   pub backs : Backs p got es
   pub many : length got ≡ k
 
--- at a worker's end the commands of its list were sent, without that of the last entry where it failed, and then AllOff, if
--- that didn't fail
+-- at a worker's end the commands of its list were sent, without that of the last entry where it failed, and then
+-- AllOff, if that didn't fail
 pub record SentAll (m : Machine) (before now : Log) (es : List Entry) : Type 0 where
   pub lost : Bool
   pub off : Bool

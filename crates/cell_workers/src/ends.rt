@@ -35,8 +35,8 @@ fn is_lit(book: &Book, machine: Machine) -> bool
     }
 }
 
-/// Whether a machine whose turn booked nothing has nothing to do: it is booked failed, or none of its axes moves, its light
-/// isn't booked green, its last reading was present and agreed, and no sign is open.
+/// Whether a machine whose turn booked nothing has nothing to do: it is booked failed, or none of its axes moves, its
+/// light isn't booked green, its last reading was present and agreed, and no sign is open.
 pub fn is_idle(machine: Machine, book: &Book, watch: &Watch, plan: &Plan) -> bool
     ensures { (s : Mind) → FitsMind watch.now s → result ≡ is_idle book.now.entries machine plan.now s }
 {
@@ -69,8 +69,8 @@ fn is_vacant(book: &Book) -> bool
                                     && is_free(book, Station::DepEnd))))))))
 }
 
-/// The end of a run whose machines and operator are all idle: `Finished` where all plates were admitted and no station has
-/// one, else `Stalled`.
+/// The end of a run whose machines and operator are all idle: `Finished` where all plates were admitted and no station
+/// has one, else `Stalled`.
 pub fn end_at_rest(book: &Book, plan: &Plan) -> End
     ensures finished { result ≡ End.Finished → IsDone plan.now.plates book.now.entries }
     ensures stalled { IsDone plan.now.plates book.now.entries → result ≡ End.Finished }

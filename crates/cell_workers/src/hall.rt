@@ -1,5 +1,7 @@
 //! What the workers of a run share under one lock.
-ghost use Rattle.std.specs.Prelude.{◌≡◌, ◌≢◌, ◌<◌, ◌⊎◌, ◌↔◌, ◌&&◌, ◌++◌, ◌∷◌, [], true, false, None, Some, Option, IsSome, IfOk, IfErr, OnOk, OnErr, option_to_list, is_none, slice_set, vec_capacity, vec_len};
+ghost use Rattle.std.specs.Prelude.{◌≡◌, ◌≢◌, ◌<◌, ◌⊎◌, ◌↔◌, ◌&&◌, ◌++◌, ◌∷◌, [], true, false, None, Some, Option};
+ghost use Rattle.std.specs.Prelude.{IsSome, IfOk, IfErr, OnOk, OnErr, option_to_list, is_none, slice_set, vec_capacity};
+ghost use Rattle.std.specs.Prelude.{vec_len};
 ghost use Rattle.cell_types.specs.Entries.{actor_of};
 ghost use Rattle.cell_types.specs.declared.words.Actor.TheVariants as actors;
 ghost use Rattle.cell_types.specs.Same.{machine_number};
@@ -37,9 +39,9 @@ pub enum Ended {
     PortLost,
 }
 
-/// What lies under the lock of a run: its book, and who has nothing to do. Each entry of the journal by which a machine set
-/// out to do something, `Claimed`, `Yielded`, `Started`, `Gripped` or `Dropped`, was useful for it where it stands. The
-/// workers are the machines in their order, and then the operator.
+/// What lies under the lock of a run: its book, and who has nothing to do. Each entry of the journal by which a machine
+/// set out to do something, `Claimed`, `Yielded`, `Started`, `Gripped` or `Dropped`, was useful for it where it stands.
+/// The workers are the machines in their order, and then the operator.
 #[derive(Drop)]
 pub struct Hall<R: Run> {
     /// The run's book, tied to the run's ledgers.
@@ -101,7 +103,8 @@ fn ends_by(error: TurnError) -> (End, Ended)
     ensures end { (before : Option End) → Some result.0 ≡ end_by result.1 before }
     ensures own { (result.1 ≡ Ended.Memory) ⊎ (result.1 ≡ Ended.Full) }
     ensures full { result.1 ≡ Ended.Full → ((why : Refusal) × (error ≡ TurnError.Refused why)) }
-    ensures memory { result.1 ≡ Ended.Memory → (error ≡ TurnError.OutOfMemory) ⊎ (error ≡ TurnError.Refused Refusal.OutOfMemory) }
+    ensures memory { result.1 ≡ Ended.Memory → (error ≡ TurnError.OutOfMemory)
+        ⊎ (error ≡ TurnError.Refused Refusal.OutOfMemory) }
 {
     match error {
         TurnError::OutOfMemory | TurnError::Refused(Refusal::OutOfMemory) => {
@@ -112,8 +115,8 @@ fn ends_by(error: TurnError) -> (End, Ended)
 }
 
 impl<R: Run> Hall<R> {
-    /// A turn of a machine, unless the run has ended. It answers what was booked, and whether the worker is idle now; or
-    /// why the worker ends, and nothing was booked.
+    /// A turn of a machine, unless the run has ended. It answers what was booked, and whether the worker is idle now;
+    /// or why the worker ends, and nothing was booked.
     pub fn serve(
         &mut self,
         machine: Machine,
@@ -122,21 +125,31 @@ impl<R: Run> Hall<R> {
         plan: &Plan,
     ) -> Result<(Option<Entry>, bool), Ended>
         requires { machine_of_watch worker.old.watch ≡ machine }
-        ensures served { IfOk result (λ r. Served machine plan.now reading r.0 worker.old.entries.items worker.new.entries.items worker.old.shares worker.new.shares worker.old.watch worker.new.watch) }
-        ensures kept { IfOk result (λ r. self.new.kept ≡ record { limits = self.old.kept.limits; entries = self.old.kept.entries ++ option_to_list r.0 }) }
+        ensures served { IfOk result (λ r. Served machine plan.now reading r.0 worker.old.entries.items
+            worker.new.entries.items worker.old.shares worker.new.shares worker.old.watch worker.new.watch) }
+        ensures kept { IfOk result (λ r. self.new.kept ≡ record {
+          limits = self.old.kept.limits;
+          entries =
+              self.old.kept.entries ++ option_to_list r.0;
+        }) }
         ensures machine { machine_of_watch worker.new.watch ≡ machine }
-        ensures rests { IfOk result (λ r. (s : Mind) → FitsMind worker.new.watch s → r.1 ≡ (is_none r.0 && is_idle self.new.kept.entries machine plan.now s)) }
+        ensures rests { IfOk result (λ r. (s : Mind) → FitsMind worker.new.watch s
+            → r.1 ≡ (is_none r.0 && is_idle self.new.kept.entries machine plan.now s)) }
         ensures idle { IfOk result (λ r. self.new.idle ≡ idle_after machine r.0 r.1 self.old.idle self.old.lost) }
-        ensures end { IfOk result (λ r. EndsWhere (is_none r.0 && are_all_idle self.new.idle) plan.now.plates self.new.kept.entries self.old.end self.new.end) }
+        ensures end { IfOk result (λ r. EndsWhere (is_none r.0 && are_all_idle self.new.idle) plan.now.plates
+            self.new.kept.entries self.old.end self.new.end) }
         ensures ended { (result ≢ Err Ended.PortLost) × (result ≢ Err Ended.Turns) }
         ensures told { (result ≡ Err Ended.Told) ↔ IsSome self.old.end }
-        ensures full { result ≡ Err Ended.Full → IsFullFor self.old.kept.limits self.old.kept.entries machine plan.now reading worker.old.watch }
+        ensures full { result ≡ Err Ended.Full
+            → IsFullFor self.old.kept.limits self.old.kept.entries machine plan.now reading worker.old.watch }
         ensures memory { result ≡ Err Ended.Memory → vec_capacity worker.old.entries ≡ vec_len worker.old.entries }
         ensures sets { IfErr result (λ ended. self.new.end ≡ end_by ended self.old.end) }
         ensures stands { Stands self.old.end self.new.end }
         ensures lost { self.new.lost ≡ self.old.lost }
         ensures marks { OnErr result (self.new.idle ≡ self.old.idle) }
-        ensures unchanged { OnErr result ((worker.new.entries.items ≡ worker.old.entries.items) × (worker.new.shares ≡ worker.old.shares) × (worker.new.watch ≡ worker.old.watch) × (self.new.kept ≡ self.old.kept)) }
+        ensures unchanged { OnErr result ((worker.new.entries.items ≡ worker.old.entries.items)
+            × (worker.new.shares ≡ worker.old.shares) × (worker.new.watch ≡ worker.old.watch)
+            × (self.new.kept ≡ self.old.kept)) }
     {
         if self.end.is_some() {
             return Err(Ended::Told);
@@ -174,10 +187,16 @@ impl<R: Run> Hall<R> {
     pub fn book(&mut self, shares: &mut Shares<R>, entry: Entry) -> Result<(), Refusal>
         requires { actor_of entry ≡ actors.Operator }
         ensures ok { OnOk result (shares.new ≡ held shares.old.parts (plus shares.old.counts (count_one entry))) }
-        ensures booked { OnOk result (self.new.kept ≡ record { limits = self.old.kept.limits; entries = self.old.kept.entries ++ entry ∷ [] }) }
+        ensures booked { OnOk result (self.new.kept ≡ record {
+          limits = self.old.kept.limits;
+          entries =
+              self.old.kept.entries ++ entry ∷ [];
+        }) }
         ensures allowed { OnOk result (first_of self.old.kept.limits self.old.kept.entries entry ≡ None) }
-        ensures refused { IfErr result (λ why. why ≢ Refusal.OutOfMemory → first_of self.old.kept.limits self.old.kept.entries entry ≡ Some why) }
-        ensures memory { result ≡ Err Refusal.OutOfMemory → (first_of self.old.kept.limits self.old.kept.entries entry ≡ None) × (is_quarantined entry ≡ true) }
+        ensures refused { IfErr result (λ why. why ≢ Refusal.OutOfMemory
+            → first_of self.old.kept.limits self.old.kept.entries entry ≡ Some why) }
+        ensures memory { result ≡ Err Refusal.OutOfMemory
+            → (first_of self.old.kept.limits self.old.kept.entries entry ≡ None) × (is_quarantined entry ≡ true) }
         ensures idle { OnOk result (self.new.idle ≡ self.old.lost) }
         ensures marks { OnErr result (self.new.idle ≡ self.old.idle) }
         ensures lost { self.new.lost ≡ self.old.lost }

@@ -1,5 +1,6 @@
 //! The operator's worker.
-ghost use Rattle.std.specs.Prelude.{◌≡◌, ◌≢◌, ◌⊎◌, ◌++◌, ◌∷◌, [], List, true, IfOk, IfErr, OnOk, OnErr, IfSome, IfNone, All, Some, IsSome, is_some};
+ghost use Rattle.std.specs.Prelude.{◌≡◌, ◌≢◌, ◌⊎◌, ◌++◌, ◌∷◌, [], List, true, IfOk, IfErr, OnOk, OnErr, IfSome, IfNone};
+ghost use Rattle.std.specs.Prelude.{All, Some, IsSome, is_some};
 ghost use Rattle.cell_types.specs.Entries.{actor_of};
 ghost use Rattle.cell_types.specs.declared.words.Actor.TheVariants as actors;
 ghost use Rattle.cell_views.specs.Views.{count_of};
@@ -35,15 +36,18 @@ pub struct Bookings<R: Run> {
 }
 
 impl<R: Run> Hall<R> {
-    /// Books an entry of the operator and lists it. A refusal ends his worker, as `Memory` or `Full` with the run, or for
-    /// any other refusal as `PortLost`.
+    /// Books an entry of the operator and lists it. A refusal ends his worker, as `Memory` or `Full` with the run, or
+    /// for any other refusal as `PortLost`.
     fn take(&mut self, bookings: &mut Bookings<R>, entry: Entry) -> Result<(), Ended>
         requires { actor_of entry ≡ actors.Operator }
         ensures entries { OnOk result (bookings.new.entries.items ≡ bookings.old.entries.items ++ entry ∷ []) }
-        ensures shares { OnOk result (bookings.new.shares ≡ held bookings.old.shares.parts (plus bookings.old.shares.counts (count_one entry))) }
-        ensures unchanged { OnErr result ((bookings.new.entries.items ≡ bookings.old.entries.items) × (bookings.new.shares ≡ bookings.old.shares)) }
+        ensures shares { OnOk result (bookings.new.shares ≡ held bookings.old.shares.parts
+            (plus bookings.old.shares.counts (count_one entry))) }
+        ensures unchanged { OnErr result ((bookings.new.entries.items ≡ bookings.old.entries.items)
+            × (bookings.new.shares ≡ bookings.old.shares)) }
         ensures refused { IfErr result (λ ended. RefusedAs R.limits entry ended) }
-        ensures allowed { is_some (first_of self.old.kept.limits self.old.kept.entries entry) ≢ true → IfErr result (λ ended. ended ≡ Ended.Memory) }
+        ensures allowed { is_some (first_of self.old.kept.limits self.old.kept.entries entry) ≢ true
+            → IfErr result (λ ended. ended ≡ Ended.Memory) }
         ensures kept { OnErr result (self.new.kept ≡ self.old.kept) }
         ensures ends { IfErr result (λ ended. ended ≢ Ended.PortLost → IsSome self.new.end) }
         ensures stands { Stands self.old.end self.new.end }
@@ -81,8 +85,10 @@ fn locked_booking<R: Run, W: Wait>(
 ) -> Result<(), Ended>
     requires { actor_of entry ≡ actors.Operator }
     ensures entries { OnOk result (bookings.new.entries.items ≡ bookings.old.entries.items ++ entry ∷ []) }
-    ensures shares { OnOk result (bookings.new.shares ≡ held bookings.old.shares.parts (plus bookings.old.shares.counts (count_one entry))) }
-    ensures unchanged { OnErr result ((bookings.new.entries.items ≡ bookings.old.entries.items) × (bookings.new.shares ≡ bookings.old.shares)) }
+    ensures shares { OnOk result (bookings.new.shares ≡ held bookings.old.shares.parts
+        (plus bookings.old.shares.counts (count_one entry))) }
+    ensures unchanged { OnErr result ((bookings.new.entries.items ≡ bookings.old.entries.items)
+        × (bookings.new.shares ≡ bookings.old.shares)) }
     ensures refused { IfErr result (λ ended. RefusedAs R.limits entry ended) }
 {
     let taken = room.hall.lock(rt).take(bookings, entry);
@@ -92,8 +98,9 @@ fn locked_booking<R: Run, W: Wait>(
     taken
 }
 
-/// Takes the lock and asks the script. It answers the next entry, if it wants an act by hand; one that wants none, a stop or an
-/// expected plate, is booked at once. Where there is nothing to do he waits until the journal is longer or an end is set.
+/// Takes the lock and asks the script. It answers the next entry, if it wants an act by hand; one that wants none, a
+/// stop or an expected plate, is booked at once. Where there is nothing to do he waits until the journal is longer or
+/// an end is set.
 fn choose<R: Run, W: Wait>(
     rt: &W,
     room: &Room<R>,
@@ -106,9 +113,12 @@ fn choose<R: Run, W: Wait>(
     ensures due { IfOk result (λ o. IfSome o (λ e. IsDue R.limits script.old e)) }
     ensures same { IfOk result (λ o. IfSome o (λ e. script.new ≡ script.old)) }
     ensures ended { IfErr result (λ ended. (ended ≡ Ended.Told) ⊎ (ended ≡ Ended.Memory)) }
-    ensures follows { (lines : List Line) → Followed R.limits lines bookings.old.entries.items script.old → Followed R.limits lines bookings.new.entries.items script.new }
-    ensures serves { (start : Held) → Serves actors.Operator start bookings.old.entries.items bookings.old.shares → Serves actors.Operator start bookings.new.entries.items bookings.new.shares }
-    ensures did { (before now : ActLog) → DidHands before now bookings.old.entries.items → DidHands before now bookings.new.entries.items }
+    ensures follows { (lines : List Line) → Followed R.limits lines bookings.old.entries.items script.old
+        → Followed R.limits lines bookings.new.entries.items script.new }
+    ensures serves { (start : Held) → Serves actors.Operator start bookings.old.entries.items bookings.old.shares
+        → Serves actors.Operator start bookings.new.entries.items bookings.new.shares }
+    ensures did { (before now : ActLog) → DidHands before now bookings.old.entries.items
+        → DidHands before now bookings.new.entries.items }
 {
     let mut hall = room.hall.lock(rt);
     if hall.end.is_some() {
@@ -154,11 +164,15 @@ fn hand_over<O: OperatorPort, R: Run, W: Wait>(
     requires wanted { is_some (act_of entry) ≡ true }
     ensures still { O.tells operator.new ≡ true → O.tells operator.old ≡ true }
     ensures entries { OnOk result (bookings.new.entries.items ≡ bookings.old.entries.items ++ entry ∷ []) }
-    ensures shares { OnOk result (bookings.new.shares ≡ held bookings.old.shares.parts (plus bookings.old.shares.counts (count_one entry))) }
-    ensures done { OnOk result (O.tells operator.new ≡ true → O.log operator.new ≡ after_hand (O.log operator.old) (act_of entry) true) }
-    ensures unchanged { OnErr result ((bookings.new.entries.items ≡ bookings.old.entries.items) × (bookings.new.shares ≡ bookings.old.shares)) }
+    ensures shares { OnOk result (bookings.new.shares ≡ held bookings.old.shares.parts
+        (plus bookings.old.shares.counts (count_one entry))) }
+    ensures done { OnOk result (O.tells operator.new ≡ true
+        → O.log operator.new ≡ after_hand (O.log operator.old) (act_of entry) true) }
+    ensures unchanged { OnErr result ((bookings.new.entries.items ≡ bookings.old.entries.items)
+        × (bookings.new.shares ≡ bookings.old.shares)) }
     ensures turns { result ≢ Err Ended.Turns }
-    ensures ended { IfErr result (λ ended. O.tells operator.new ≡ true → (lines : List Line) → IsDue R.limits lines entry → HandsEnded R.limits lines (O.log operator.old) (O.log operator.new) [] ended) }
+    ensures ended { IfErr result (λ ended. O.tells operator.new ≡ true → (lines : List Line)
+        → IsDue R.limits lines entry → HandsEnded R.limits lines (O.log operator.old) (O.log operator.new) [] ended) }
 {
     if bookings.entries.reserve(1).is_err() {
         finish(rt, room, End::Memory);
@@ -183,11 +197,18 @@ fn operate<O: OperatorPort, R: Run, W: Wait>(
     plan: &Plan,
 ) -> Option<Ended>
     ensures still { O.tells operator.new ≡ true → O.tells operator.old ≡ true }
-    ensures serves { (start : Held) → Serves actors.Operator start bookings.old.entries.items bookings.old.shares → Serves actors.Operator start bookings.new.entries.items bookings.new.shares }
-    ensures did { IfNone result (O.tells operator.new ≡ true → (before : ActLog) → DidHands before (O.log operator.old) bookings.old.entries.items → DidHands before (O.log operator.new) bookings.new.entries.items) }
-    ensures follows { (lines : List Line) → Followed R.limits lines bookings.old.entries.items script.old → Followed R.limits lines bookings.new.entries.items script.new }
+    ensures serves { (start : Held) → Serves actors.Operator start bookings.old.entries.items bookings.old.shares
+        → Serves actors.Operator start bookings.new.entries.items bookings.new.shares }
+    ensures did { IfNone result (O.tells operator.new ≡ true → (before : ActLog)
+        → DidHands before (O.log operator.old) bookings.old.entries.items
+        → DidHands before (O.log operator.new) bookings.new.entries.items) }
+    ensures follows { (lines : List Line) → Followed R.limits lines bookings.old.entries.items script.old
+        → Followed R.limits lines bookings.new.entries.items script.new }
     ensures turns { result ≢ Some Ended.Turns }
-    ensures ended { IfSome result (λ ended. O.tells operator.new ≡ true → (before : ActLog) → DidHands before (O.log operator.old) bookings.old.entries.items → (lines : List Line) → Followed R.limits lines bookings.old.entries.items script.old → HandsEnded R.limits lines before (O.log operator.new) bookings.new.entries.items ended) }
+    ensures ended { IfSome result (λ ended. O.tells operator.new ≡ true → (before : ActLog)
+        → DidHands before (O.log operator.old) bookings.old.entries.items → (lines : List Line)
+        → Followed R.limits lines bookings.old.entries.items script.old
+        → HandsEnded R.limits lines before (O.log operator.new) bookings.new.entries.items ended) }
 {
     let entry = match choose(rt, room, bookings, script, plan) {
         Ok(Some(entry)) => entry,
@@ -213,10 +234,15 @@ fn operate_all<O: OperatorPort, R: Run, W: Wait>(
     plan: &Plan,
 ) -> Ended
     ensures still { O.tells operator.new ≡ true → O.tells operator.old ≡ true }
-    ensures serves { (start : Held) → Serves actors.Operator start bookings.old.entries.items bookings.old.shares → Serves actors.Operator start bookings.new.entries.items bookings.new.shares }
-    ensures follows { (lines : List Line) → Followed R.limits lines bookings.old.entries.items script.old → Followed R.limits lines bookings.new.entries.items script.new }
+    ensures serves { (start : Held) → Serves actors.Operator start bookings.old.entries.items bookings.old.shares
+        → Serves actors.Operator start bookings.new.entries.items bookings.new.shares }
+    ensures follows { (lines : List Line) → Followed R.limits lines bookings.old.entries.items script.old
+        → Followed R.limits lines bookings.new.entries.items script.new }
     ensures turns { result ≢ Ended.Turns }
-    ensures ended { O.tells operator.new ≡ true → (before : ActLog) → DidHands before (O.log operator.old) bookings.old.entries.items → (lines : List Line) → Followed R.limits lines bookings.old.entries.items script.old → HandsEnded R.limits lines before (O.log operator.new) bookings.new.entries.items result }
+    ensures ended { O.tells operator.new ≡ true → (before : ActLog)
+        → DidHands before (O.log operator.old) bookings.old.entries.items → (lines : List Line)
+        → Followed R.limits lines bookings.old.entries.items script.old
+        → HandsEnded R.limits lines before (O.log operator.new) bookings.new.entries.items result }
 {
     for _ in rt.forever() {
         if let Some(ended) = operate(rt, operator, room, bookings, script, plan) {
@@ -226,8 +252,8 @@ fn operate_all<O: OperatorPort, R: Run, W: Wait>(
     unreachable!()
 }
 
-/// The operator's worker: it follows the script until an end. What an entry wants done by hand is done without the lock,
-/// before it is booked.
+/// The operator's worker: it follows the script until an end. What an entry wants done by hand is done without the
+/// lock, before it is booked.
 pub fn run_operator<O: OperatorPort, R: Run, W: Wait>(
     rt: &W,
     alloc: Global,
@@ -241,7 +267,8 @@ pub fn run_operator<O: OperatorPort, R: Run, W: Wait>(
     ensures counts { result.shares ≡ held shares.parts (plus shares.counts (count_of result.entries.items)) }
     ensures still { O.tells operator.new ≡ true → O.tells operator.old ≡ true }
     ensures follows { Follows R.limits script result.entries.items }
-    ensures did { O.tells operator.new ≡ true → HandsEnded R.limits script (O.log operator.old) (O.log operator.new) result.entries.items result.ended }
+    ensures did { O.tells operator.new ≡ true
+        → HandsEnded R.limits script (O.log operator.old) (O.log operator.new) result.entries.items result.ended }
     ensures turns { result.ended ≢ Ended.Turns }
 {
     let mut bookings = Bookings {

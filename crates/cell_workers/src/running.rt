@@ -68,8 +68,8 @@ fn is_of(actor: Actor, entry: &Entry) -> bool
     }
 }
 
-/// The place in a list after an entry of the journal: the next one where the entry is the actor's, and stands there; the same
-/// where it is another's.
+/// The place in a list after an entry of the journal: the next one where the entry is the actor's, and stands there;
+/// the same where it is another's.
 fn place_after(entries: &[Entry], k: usize, actor: Actor, entry: &Entry) -> Option<usize>
     requires { k ≤ length entries.now }
     ensures within { IfSome result (λ n. n ≤ length entries.now) }
@@ -111,7 +111,8 @@ fn all_agree(
     deposit: &[Entry],
     operator: &[Entry],
 ) -> bool
-    ensures { result ≡ true → AreAllOf journal.now.entries feed.now table.now robot.now press1.now press2.now deposit.now operator.now }
+    ensures { result ≡ true → AreAllOf journal.now.entries feed.now table.now robot.now press1.now press2.now
+        deposit.now operator.now }
 {
     agrees(journal, Actor::Machine(Machine::Feed), feed)
         && agrees(journal, Actor::Machine(Machine::Table), table)
@@ -149,7 +150,9 @@ fn gather_team<R: Run>(
     ensures machines { (machine : MachineValue) → (at result.0 machine).1 ≡ count_of (at result.0 machine).0.items }
     ensures operator { result.1.1 ≡ count_of result.1.0.items }
     ensures parts { result.2.parts ≡ 7 }
-    ensures sum { result.2.counts ≡ plus result.0.feed.1 (plus result.0.table.1 (plus result.0.robot.1 (plus result.0.press1.1 (plus result.0.press2.1 (plus result.0.deposit.1 (plus result.1.1 nothing)))))) }
+    ensures sum { result.2.counts ≡ plus result.0.feed.1
+        (plus result.0.table.1 (plus result.0.robot.1
+        (plus result.0.press1.1 (plus result.0.press2.1 (plus result.0.deposit.1 (plus result.1.1 nothing)))))) }
 {
     let Team { machines, operator } = team;
     let Six {
@@ -285,7 +288,8 @@ pub fn run_cell<P: Port + Send, O: OperatorPort + Send, W: Threads + Wait + Sync
     script: Script,
     plan: &Plan,
 ) -> Result<Report, RunError>
-    ensures { IfOk result (λ r. IsReport (record { entries = plan.now.journal_limit; plates = plan.now.plates }) r.journal.entries r.totals (map (λ w. (w.0.items, w.1)) r.workers)) }
+    ensures { IfOk result (λ r. IsReport (record { entries = plan.now.journal_limit; plates = plan.now.plates })
+        r.journal.entries r.totals (map (λ w. (w.0.items, w.1)) r.workers)) }
 {
     let Ok(book) = Book::new(alloc, plan.journal_limit, plan.plates) else {
         return Err(RunError::OutOfMemory);

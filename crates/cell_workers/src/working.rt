@@ -1,5 +1,6 @@
 //! A machine's worker.
-ghost use Rattle.std.specs.Prelude.{◌≡◌, ◌≢◌, ◌<◌, ◌+◌, ◌&&◌, [], ℕ, true, false, Option, IfOk, OnErr, IfNone, All, length, is_none, is_some, Some};
+ghost use Rattle.std.specs.Prelude.{◌≡◌, ◌≢◌, ◌<◌, ◌+◌, ◌&&◌, [], ℕ, true, false, Option, IfOk, OnErr, IfNone, All};
+ghost use Rattle.std.specs.Prelude.{length, is_none, is_some, Some};
 ghost use Rattle.cell_types.specs.Entries.{actor_of};
 ghost use Rattle.cell_types.specs.declared.words.Actor.TheVariants as actors;
 ghost use Rattle.cell_views.specs.Views.{count_of};
@@ -69,10 +70,12 @@ fn locked_turn<R: Run, W: Wait>(
     plan: &Plan,
 ) -> Result<Option<Entry>, Ended>
     requires { machine_of_watch worker.old.watch ≡ machine }
-    ensures served { IfOk result (λ e. Served machine plan.now reading e worker.old.entries.items worker.new.entries.items worker.old.shares worker.new.shares worker.old.watch worker.new.watch) }
+    ensures served { IfOk result (λ e. Served machine plan.now reading e worker.old.entries.items
+        worker.new.entries.items worker.old.shares worker.new.shares worker.old.watch worker.new.watch) }
     ensures machine { machine_of_watch worker.new.watch ≡ machine }
     ensures ended { (result ≢ Err Ended.PortLost) × (result ≢ Err Ended.Turns) }
-    ensures unchanged { OnErr result ((worker.new.entries.items ≡ worker.old.entries.items) × (worker.new.shares ≡ worker.old.shares) × (worker.new.watch ≡ worker.old.watch)) }
+    ensures unchanged { OnErr result ((worker.new.entries.items ≡ worker.old.entries.items)
+        × (worker.new.shares ≡ worker.old.shares) × (worker.new.watch ≡ worker.old.watch)) }
 {
     let mut hall = room.hall.lock(rt);
     let served = hall.serve(machine, worker, reading, plan);
@@ -127,10 +130,17 @@ fn step<P: Port, R: Run, W: Wait>(
     requires { machine_of_watch worker.old.watch ≡ machine }
     ensures still { P.tells port.new ≡ true → P.tells port.old ≡ true }
     ensures machine { machine_of_watch worker.new.watch ≡ machine }
-    ensures serves { (start : Held) → Serves (actors.Machine machine) start worker.old.entries.items worker.old.shares → Serves (actors.Machine machine) start worker.new.entries.items worker.new.shares }
-    ensures sends { P.tells port.new ≡ true → (before : Log) → Sends before false (P.log port.old) worker.old.entries.items (has_failed_command worker.old.watch) → Sends before false (P.log port.new) worker.new.entries.items (has_failed_command worker.new.watch) }
-    ensures answered { P.tells port.new ≡ true → (before : Log) (k : ℕ) → Shown machine plan.now before (P.log port.old) worker.old.entries.items worker.old.watch k → Answered plan.now before (P.log port.new) worker.new.entries.items (k + 1) }
-    ensures shown { IfNone result (P.tells port.new ≡ true → (before : Log) (k : ℕ) → Shown machine plan.now before (P.log port.old) worker.old.entries.items worker.old.watch k → Shown machine plan.now before (P.log port.new) worker.new.entries.items worker.new.watch (k + 1)) }
+    ensures serves { (start : Held) → Serves (actors.Machine machine) start worker.old.entries.items worker.old.shares
+        → Serves (actors.Machine machine) start worker.new.entries.items worker.new.shares }
+    ensures sends { P.tells port.new ≡ true → (before : Log)
+        → Sends before false (P.log port.old) worker.old.entries.items (has_failed_command worker.old.watch)
+        → Sends before false (P.log port.new) worker.new.entries.items (has_failed_command worker.new.watch) }
+    ensures answered { P.tells port.new ≡ true → (before : Log) (k : ℕ)
+        → Shown machine plan.now before (P.log port.old) worker.old.entries.items worker.old.watch k
+        → Answered plan.now before (P.log port.new) worker.new.entries.items (k + 1) }
+    ensures shown { IfNone result (P.tells port.new ≡ true → (before : Log) (k : ℕ)
+        → Shown machine plan.now before (P.log port.old) worker.old.entries.items worker.old.watch k
+        → Shown machine plan.now before (P.log port.new) worker.new.entries.items worker.new.watch (k + 1)) }
     ensures lost { result ≡ Some Ended.PortLost → has_failed_command worker.new.watch ≡ true }
     ensures turns { result ≢ Some Ended.Turns }
 {
@@ -157,9 +167,15 @@ fn serve_all<P: Port, R: Run, W: Wait>(
 ) -> Ended
     requires { machine_of_watch worker.old.watch ≡ machine }
     ensures still { P.tells port.new ≡ true → P.tells port.old ≡ true }
-    ensures serves { (start : Held) → Serves (actors.Machine machine) start worker.old.entries.items worker.old.shares → Serves (actors.Machine machine) start worker.new.entries.items worker.new.shares }
-    ensures sends { P.tells port.new ≡ true → (before : Log) → Sends before false (P.log port.old) worker.old.entries.items (has_failed_command worker.old.watch) → Sends before false (P.log port.new) worker.new.entries.items (has_failed_command worker.new.watch) }
-    ensures answered { P.tells port.new ≡ true → (before : Log) → Shown machine plan.now before (P.log port.old) worker.old.entries.items worker.old.watch 0 → ((k : ℕ) × Answered plan.now before (P.log port.new) worker.new.entries.items k × (result ≡ Ended.Turns → k ≡ plan.now.turns)) }
+    ensures serves { (start : Held) → Serves (actors.Machine machine) start worker.old.entries.items worker.old.shares
+        → Serves (actors.Machine machine) start worker.new.entries.items worker.new.shares }
+    ensures sends { P.tells port.new ≡ true → (before : Log)
+        → Sends before false (P.log port.old) worker.old.entries.items (has_failed_command worker.old.watch)
+        → Sends before false (P.log port.new) worker.new.entries.items (has_failed_command worker.new.watch) }
+    ensures answered { P.tells port.new ≡ true → (before : Log)
+        → Shown machine plan.now before (P.log port.old) worker.old.entries.items worker.old.watch 0
+        → ((k : ℕ) × Answered plan.now before (P.log port.new) worker.new.entries.items k
+        × (result ≡ Ended.Turns → k ≡ plan.now.turns)) }
     ensures lost { result ≡ Ended.PortLost → has_failed_command worker.new.watch ≡ true }
 {
     for turn in 0..plan.turns {
@@ -196,8 +212,8 @@ fn first_worker<R: Run, W: Wait>(
     }
 }
 
-/// A machine's worker: it takes the machine's turns until an end, each at a reading of its own, and sends the command of
-/// each entry once the lock is free. Its last command is the machine's `AllOff`.
+/// A machine's worker: it takes the machine's turns until an end, each at a reading of its own, and sends the command
+/// of each entry once the lock is free. Its last command is the machine's `AllOff`.
 pub fn run_worker<P: Port, R: Run, W: Wait>(
     rt: &W,
     alloc: Global,
@@ -211,9 +227,12 @@ pub fn run_worker<P: Port, R: Run, W: Wait>(
     ensures counts { result.shares ≡ held shares.parts (plus shares.counts (count_of result.entries.items)) }
     ensures still { P.tells port.new ≡ true → P.tells port.old ≡ true }
     ensures sent { P.tells port.new ≡ true → SentAll machine (P.log port.old) (P.log port.new) result.entries.items }
-    ensures evidence { P.tells port.new ≡ true → Evidence plan.now (P.log port.old) (P.log port.new) result.entries.items }
-    ensures turns { result.ended ≡ Ended.Turns → P.tells port.new ≡ true → length (P.log port.new).answers ≡ length (P.log port.old).answers + plan.now.turns }
-    ensures lost { result.ended ≡ Ended.PortLost → P.tells port.new ≡ true → (P.log port.old).failures < (P.log port.new).failures }
+    ensures evidence { P.tells port.new ≡ true
+        → Evidence plan.now (P.log port.old) (P.log port.new) result.entries.items }
+    ensures turns { result.ended ≡ Ended.Turns → P.tells port.new ≡ true
+        → length (P.log port.new).answers ≡ length (P.log port.old).answers + plan.now.turns }
+    ensures lost { result.ended ≡ Ended.PortLost → P.tells port.new ≡ true
+        → (P.log port.old).failures < (P.log port.new).failures }
 {
     let mut worker = first_worker(rt, alloc, machine, room, shares, plan);
     let ended = serve_all(rt, machine, port, room, &mut worker, plan);

@@ -1,5 +1,6 @@
 -- Journals that are measured, and their texts
-use Rattle.std.proofs.Common.{◌≡◌, ◌⊎◌, inl, inr, ℕ, ◌+◌, Bool, true, false, Result, Ok, Err, List, [], ◌∷◌, arith, is_ok, refl, subst}
+use Rattle.std.proofs.Common.{◌≡◌, ◌⊎◌, inl, inr, ℕ, ◌+◌, Bool, true, false, Result, Ok, Err, List, [], ◌∷◌, arith}
+use Rattle.std.proofs.Common.{is_ok, refl, subst}
 use Rattle.std.proofs.lemmas.List.Elements.{All-cons, All-nil}
 use Rattle.cell_types.specs.declared.words.Totals.{Totals}
 use Rattle.cell_rows.specs.Rows.{rows_of}
@@ -24,9 +25,11 @@ none_yet = ([], refl, All-nil IsLegalText)
 
 -- a journal more was found, and none is refused
 pub more_found : (n : ℕ) (text : List ℕ) (found : Found) (old new : Bool) → IsFound text found
-    → ((text : List ℕ) → IsFound text found → new ≡ false → IsLegalText text × (old ≡ false)) → (old ≡ false → AreLegal n)
+    → ((text : List ℕ) → IsFound text found → new ≡ false → IsLegalText text × (old ≡ false))
+    → (old ≡ false → AreLegal n)
     → new ≡ false → AreLegal (n + 1)
 more_found n text found old new is added before h = let both = added text is h in one_more n text both.0 (before both.1)
 
-pub all_found : (n count : ℕ) (refused : Bool) → (refused ≡ false → AreLegal n) → n ≡ count → refused ≡ false → AreLegal count
+pub all_found : (n count : ℕ) (refused : Bool) → (refused ≡ false → AreLegal n) → n ≡ count → refused ≡ false
+    → AreLegal count
 all_found n count refused legal e h = subst AreLegal e (legal h)

@@ -5,6 +5,9 @@ use Rattle.cell_audit.specs.declared.watched.WriteFault.{WriteFault}
 use Rattle.cell_runs.specs.declared.texts.Left.{Left}
 
 pub as-answered : (ran : Result (ℕ × Left) WriteFault) (written : Result ℕ WriteFault) (P : ℕ → Type 0) (Q : Type 0)
-    → IfOk ran (λ told. written ≡ Ok told.0) → IfErr ran (λ e. written ≡ Err e) → IfOk ran (λ told. P told.0) → (IsErr ran → Q) → MatchResult written P (λ _. Q)
-as-answered (Ok told) written P Q ok err whole part = subst (λ (w : Result ℕ WriteFault). MatchResult w P (λ _. Q)) (sym ok) whole
-as-answered (Err e) written P Q ok err whole part = subst (λ (w : Result ℕ WriteFault). MatchResult w P (λ _. Q)) (sym err) (part (search rules))
+    → IfOk ran (λ told. written ≡ Ok told.0) → IfErr ran (λ e. written ≡ Err e) → IfOk ran (λ told. P told.0)
+    → (IsErr ran → Q) → MatchResult written P (λ _. Q)
+as-answered (Ok told) written P Q ok err whole part = subst (λ (w : Result ℕ WriteFault). MatchResult w P (λ _. Q))
+    (sym ok) whole
+as-answered (Err e) written P Q ok err whole part = subst (λ (w : Result ℕ WriteFault). MatchResult w P (λ _. Q))
+    (sym err) (part (search rules))

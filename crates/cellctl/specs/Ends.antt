@@ -19,7 +19,8 @@ unknown_failed status = if status == 3 then Some (record { place = at.Output; er
 -- the stream that failed
 abbrev pub stream_failed : Faults → ℕ → Option Failed
 stream_failed faults status =
-    or_failed at.Input faults.input (or_failed at.Output faults.output (or_failed at.Errors faults.errors (unknown_failed status)))
+    or_failed at.Input faults.input (or_failed at.Output faults.output
+    (or_failed at.Errors faults.errors (unknown_failed status)))
 
 -- the line of a file or a stream that failed
 abbrev pub failed_line : Option Failed → List ℕ
@@ -32,4 +33,5 @@ lines_below line failed = (line ++ 10 ∷ []) ++ failed_line failed
 
 -- both lines, of a status for which there are some
 abbrev pub end_lines : ℕ → Option Failed → List ℕ
-end_lines status failed = if status == 3 then lines_below (codes "read fault") failed else if status == 4 then lines_below (codes "out of memory") failed else []
+end_lines status failed = if status == 3 then lines_below (codes "read fault") failed else if status == 4
+    then lines_below (codes "out of memory") failed else []

@@ -1,6 +1,7 @@
 //! What is asked of every order of events, by the words of its command.
 ghost use Rattle.std.specs.Prelude.{◌≡◌, IfNone, IfSome};
-ghost use Rattle.cellctl.specs.Asked.{AreMachines, HasNoMachine, IsLimit, IsNoLimit, IsNoNumberIn, IsNumberIn, is_named, named, names_machine};
+ghost use Rattle.cellctl.specs.Asked.{AreMachines, HasNoMachine, IsLimit, IsNoLimit, IsNoNumberIn, IsNumberIn};
+ghost use Rattle.cellctl.specs.Asked.{is_named, named, names_machine};
 
 use cell_command::{Count, read_count};
 use cell_types::Machine;
@@ -20,7 +21,8 @@ pub(crate) fn number_in(word: &str, least: u32, most: u32) -> Option<u32>
     }
 }
 
-/// How many states are seen at the most: as many as a word says, if there is one; `None` where it writes no such number.
+/// How many states are seen at the most: as many as a word says, if there is one; `None` where it writes no such
+/// number.
 pub(crate) fn limit_of(word: Option<&str>) -> Option<u32>
     ensures known { IfSome result (IsLimit word.entry) }
     ensures wrong { IfNone result (IsNoLimit word.entry) }

@@ -67,8 +67,8 @@ impl Faults {
         errors: None,
     };
 
-    /// The stream that failed, where the program ends with a status. If none has an error, a write of standard output took
-    /// nothing.
+    /// The stream that failed, where the program ends with a status. If none has an error, a write of standard output
+    /// took nothing.
     pub(crate) fn failed<'a>(&self, status: u8) -> Option<Failed<'a>>
         ensures { result ≡ stream_failed self.now status }
     {
@@ -90,14 +90,15 @@ fn tell_failed<E: Write>(errors: &mut E, failed: Option<Failed<'_>>) -> io::Resu
 
 // Writes a line, and below it what failed, if it is known.
 fn tell_below<E: Write>(errors: &mut E, line: &str, failed: Option<Failed<'_>>) -> io::Result<()>
-    ensures { OnOk result (Appends (E.contents errors.old) (E.contents errors.new) (lines_below line.now failed.entry)) }
+    ensures { OnOk result (Appends (E.contents errors.old) (E.contents errors.new)
+        (lines_below line.now failed.entry)) }
 {
     writeln!(errors, "{line}")?;
     tell_failed(errors, failed)
 }
 
-/// Tells among the errors that the program ends by a device that failed or for want of memory, where a status says so, and
-/// then what failed, and why.
+/// Tells among the errors that the program ends by a device that failed or for want of memory, where a status says so,
+/// and then what failed, and why.
 pub(crate) fn tell_end<E: Write>(
     errors: &mut E,
     status: u8,

@@ -29,7 +29,8 @@ const ONE_ALONE: &str = "of FILE, --settings, --faults and --operator one alone 
 
 // The text that the words of the command line name, if they name one alone.
 fn text_of<'a>(explaining: Explaining<'a>) -> Option<Text<'a>>
-    ensures { result ≡ text_of explaining.entry.journal explaining.entry.settings explaining.entry.faults explaining.entry.operator }
+    ensures { result ≡ text_of explaining.entry.journal explaining.entry.settings explaining.entry.faults
+        explaining.entry.operator }
 {
     let Explaining {
         journal,
@@ -68,7 +69,8 @@ fn explain_text<'a, R: AllocGlobal + Files, I: Read + Drop, W: Write>(
     output: &mut W,
     text: Text<'a>,
 ) -> Result<Result<u8, WriteFault>, Failure<'a>>
-    ensures { IfOk result (λ written. IfOk written (ExplainsText text.entry (I.remaining input) (W.contents output.old) (W.contents output.new))) }
+    ensures { IfOk result (λ written. IfOk written (ExplainsText text.entry (I.remaining input) (W.contents output.old)
+        (W.contents output.new))) }
 {
     match text {
         Text::Input => Ok(explain_input(rt.alloc(), input, output)?),
@@ -87,7 +89,9 @@ pub(crate) fn explain_words<'a, R: AllocGlobal + Files, I: Read + Drop, W: Write
     errors: &mut E,
     explaining: Explaining<'a>,
 ) -> Result<Result<u8, WriteFault>, Failure<'a>>
-    ensures { IfOk result (λ written. IfOk written (Explains explaining.entry (I.remaining input) (W.contents output.old) (W.contents output.new) (E.contents errors.old) (E.contents errors.new))) }
+    ensures { IfOk result (λ written. IfOk written
+        (Explains explaining.entry (I.remaining input) (W.contents output.old) (W.contents output.new)
+        (E.contents errors.old) (E.contents errors.new))) }
 {
     match text_of(explaining) {
         Some(text) => explain_text(rt, input, output, text),

@@ -11,8 +11,8 @@ use cell_lines::WriteFault;
 use std::alloc::Global;
 use std::io::Write;
 
-/// Looks at every order of events that the words of the command line ask for. With `progress` the errors tell how many states
-/// were looked at.
+/// Looks at every order of events that the words of the command line ask for. With `progress` the errors tell how many
+/// states were looked at.
 pub(crate) fn explore_words<'a, W: Write, E: Write>(
     alloc: Global,
     output: &mut W,
@@ -20,7 +20,8 @@ pub(crate) fn explore_words<'a, W: Write, E: Write>(
     exploring: &Exploring<'a>,
     progress: bool,
 ) -> Result<Result<u8, WriteFault>, Failure<'a>>
-    ensures { IfOk result (ExploresWords exploring.now (W.contents output.old) (W.contents output.new) (E.contents errors.old) (E.contents errors.new)) }
+    ensures { IfOk result (ExploresWords exploring.now (W.contents output.old) (W.contents output.new)
+        (E.contents errors.old) (E.contents errors.new)) }
 {
     let Some(plan) = number_in(exploring.plates, 0, MOST_PLATES) else {
         return Ok(wrong(errors, "PLATES is a whole number from 0 to 15")?);

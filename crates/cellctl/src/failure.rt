@@ -2,7 +2,8 @@
 use std::alloc::AllocError;
 use std::io;
 
-/// An error of the system, with the path of the file that could not be read, where it is one that the command line names.
+/// An error of the system, with the path of the file that could not be read, where it is one that the command line
+/// names.
 #[derive(Clone, Copy, Debug)]
 pub(crate) struct Failure<'a> {
     pub(crate) file: Option<&'a str>,

@@ -1,5 +1,5 @@
-//! `cellctl`: the audit and the migration of a production cell's journal, its pictures and explanations, the check of a run's
-//! settings, and the runs of the simulated cell.
+//! `cellctl`: the audit and the migration of a production cell's journal, its pictures and explanations, the check of a
+//! run's settings, and the runs of the simulated cell.
 #![tactic(auto)]
 
 mod asked;
@@ -83,8 +83,8 @@ fn refuse<W: Write, E: Write>(
     }
 }
 
-// Writes out all that was written for an order, unless the writer failed, and then explains the end of a run, where that is
-// wanted. It gives the status.
+// Writes out all that was written for an order, unless the writer failed, and then explains the end of a run, where
+// that is wanted. It gives the status.
 fn finish<W: Write, E: Write>(
     alloc: Global,
     output: &mut W,
@@ -117,7 +117,8 @@ fn finish<W: Write, E: Write>(
     Ok(status)
 }
 
-// Reads words, and does what they say over any reader and writers. With `progress` the errors tell how far what takes long is.
+// Reads words, and does what they say over any reader and writers. With `progress` the errors tell how far what takes
+// long is.
 fn main_over<
     'a,
     R: AllocGlobal + Files + Threads + Wait + Sync,
@@ -132,7 +133,8 @@ fn main_over<
     progress: bool,
     words: &'a [&'a str],
 ) -> Result<Obeyed, Failure<'a>>
-    ensures { IfOk result (λ obeyed. Obeys (map (λ w. w.now) words.now) (I.remaining input) (W.contents output.old) (W.contents output.new) (E.contents errors.old) obeyed.status
+    ensures { IfOk result (λ obeyed. Obeys (map (λ w. w.now) words.now) (I.remaining input) (W.contents output.old)
+        (W.contents output.new) (E.contents errors.old) obeyed.status
         ⊎ IsTurnedAway (map (λ w. w.now) words.now) obeyed.status) }
 {
     match read_words(rt.alloc(), words) {
@@ -213,7 +215,8 @@ fn obey<R: AllocGlobal + Files + Input + Print + Threads + Wait + Sync, E: Print
     }
 }
 
-// Tells where the program failed, if it did, and gives the status. Where standard error fails too the status alone tells.
+// Tells where the program failed, if it did, and gives the status. Where standard error fails too the status alone
+// tells.
 fn told<E: Print>(errors: &E, status: u8, failed: Option<Failed<'_>>) -> u8
     ensures { result ≡ status }
 {

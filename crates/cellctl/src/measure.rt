@@ -76,7 +76,8 @@ impl Sorted {
         found: Found,
         several: bool,
     ) -> Result<(), AllocError>
-        ensures { IfOk result (λ _. (text : List ℕ) → IsFound text found → self.new.refused ≡ false → IsLegalText text × (self.old.refused ≡ false)) }
+        ensures { IfOk result (λ _. (text : List ℕ) → IsFound text found → self.new.refused ≡ false
+            → IsLegalText text × (self.old.refused ≡ false)) }
     {
         let name = printed(alloc, path)?;
         match found {

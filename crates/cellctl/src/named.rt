@@ -4,8 +4,8 @@ use std::io;
 
 const NAME: &[u8] = b"cellctl";
 
-/// The environment, in which the program has its own name. The path by which it was called may have any bytes, and nothing
-/// depends on it.
+/// The environment, in which the program has its own name. The path by which it was called may have any bytes, and
+/// nothing depends on it.
 #[derive(Clone, Copy)]
 pub(crate) struct Named<'a, R> {
     pub(crate) rt: &'a R,

@@ -7,8 +7,8 @@ ghost use Rattle.std.specs.Io.KnownBytes.{Keeps, ReadConsumes, WriteAppends};
 use std::io;
 use std::io::{ErrorKind, Read, Write};
 
-/// A reader or a writer that notes the error of the last call of it that failed. A call that was interrupted is tried again, and
-/// isn't noted.
+/// A reader or a writer that notes the error of the last call of it that failed. A call that was interrupted is tried
+/// again, and isn't noted.
 #[derive(Drop)]
 pub(crate) struct Noted<'a, T> {
     inner: T,

@@ -1,7 +1,8 @@
 //! What is done for an order, over any reader and writers.
 ghost use Rattle.std.specs.Prelude.{◌≡◌, ◌⊎◌, ℕ, List, IfErr, IfOk, OnOk};
 ghost use Rattle.std.specs.Io.KnownBytes.{Appends};
-ghost use Rattle.cellctl.specs.Carried.{Audits, CarriesOut, ChecksSettings, DrivesFiles, FollowsFiles, MeasuresFiles, MigratesText, OfText, RunsFiles, TellsUnfit};
+ghost use Rattle.cellctl.specs.Carried.{Audits, CarriesOut, ChecksSettings, DrivesFiles, FollowsFiles, MeasuresFiles};
+ghost use Rattle.cellctl.specs.Carried.{MigratesText, OfText, RunsFiles, TellsUnfit};
 
 use crate::explain::explain_words;
 use crate::explore::explore_words;
@@ -61,14 +62,16 @@ fn without_ending(written: Result<u8, WriteFault>) -> Carried
     }
 }
 
-// Reads the files of a run, all before any is judged; or tells that the settings are too long or the durations are refused.
+// Reads the files of a run, all before any is judged; or tells that the settings are too long or the durations are
+// refused.
 fn sources_in<'a, R: AllocGlobal + Files, W: Write>(
     rt: &R,
     output: &mut W,
     running: Running<'a>,
 ) -> Result<Result<Sources, Result<u8, WriteFault>>, Failure<'a>>
     ensures same { IfOk result (λ read. IfOk read (λ _. output.new ≡ output.old)) }
-    ensures unfit { IfOk result (λ read. IfErr read (TellsUnfit running.entry.times (W.contents output.old) (W.contents output.new))) }
+    ensures unfit { IfOk result (λ read. IfErr read
+        (TellsUnfit running.entry.times (W.contents output.old) (W.contents output.new))) }
 {
     let settings = settings_in(rt, running.paths.settings)?;
     let faults = script_in(rt, running.paths.faults)?.bytes;
@@ -125,7 +128,8 @@ fn run_files<'a, R: AllocGlobal + Files + Threads + Wait + Sync, W: Write>(
     threads: bool,
     running: Running<'a>,
 ) -> Result<Carried, Failure<'a>>
-    ensures { IfOk result (λ c. RunsFiles threads running.entry (W.contents output.old) (W.contents output.new) c.written) }
+    ensures { IfOk result (λ c. RunsFiles threads running.entry (W.contents output.old) (W.contents output.new)
+        c.written) }
 {
     let sources = match sources_in(rt, output, running)? {
         Ok(sources) => sources,
@@ -155,8 +159,8 @@ fn status_with(run: u8, measures: u8) -> u8
     }
 }
 
-// Tells what is measured of a run: of one on threads by the journal that is left of it, of one in rounds by the same run in a
-// cell that is watched.
+// Tells what is measured of a run: of one on threads by the journal that is left of it, of one in rounds by the same
+// run in a cell that is watched.
 fn tell_measures<R: AllocGlobal + Wait, W: Write>(
     rt: &R,
     output: &mut W,
@@ -180,15 +184,16 @@ fn tell_measures<R: AllocGlobal + Wait, W: Write>(
     )
 }
 
-// Runs the simulated cell by what its files say, on threads or in rounds, and tells what is measured of it. The files are all
-// read before any is judged.
+// Runs the simulated cell by what its files say, on threads or in rounds, and tells what is measured of it. The files
+// are all read before any is judged.
 fn measure_files<'a, R: AllocGlobal + Files + Threads + Wait + Sync, W: Write>(
     rt: &R,
     output: &mut W,
     threads: bool,
     running: Running<'a>,
 ) -> Result<Carried, Failure<'a>>
-    ensures { IfOk result (λ c. MeasuresFiles threads running.entry (W.contents output.old) (W.contents output.new) c.written) }
+    ensures { IfOk result (λ c. MeasuresFiles threads running.entry (W.contents output.old) (W.contents output.new)
+        c.written) }
 {
     let sources = match sources_in(rt, output, running)? {
         Ok(sources) => sources,
@@ -241,7 +246,8 @@ fn follow_files<'a, R: AllocGlobal + Files + Wait, W: Write>(
     Ok(with_ending(told, running.explain, sources.faults, sources.operator))
 }
 
-// Lets a method on the input drive the simulated cell by what the run's files say. They are all read before any is judged.
+// Lets a method on the input drive the simulated cell by what the run's files say. They are all read before any is
+// judged.
 fn drive_files<'a, R: AllocGlobal + Files + Wait, I: Read + Drop, W: Write, E: Write>(
     rt: &R,
     input: I,
@@ -249,7 +255,8 @@ fn drive_files<'a, R: AllocGlobal + Files + Wait, I: Read + Drop, W: Write, E: W
     errors: &mut E,
     driving: Driving<'a>,
 ) -> Result<Result<u8, WriteFault>, Failure<'a>>
-    ensures { IfOk result (λ written. DrivesFiles driving.entry (I.remaining input) (W.contents output.old) (W.contents output.new) written) }
+    ensures { IfOk result (λ written. DrivesFiles driving.entry (I.remaining input) (W.contents output.old)
+        (W.contents output.new) written) }
 {
     let sources = match sources_in(rt, output, driving.running)? {
         Ok(sources) => sources,
@@ -280,7 +287,8 @@ fn audit<'a, R: AllocGlobal + Files, I: Read + Drop, W: Write>(
     output: &mut W,
     file: Option<&'a str>,
 ) -> Result<Result<u8, WriteFault>, Failure<'a>>
-    ensures { IfOk result (λ written. OfText file.entry (I.remaining input) (λ text. Audits text (W.contents output.old) (W.contents output.new) written)) }
+    ensures { IfOk result (λ written. OfText file.entry (I.remaining input)
+        (λ text. Audits text (W.contents output.old) (W.contents output.new) written)) }
 {
     let Some(path) = file else {
         return Ok(audit_lines(rt.alloc(), input, output));
@@ -298,7 +306,8 @@ fn migrate<'a, R: AllocGlobal + Files, I: Read + Drop, W: Write, E: Write>(
     file: Option<&'a str>,
 ) -> Result<Result<u8, WriteFault>, Failure<'a>>
     ensures { IfOk result (λ written. OfText file.entry (I.remaining input)
-        (λ text. MigratesText text (W.contents output.old) (W.contents output.new) (E.contents errors.old) (E.contents errors.new) written)) }
+        (λ text. MigratesText text (W.contents output.old) (W.contents output.new) (E.contents errors.old)
+        (E.contents errors.new) written)) }
 {
     let Some(path) = file else {
         return Ok(migrate_lines(rt.alloc(), input, output, errors));
@@ -321,8 +330,8 @@ fn check<'a, R: AllocGlobal + Files, W: Write>(
     }
 }
 
-/// Does what an order says: reads the input or the files that it names, and writes to the output and the errors. What is written
-/// isn't written out yet, and the end of a run isn't explained yet.
+/// Does what an order says: reads the input or the files that it names, and writes to the output and the errors. What
+/// is written isn't written out yet, and the end of a run isn't explained yet.
 pub(crate) fn carry_out<
     'a,
     R: AllocGlobal + Files + Threads + Wait + Sync,
@@ -337,7 +346,8 @@ pub(crate) fn carry_out<
     progress: bool,
     order: Order<'a>,
 ) -> Result<Carried, Failure<'a>>
-    ensures { IfOk result (λ c. CarriesOut order.entry (I.remaining input) (W.contents output.old) (W.contents output.new) (E.contents errors.old) (E.contents errors.new) c.written) }
+    ensures { IfOk result (λ c. CarriesOut order.entry (I.remaining input) (W.contents output.old)
+        (W.contents output.new) (E.contents errors.old) (E.contents errors.new) c.written) }
 {
     match order {
         Order::Audit(file) => Ok(without_ending(audit(rt, input, output, file)?)),

@@ -51,8 +51,8 @@ fn show_with<I: Read + Drop, W: Write>(
     }
 }
 
-// Shows so many entries of a journal's text, or all of them. An entry that isn't there, or a page of too many, is told among
-// the errors.
+// Shows so many entries of a journal's text, or all of them. An entry that isn't there, or a page of too many, is told
+// among the errors.
 fn show_entries<I: Read + Drop, W: Write, E: Write>(
     alloc: Global,
     input: I,
@@ -62,7 +62,9 @@ fn show_entries<I: Read + Drop, W: Write, E: Write>(
     entry: Option<u32>,
     other: Option<&[u8]>,
 ) -> io::Result<Result<u8, WriteFault>>
-    ensures { IfOk result (λ written. IfOk written (Shows entry (I.remaining input) (W.contents output.old) (W.contents output.new) (E.contents errors.old) (E.contents errors.new))) }
+    ensures { IfOk result (λ written. IfOk written
+        (Shows entry (I.remaining input) (W.contents output.old) (W.contents output.new) (E.contents errors.old)
+        (E.contents errors.new))) }
 {
     match show_with(alloc, input, output, form, entry, other) {
         Ok(status) => Ok(Ok(status)),
@@ -81,7 +83,9 @@ fn show_beyond<I: Read + Drop, E: Write>(
     errors: &mut E,
     form: Form,
 ) -> io::Result<Result<u8, WriteFault>>
-    ensures { (n : ℕ) (old : Option (List ℕ)) → 2 ^ 32 ≤ n → IfOk result (λ written. IfOk written (Shows (Some n) (I.remaining input) old old (E.contents errors.old) (E.contents errors.new))) }
+    ensures { (n : ℕ) (old : Option (List ℕ)) → 2 ^ 32 ≤ n
+        → IfOk result (λ written. IfOk written (Shows (Some n) (I.remaining input) old old (E.contents errors.old)
+        (E.contents errors.new))) }
 {
     let error = match show_journal(alloc, input, form, Some(u32::MAX), &mut io::sink()) {
         Ok(status) if status > status::REFUSED => return Ok(Ok(status)),
@@ -104,7 +108,10 @@ fn show_count<I: Read + Drop, W: Write, E: Write>(
     count: Option<Count>,
     other: Option<&[u8]>,
 ) -> io::Result<Result<u8, WriteFault>>
-    ensures { (entry : Option ℕ) → IsAsked count entry → IfOk result (λ written. IfOk written (Shows entry (I.remaining input) (W.contents output.old) (W.contents output.new) (E.contents errors.old) (E.contents errors.new))) }
+    ensures { (entry : Option ℕ) → IsAsked count entry
+        → IfOk result (λ written. IfOk written
+        (Shows entry (I.remaining input) (W.contents output.old) (W.contents output.new) (E.contents errors.old)
+        (E.contents errors.new))) }
 {
     match count {
         None => show_entries(alloc, input, output, errors, form, None, other),
@@ -126,8 +133,8 @@ fn other_in<'a, R: AllocGlobal + Files>(
     }
 }
 
-// Shows so many entries of the journal in a file, or of that on the input where no file is named, beside that in another file
-// where such a one is named.
+// Shows so many entries of the journal in a file, or of that on the input where no file is named, beside that in
+// another file where such a one is named.
 fn show_text<'a, R: AllocGlobal + Files, I: Read + Drop, W: Write, E: Write>(
     rt: &R,
     input: I,
@@ -137,8 +144,10 @@ fn show_text<'a, R: AllocGlobal + Files, I: Read + Drop, W: Write, E: Write>(
     count: Option<Count>,
     showing: Showing<'a>,
 ) -> Result<Result<u8, WriteFault>, Failure<'a>>
-    ensures { (entry : Option ℕ) → IsAsked count entry → IfOk result (λ written. IfOk written (λ status. OfText showing.entry.file (I.remaining input)
-        (λ text. Shows entry text (W.contents output.old) (W.contents output.new) (E.contents errors.old) (E.contents errors.new) status))) }
+    ensures { (entry : Option ℕ) → IsAsked count entry
+        → IfOk result (λ written. IfOk written (λ status. OfText showing.entry.file (I.remaining input)
+        (λ text. Shows entry text (W.contents output.old) (W.contents output.new) (E.contents errors.old)
+        (E.contents errors.new) status))) }
 {
     let alloc = rt.alloc();
     let found = other_in(rt, showing.beside)?;
@@ -159,8 +168,8 @@ enum Timed {
     Loose,
 }
 
-// The form with the durations of a file, where one is named: a picture is then a chart, and a page has one. They go with no
-// other form.
+// The form with the durations of a file, where one is named: a picture is then a chart, and a page has one. They go
+// with no other form.
 fn timed_form<'a, R: AllocGlobal + Files>(
     rt: &R,
     form: Form,
@@ -192,7 +201,8 @@ fn show_entry<'a, R: AllocGlobal + Files, I: Read + Drop, W: Write, E: Write>(
     form: Form,
     showing: Showing<'a>,
 ) -> Result<Result<u8, WriteFault>, Failure<'a>>
-    ensures { IfOk result (λ written. IfOk written (ShowsEntry showing.entry (I.remaining input) (W.contents output.old) (W.contents output.new) (E.contents errors.old) (E.contents errors.new))) }
+    ensures { IfOk result (λ written. IfOk written (ShowsEntry showing.entry (I.remaining input) (W.contents output.old)
+        (W.contents output.new) (E.contents errors.old) (E.contents errors.new))) }
 {
     let Some(word) = showing.entry else {
         return show_text(rt, input, output, errors, form, None, showing);
@@ -223,7 +233,8 @@ pub(crate) fn show_words<'a, R: AllocGlobal + Files, I: Read + Drop, W: Write, E
     errors: &mut E,
     showing: Showing<'a>,
 ) -> Result<Result<u8, WriteFault>, Failure<'a>>
-    ensures { IfOk result (λ written. IfOk written (ShowsWords showing.entry (I.remaining input) (W.contents output.old) (W.contents output.new) (E.contents errors.old) (E.contents errors.new))) }
+    ensures { IfOk result (λ written. IfOk written (ShowsWords showing.entry (I.remaining input) (W.contents output.old)
+        (W.contents output.new) (E.contents errors.old) (E.contents errors.new))) }
 {
     let Some(form) = form_of(&showing) else {
         return Ok(wrong(

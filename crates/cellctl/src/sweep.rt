@@ -20,8 +20,8 @@ use std::sync::Wait;
 /// The greatest number of motions, which is that of the script of faults.
 const MOST_MOTIONS: u32 = 1_000_000;
 
-// The kinds of faults that a sweep goes through: those of a list, or all. Of a list that is wrong it gives the number of its first
-// word that is no kind.
+// The kinds of faults that a sweep goes through: those of a list, or all. Of a list that is wrong it gives the number
+// of its first word that is no kind.
 fn kinds_of(alloc: Global, list: Option<&str>) -> Result<Result<Vec<Fault>, u32>, AllocError>
     ensures known { IfOk result (λ read. IfOk read (λ kinds. AreKinds list.entry kinds.items)) }
     ensures wrong { IfOk result (λ read. IfErr read (HasNoKind list.entry)) }
@@ -55,7 +55,8 @@ fn sweep_files<'a, R: AllocGlobal + Files + Wait, W: Write, E: Write>(
     sweeping: Sweeping<'a>,
     sweep: Sweep<'_>,
 ) -> Result<Result<u8, WriteFault>, Failure<'a>>
-    ensures { IfOk result (λ written. SweepsSome (wanted sweep.entry.kinds.now sweep.entry.motions sweep.entry.service sweep.entry.csv) (W.contents output.old) (W.contents output.new) written) }
+    ensures { IfOk result (λ written. SweepsSome (wanted sweep.entry.kinds.now sweep.entry.motions sweep.entry.service
+        sweep.entry.csv) (W.contents output.old) (W.contents output.new) written) }
 {
     let settings = settings_in(rt, sweeping.settings)?;
     let operator = script_in(rt, sweeping.operator)?;
@@ -66,8 +67,8 @@ fn sweep_files<'a, R: AllocGlobal + Files + Wait, W: Write, E: Write>(
     Ok(sweep_texts(rt, settings.as_slice(), operator, sweep, output, errors))
 }
 
-/// Runs the simulated cell once for each fault that the words of the command line ask for. With `progress` the errors tell how many
-/// runs are done.
+/// Runs the simulated cell once for each fault that the words of the command line ask for. With `progress` the errors
+/// tell how many runs are done.
 pub(crate) fn sweep_words<'a, R: AllocGlobal + Files + Wait, W: Write, E: Write>(
     rt: &R,
     output: &mut W,
@@ -75,7 +76,8 @@ pub(crate) fn sweep_words<'a, R: AllocGlobal + Files + Wait, W: Write, E: Write>
     sweeping: Sweeping<'a>,
     progress: bool,
 ) -> Result<Result<u8, WriteFault>, Failure<'a>>
-    ensures { IfOk result (SweepsFiles sweeping.entry (W.contents output.old) (W.contents output.new) (E.contents errors.old) (E.contents errors.new)) }
+    ensures { IfOk result (SweepsFiles sweeping.entry (W.contents output.old) (W.contents output.new)
+        (E.contents errors.old) (E.contents errors.new)) }
 {
     let kinds = match kinds_of(rt.alloc(), sweeping.kinds)? {
         Ok(kinds) => kinds,

@@ -87,7 +87,8 @@ pub(crate) fn tell_too_long<W: Write>(output: &mut W) -> Result<u8, WriteFault>
     Ok(status::REFUSED)
 }
 
-// Writes the line of an explanation of a record that is longer than was read, of which it says that in place of all else.
+// Writes the line of an explanation of a record that is longer than was read, of which it says that in place of all
+// else.
 fn tell_cut<W: Write>(
     output: &mut W,
     said: &[u8],
@@ -197,14 +198,15 @@ fn as_audited(due: u8, explained: Result<u8, WriteFault>) -> Result<u8, WriteFau
     }
 }
 
-/// Explains the journal on the input. The part that was read is judged again as it is explained, with the same answer unless
-/// memory is refused.
+/// Explains the journal on the input. The part that was read is judged again as it is explained, with the same answer
+/// unless memory is refused.
 pub(crate) fn explain_input<I: Read + Drop, W: Write>(
     alloc: Global,
     input: I,
     output: &mut W,
 ) -> io::Result<Result<u8, WriteFault>>
-    ensures { IfOk result (λ written. IfOk written (λ status. IfSome (I.remaining input) (λ text. EndsAsAudit text status))) }
+    ensures { IfOk result (λ written. IfOk written
+        (λ status. IfSome (I.remaining input) (λ text. EndsAsAudit text status))) }
 {
     let read = journal_text(alloc, input)?;
     let due = audited(&read);

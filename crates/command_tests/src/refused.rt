@@ -1,5 +1,5 @@
-//! The words of the command line where any allocation may be refused (docs/HOSTILE.md). The tests take no memory but the
-//! call's.
+//! The words of the command line where any allocation may be refused (docs/HOSTILE.md). The tests take no memory but
+//! the call's.
 use cell_command::{Order, Paths, Running};
 use clap::error::ErrorKind;
 use std::process::Abort;

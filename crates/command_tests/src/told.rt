@@ -109,64 +109,66 @@ fn tells_errors_of_the_system(rt: HostRuntime) -> Result<(), Fail> {
 
 #[test]
 fn tells_what_failed(rt: HostRuntime) -> Result<(), Fail> {
-    let full = io::Error::from(ErrorKind::StorageFull);
-    let shut = io::Error::from_raw_os_error(9);
-    check(
-        &rt,
-        &Place::Output,
-        Some(full),
-        "cellctl: standard output: no space left\n",
-    )?;
-    check(
-        &rt,
-        &Place::Output,
-        Some(shut),
-        "cellctl: standard output: not open for writing\n",
-    )?;
-    check(
-        &rt,
-        &Place::Input,
-        Some(shut),
-        "cellctl: standard input: not open for reading\n",
-    )?;
-    check(
-        &rt,
-        &Place::Errors,
-        Some(full),
-        "cellctl: standard error: no space left\n",
-    )?;
-    check(
-        &rt,
-        &Place::Threads,
-        None,
-        "cellctl: run: no thread could be started\n",
-    )?;
-    check(
-        &rt,
-        &Place::Output,
-        None,
-        "cellctl: standard output: can't be written\n",
-    )?;
-    check(
-        &rt,
-        &Place::Input,
-        None,
-        "cellctl: standard input: can't be read\n",
-    )?;
-    let other = io::Error::other("of the program's own");
-    check(
-        &rt,
-        &Place::Input,
-        Some(other),
-        "cellctl: standard input: can't be read\n",
-    )?;
+    let full = Some(io::Error::from(ErrorKind::StorageFull));
     let named = Place::File("\u{1b}[31m");
-    check(
-        &rt,
-        &named,
-        Some(full),
-        "cellctl: \\u001B[31m: no space left\n",
-    )?;
+    let cases = [
+        (
+            Place::Output,
+            full,
+            "cellctl: standard output: no space left\n",
+        ),
+        (
+            Place::Errors,
+            full,
+            "cellctl: standard error: no space left\n",
+        ),
+        (
+            Place::Threads,
+            None,
+            "cellctl: run: no thread could be started\n",
+        ),
+        (
+            Place::Output,
+            None,
+            "cellctl: standard output: can't be written\n",
+        ),
+        (
+            Place::Input,
+            None,
+            "cellctl: standard input: can't be read\n",
+        ),
+        (named, full, "cellctl: \\u001B[31m: no space left\n"),
+    ];
+    for (place, error, due) in cases {
+        check(&rt, &place, error, due)?;
+    }
+    Ok(())
+}
+
+#[test]
+fn tells_how_a_stream_is_shut(rt: HostRuntime) -> Result<(), Fail> {
+    let shut = Some(io::Error::from_raw_os_error(9));
+    let other = Some(io::Error::other("of the program's own"));
+    let cases = [
+        (
+            Place::Output,
+            shut,
+            "cellctl: standard output: not open for writing\n",
+        ),
+        (
+            Place::Input,
+            shut,
+            "cellctl: standard input: not open for reading\n",
+        ),
+        (
+            Place::Input,
+            other,
+            "cellctl: standard input: can't be read\n",
+        ),
+    ];
+    for (place, error, due) in cases {
+        check(&rt, &place, error, due)?;
+    }
     Ok(())
 }
 

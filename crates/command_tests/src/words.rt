@@ -4,8 +4,8 @@ use std::alloc::{AllocError, Global};
 use std::process::Abort;
 use std::test::Fail;
 
-// A case: the words of the command line, parted by blanks, and after the bar the order as which they are read, or clap's kind
-// of error.
+// A case: the words of the command line, parted by blanks, and after the bar the order as which they are read, or
+// clap's kind of error.
 
 const ORDERS: [&str; 7] = [
     "cellctl audit|Audit(None)",
@@ -60,42 +60,57 @@ const RUNS: [&str; 10] = [
         paths: Paths { settings: \"cell.toml\", faults: \"none.faults\", operator: \"none.operator\" } })",
     "cellctl sim cell.toml none.faults none.operator|Sim(Running { journal: false, explain: false, times: None, \
         paths: Paths { settings: \"cell.toml\", faults: \"none.faults\", operator: \"none.operator\" } })",
-    "cellctl sim cell.toml none.faults none.operator --journal|Sim(Running { journal: true, explain: false, times: None, \
+    "cellctl sim cell.toml none.faults none.operator --journal|Sim(Running { journal: true, explain: false, times: \
+        None, \
         paths: Paths { settings: \"cell.toml\", faults: \"none.faults\", operator: \"none.operator\" } })",
     "cellctl sim --follow run.journal --journal cell.toml none.faults none.operator|\
         Follow(\"run.journal\", Running { journal: true, explain: false, times: None, \
         paths: Paths { settings: \"cell.toml\", faults: \"none.faults\", operator: \"none.operator\" } })",
-    "cellctl sim --measures cell.toml none.faults none.operator|SimMeasured(Running { journal: false, explain: false, times: None, \
+    "cellctl sim --measures cell.toml none.faults none.operator|SimMeasured(Running { journal: false, explain: false, \
+        times: None, \
         paths: Paths { settings: \"cell.toml\", faults: \"none.faults\", operator: \"none.operator\" } })",
     "cellctl sim --measures --follow run.journal cell.toml none.faults none.operator|\
         Follow(\"run.journal\", Running { journal: false, explain: false, times: None, \
         paths: Paths { settings: \"cell.toml\", faults: \"none.faults\", operator: \"none.operator\" } })",
     "cellctl drive cell.toml none.faults none.operator|Drive(Driving { raw: false, running: Running { journal: false, \
-        explain: false, times: None, paths: Paths { settings: \"cell.toml\", faults: \"none.faults\", operator: \"none.operator\" } } })",
+        explain: false, times: None, paths: Paths { settings: \"cell.toml\", faults: \"none.faults\", \
+        operator: \"none.operator\" } } })",
     "cellctl drive --raw --explain cell.toml none.faults none.operator|\
         Drive(Driving { raw: true, running: Running { journal: false, \
-        explain: true, times: None, paths: Paths { settings: \"cell.toml\", faults: \"none.faults\", operator: \"none.operator\" } } })",
-    "cellctl run --explain cell.toml none.faults none.operator|Run(Running { journal: false, explain: true, times: None, \
+        explain: true, times: None, paths: Paths { settings: \"cell.toml\", faults: \"none.faults\", \
+        operator: \"none.operator\" } } })",
+    "cellctl run --explain cell.toml none.faults none.operator|Run(Running { journal: false, explain: true, times: \
+        None, \
         paths: Paths { settings: \"cell.toml\", faults: \"none.faults\", operator: \"none.operator\" } })",
-    "cellctl run --measures cell.toml none.faults none.operator|RunMeasured(Running { journal: false, explain: false, times: None, \
+    "cellctl run --measures cell.toml none.faults none.operator|RunMeasured(Running { journal: false, explain: false, \
+        times: None, \
         paths: Paths { settings: \"cell.toml\", faults: \"none.faults\", operator: \"none.operator\" } })",
 ];
 
 const SHOWN: [&str; 9] = [
     "cellctl show --svg --times a.toml|\
-        Show(Showing { svg: true, html: false, unicode: false, times: Some(\"a.toml\"), beside: None, file: None, entry: None })",
+        Show(Showing { svg: true, html: false, unicode: false, times: Some(\"a.toml\"), beside: None, file: None, \
+        entry: None })",
     "cellctl show --html --beside b.journal --file a.journal|\
-        Show(Showing { svg: false, html: true, unicode: false, times: None, beside: Some(\"b.journal\"), file: Some(\"a.journal\"), entry: None })",
-    "cellctl show --svg 20|Show(Showing { svg: true, html: false, unicode: false, times: None, beside: None, file: None, entry: Some(\"20\") })",
-    "cellctl show|Show(Showing { svg: false, html: false, unicode: false, times: None, beside: None, file: None, entry: None })",
+        Show(Showing { svg: false, html: true, unicode: false, times: None, beside: Some(\"b.journal\"), file: \
+        Some(\"a.journal\"), entry: None })",
+    "cellctl show --svg 20|Show(Showing { svg: true, html: false, unicode: false, times: None, beside: None, file: \
+        None, entry: Some(\"20\") })",
+    "cellctl show|Show(Showing { svg: false, html: false, unicode: false, times: None, beside: None, file: None, \
+        entry: None })",
     "cellctl show whole.journal|\
-        Show(Showing { svg: false, html: false, unicode: false, times: None, beside: None, file: None, entry: Some(\"whole.journal\") })",
+        Show(Showing { svg: false, html: false, unicode: false, times: None, beside: None, file: None, entry: \
+        Some(\"whole.journal\") })",
     "cellctl show --file whole.journal|\
-        Show(Showing { svg: false, html: false, unicode: false, times: None, beside: None, file: Some(\"whole.journal\"), entry: None })",
-    "cellctl show --html --file=20|Show(Showing { svg: false, html: true, unicode: false, times: None, beside: None, file: Some(\"20\"), entry: None })",
-    "cellctl show -f 20 30|Show(Showing { svg: false, html: false, unicode: false, times: None, beside: None, file: Some(\"20\"), entry: Some(\"30\") })",
+        Show(Showing { svg: false, html: false, unicode: false, times: None, beside: None, file: \
+        Some(\"whole.journal\"), entry: None })",
+    "cellctl show --html --file=20|Show(Showing { svg: false, html: true, unicode: false, times: None, beside: None, \
+        file: Some(\"20\"), entry: None })",
+    "cellctl show -f 20 30|Show(Showing { svg: false, html: false, unicode: false, times: None, beside: None, file: \
+        Some(\"20\"), entry: Some(\"30\") })",
     "cellctl show --unicode 30 -f20|\
-        Show(Showing { svg: false, html: false, unicode: true, times: None, beside: None, file: Some(\"20\"), entry: Some(\"30\") })",
+        Show(Showing { svg: false, html: false, unicode: true, times: None, beside: None, file: Some(\"20\"), entry: \
+        Some(\"30\") })",
 ];
 
 const EXPLAINED: [&str; 5] = [
@@ -122,9 +137,11 @@ const MEASURED: [&str; 4] = [
 const EXPLORED: [&str; 4] = [
     "cellctl explore 1|Explore(Exploring { failing: [], repairs: false, limit: None, journal: false, plates: \"1\" })",
     "cellctl explore --fail press2 --repair --limit 100 --journal 2 --fail=robot|\
-        Explore(Exploring { failing: [\"press2\", \"robot\"], repairs: true, limit: Some(\"100\"), journal: true, plates: \"2\" })",
+        Explore(Exploring { failing: [\"press2\", \"robot\"], repairs: true, limit: Some(\"100\"), journal: true, \
+        plates: \"2\" })",
     "cellctl explore --fail brew --fail brew --limit=none 16|\
-        Explore(Exploring { failing: [\"brew\", \"brew\"], repairs: false, limit: Some(\"none\"), journal: false, plates: \"16\" })",
+        Explore(Exploring { failing: [\"brew\", \"brew\"], repairs: false, limit: Some(\"none\"), journal: false, \
+        plates: \"16\" })",
     "cellctl explore -- -1|\
         Explore(Exploring { failing: [], repairs: false, limit: None, journal: false, plates: \"-1\" })",
 ];

@@ -1,4 +1,5 @@
-//! The watches beside the plain program, on all sequences of a few readings. Bits that belong to nothing are set in them.
+//! The watches beside the plain program, on all sequences of a few readings. Bits that belong to nothing are set in
+//! them.
 use crate::plain::{LEAVE, LIMIT, Noted, PlainMotion, plain_rest, plain_verdict, shown};
 use cell_diagnosis::{AxisWatch, Expect, Limits, Motion, Reading, RestWatch};
 use cell_types::{Axis, Machine, Pose};

@@ -11,7 +11,8 @@ const ONE_PLATE: [&str; 3] = ["plates = 1\n", "", ""];
 #[test]
 fn each_line_gets_its_answer(rt: HostRuntime) -> Result<(), Fail> {
     let lines = b"lamp,feed,green,\nlamp,feed,green,\n\nbogus\nstop_asked,press1,,\na,b,c,d,e\n\
-\"lamp\",deposit,green,\nlamp,deposit,green,123456789012345678901\nclaimed,press1,z3,\r\ndone,,,\nadmitted,1,,\nquit,,,";
+\"lamp\",deposit,green,\nlamp,deposit,green,123456789012345678901\nclaimed,press1,z3,\r\ndone,,,\nadmitted,1,,\nquit,,\
+,";
     let written = driven(&rt, ONE_PLATE, ENTRIES, lines.as_slice(), 1);
     let answers = "ok,1,,\nrefused,LampAlready,feed,\nunreadable,,,\nunreadable,,,\nunreadable,,,\n\
 unreadable,,,\nunreadable,,,\nok,2,,\n";
@@ -21,7 +22,8 @@ reading,press2,middle,\nreading,deposit,,\nround,2,,\nok,3,,\nend,quit,,\nadmitt
     begins(&rt, &written, &[OPENING, answers, next])
 }
 
-// The lines of a method that books the entries of a journal's text, and waits after each command to move and each green light.
+// The lines of a method that books the entries of a journal's text, and waits after each command to move and each green
+// light.
 fn patient<R: AllocGlobal>(rt: &R, journal: &[u8]) -> Result<Vec<u8>, Fail> {
     let mut lines = Vec::new(rt.alloc());
     for record in journal.split(|byte| *byte == b'\n').skip(1) {
@@ -66,7 +68,8 @@ fn what_is_booked_too_early_is_untrue(rt: HostRuntime) -> Result<(), Fail> {
         ..ENTRIES
     };
     let lines =
-        b"admitted,1,,\nlamp,feed,green,\nadmitted,1,,\nclaimed,table,z1,\nclaimed,table,z2,\nstarted,table_lift,high,\narrived,table_lift,high,\nquit,,,\n";
+        b"admitted,1,,\nlamp,feed,green,\nadmitted,1,,\nclaimed,table,z1,\nclaimed,table,z2,\nstarted,table_lift,\
+            high,\narrived,table_lift,high,\nquit,,,\n";
     let written = driven(&rt, ONE_PLATE, driving, lines.as_slice(), 1);
     let text = written.output.as_slice();
     assert!(rt; has_line(text, "refused LampRed 1") && has_line(text, "untrue 2"));

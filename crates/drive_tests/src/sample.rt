@@ -40,8 +40,8 @@ pub(crate) struct Written {
     pub(crate) errors: Vec<u8>,
 }
 
-/// What is written where a method writes these lines, by the settings, the faults and the operator's script. The run has to end with
-/// this status.
+/// What is written where a method writes these lines, by the settings, the faults and the operator's script. The run
+/// has to end with this status.
 pub(crate) fn driven<R: AllocGlobal + Abort + Wait>(
     rt: &R,
     [settings, faults, operator]: [&str; 3],

@@ -134,7 +134,8 @@ failed,table,repair,table
 const TABLE_WAITS: &str = "\
 3 plates weren't admitted
 the table is failed since entry 5: the operator asked for the stop
-plate 1 is at the feed belt's end; next is \"feed belt: starts to go to the table\", but the table, the owner, is booked failed
+plate 1 is at the feed belt's end; next is \"feed belt: starts to go to the table\", but the table, the owner, is \
+booked failed
 record 2 of the operator's script isn't done: it waits for a plate at the table, and none is there
 ";
 

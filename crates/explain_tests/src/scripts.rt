@@ -9,11 +9,13 @@ const GOOD_FAULTS: [(&str, &str); 2] = [
 const BAD_FAULTS: [(&str, &str); 4] = [
     (
         "press_two,1,slow,30\n\npress_two,2,slow,1001\n",
-        "line 3, record 2: press_two,2,slow,1001: field 4: a number from 1 to 1000, in digits alone, with no 0 in front\n",
+        "line 3, record 2: press_two,2,slow,1001: field 4: a number from 1 to 1000, in digits alone, with no 0 in \
+            front\n",
     ),
     (
         "press_two,0,both,\n",
-        "line 1, record 1: press_two,0,both,: field 2: a number from 1 to 1000000, in digits alone, with no 0 in front\n",
+        "line 1, record 1: press_two,0,both,: field 2: a number from 1 to 1000000, in digits alone, with no 0 in \
+            front\n",
     ),
     (
         "press_two,1,both,2\n",
@@ -41,11 +43,13 @@ const BAD_OPERATOR: [(&str, &str); 4] = [
     ),
     (
         "admitted,01,stop,press1\n",
-        "line 1, record 1: admitted,01,stop,press1: field 2: a number from 0 to 100000, in digits alone, with no 0 in front\n",
+        "line 1, record 1: admitted,01,stop,press1: field 2: a number from 0 to 100000, in digits alone, with no 0 in \
+            front\n",
     ),
     (
         "always,,clear,robot\n",
-        "line 1, record 1: always,,clear,robot: field 4: one of feed_in, feed_end, table, arm1, arm2, press1, press2, dep_in, dep_end\n",
+        "line 1, record 1: always,,clear,robot: field 4: one of feed_in, feed_end, table, arm1, arm2, press1, press2, \
+            dep_in, dep_end\n",
     ),
 ];
 

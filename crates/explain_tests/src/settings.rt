@@ -6,15 +6,18 @@ const GOOD: [(&str, &str); 1] = [("plates = 5\n", "settings ok\n")];
 const BAD: [(&str, &str); 7] = [
     (
         "plates = 5\n\n[watch.press_one]\nlimit = 2000\n",
-        "settings OutOfRange watch.press_one.limit\nline 4: watch.press_one.limit: a whole number above leave, to 1000; 20 where none is given\n",
+        "settings OutOfRange watch.press_one.limit\nline 4: watch.press_one.limit: a whole number above leave, to \
+            1000; 20 where none is given\n",
     ),
     (
         "plates = 5\nwatch.table_turn.leave = 30\n",
-        "settings OutOfRange watch.table_turn.limit\nwatch.table_turn.limit: a whole number above leave, to 1000; 20 where none is given\n",
+        "settings OutOfRange watch.table_turn.limit\nwatch.table_turn.limit: a whole number above leave, to 1000; 20 \
+            where none is given\n",
     ),
     (
         "plates = 5\n\"watch.press_one.limit\" = 1\n",
-        "settings UnknownKey watch.press_one.limit\nwatch.press_one.limit: in quotes this is one key, which settings don't have: it is written without quotes\n",
+        "settings UnknownKey watch.press_one.limit\nwatch.press_one.limit: in quotes this is one key, which settings \
+            don't have: it is written without quotes\n",
     ),
     (
         "turns = 5\n",
@@ -22,7 +25,8 @@ const BAD: [(&str, &str); 7] = [
     ),
     (
         "plates = 5\nwatch.press_on.leave = 3\n",
-        "settings UnknownKey watch.press_on\nline 2: watch.press_on: no such axis, but feed_belt, table_lift, table_turn, robot_turn, arm_one, arm_two, press_one, press_two and deposit_belt\n",
+        "settings UnknownKey watch.press_on\nline 2: watch.press_on: no such axis, but feed_belt, table_lift, \
+            table_turn, robot_turn, arm_one, arm_two, press_one, press_two and deposit_belt\n",
     ),
     (
         "# few\nplats = 5\n",
@@ -42,7 +46,8 @@ const SHOWN: [(&str, &str); 4] = [
     ),
     (
         "plates = 5\n\"\\t\\u0007\\u007F\" = 1\n",
-        "settings UnknownKey \\u0009\\u0007\\u007F\n\\u0009\\u0007\\u007F: no such key, but plates, journal_limit, turns and watch\n",
+        "settings UnknownKey \\u0009\\u0007\\u007F\n\\u0009\\u0007\\u007F: no such key, but plates, journal_limit, \
+            turns and watch\n",
     ),
     (
         "plates = 5\n\"caf\u{e9}\" = 1\n",

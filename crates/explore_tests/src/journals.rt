@@ -101,7 +101,9 @@ fn check_line(rt: &impl Abort, alloc: Global, is_wanted: bool, shown: &[u8], cle
 fn tells_how_far_it_is(rt: HostRuntime) {
     let line = b"looked at 20000 of 30000 states seen so far\r".as_slice();
     let twice =
-        b"looked at 20000 of 30000 states seen so far\rlooked at 20000 of 30000 states seen so far\r                                                            \r".as_slice();
+        b"looked at 20000 of 30000 states seen so far\rlooked at 20000 of 30000 states seen so \
+            far\r                                                            \r"
+            .as_slice();
     check_line(&rt, rt.alloc(), true, line, twice);
 }
 

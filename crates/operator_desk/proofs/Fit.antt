@@ -28,30 +28,43 @@ plate_short field some = number_short 100000 field some
 
 total_short : (field : List ℕ) → IsSome (total_of field) → IsShort field
 total_short field some =
-    either (IsShort field) (bytes_eq field (codes "0")) (Some 0) (plate_of field) (λ same s. word_short field (codes "0") (omega arith) same) (λ s. plate_short field s) some
+    either (IsShort field) (bytes_eq field (codes "0")) (Some 0) (plate_of field)
+    (λ same s. word_short field (codes "0") (omega arith) same) (λ s. plate_short field s) some
 
 empty_short : (field : List ℕ) → IsSome (if length field == 0 then Some trigger.Always else None) → IsShort field
 empty_short field some =
-    either (IsShort field) (length field == 0) (Some trigger.Always) None (λ none s. omega (arith, eqb-true (length field) 0 none)) (λ s. cc s) some
+    either (IsShort field) (length field == 0) (Some trigger.Always) None
+    (λ none s. omega (arith, eqb-true (length field) 0 none)) (λ s. cc s) some
 
 trigger_short : (word bound : List ℕ) → IsSome (trigger_of word bound) → AreShort word bound
 unfolding trigger_of
 trigger_short word bound some =
     let P = AreShort word bound in
-    either P (bytes_eq word (codes "always")) _ _ (λ same s. (word_short word (codes "always") (omega arith) same, empty_short bound s)) (λ s.
-    either P (bytes_eq word (codes "admitted")) _ _ (λ same s. (word_short word (codes "admitted") (omega arith) same, total_short bound (mapped _ _ s))) (λ s.
-    either P (bytes_eq word (codes "delivered")) _ _ (λ same s. (word_short word (codes "delivered") (omega arith) same, total_short bound (mapped _ _ s))) (λ s.
-    either P (bytes_eq word (codes "quarantined")) _ _ (λ same s. (word_short word (codes "quarantined") (omega arith) same, total_short bound (mapped _ _ s))) (λ s.
-    either P (bytes_eq word (codes "failed")) _ _ (λ same s. (word_short word (codes "failed") (omega arith) same, machine_short bound (mapped _ _ s))) (λ s. cc s) s) s) s) s) some
+    either P (bytes_eq word (codes "always")) _ _
+    (λ same s. (word_short word (codes "always") (omega arith) same, empty_short bound s)) (λ s.
+    either P (bytes_eq word (codes "admitted")) _ _
+    (λ same s. (word_short word (codes "admitted") (omega arith) same, total_short bound (mapped _ _ s))) (λ s.
+    either P (bytes_eq word (codes "delivered")) _ _
+    (λ same s. (word_short word (codes "delivered") (omega arith) same, total_short bound (mapped _ _ s))) (λ s.
+    either P (bytes_eq word (codes "quarantined")) _ _
+    (λ same s. (word_short word (codes "quarantined") (omega arith) same, total_short bound (mapped _ _ s))) (λ s.
+    either P (bytes_eq word (codes "failed")) _ _
+    (λ same s. (word_short word (codes "failed") (omega arith) same, machine_short bound (mapped _ _ s)))
+    (λ s. cc s) s) s) s) s) some
 
 task_short : (word argument : List ℕ) → IsSome (task_of word argument) → AreShort word argument
 unfolding task_of
 task_short word argument some =
     let P = AreShort word argument in
-    either P (bytes_eq word (codes "stop")) _ _ (λ same s. (word_short word (codes "stop") (omega arith) same, machine_short argument (mapped _ _ s))) (λ s.
-    either P (bytes_eq word (codes "clear")) _ _ (λ same s. (word_short word (codes "clear") (omega arith) same, station_short argument (mapped _ _ s))) (λ s.
-    either P (bytes_eq word (codes "repair")) _ _ (λ same s. (word_short word (codes "repair") (omega arith) same, machine_short argument (mapped _ _ s))) (λ s.
-    either P (bytes_eq word (codes "expect")) _ _ (λ same s. (word_short word (codes "expect") (omega arith) same, plate_short argument (mapped _ _ s))) (λ s. cc s) s) s) s) some
+    either P (bytes_eq word (codes "stop")) _ _
+    (λ same s. (word_short word (codes "stop") (omega arith) same, machine_short argument (mapped _ _ s))) (λ s.
+    either P (bytes_eq word (codes "clear")) _ _
+    (λ same s. (word_short word (codes "clear") (omega arith) same, station_short argument (mapped _ _ s))) (λ s.
+    either P (bytes_eq word (codes "repair")) _ _
+    (λ same s. (word_short word (codes "repair") (omega arith) same, machine_short argument (mapped _ _ s))) (λ s.
+    either P (bytes_eq word (codes "expect")) _ _
+    (λ same s. (word_short word (codes "expect") (omega arith) same, plate_short argument (mapped _ _ s)))
+    (λ s. cc s) s) s) s) some
 
 both_some : (t : Option Trigger) (a : Option Task) → IsSome (both t a) → IsSome t × IsSome a
 both_some None a s = cc s

@@ -42,7 +42,8 @@ if_allowed h a = if allowed h.limits h.entries (entry_of a) then Some a else Non
 
 -- the action of a line, where its trigger holds and the action's entry is allowed
 unfoldable pub action_now : History → Line → Option Action
-action_now h line = if holds h.entries line.when then option_and_then (if_allowed h) (action_of h.entries line.task) else None
+action_now h line = if holds h.entries line.when then option_and_then (if_allowed h) (action_of h.entries line.task)
+    else None
 
 -- what is done next: the action of the first of the lines that aren't done yet
 abbrev pub next_of : List Line → History → Option Action

@@ -1,5 +1,5 @@
-//! The operator's script: which machine is to be stopped or repaired, which station cleared and which plate laid back, and
-//! when; and what the operator does next.
+//! The operator's script: which machine is to be stopped or repaired, which station cleared and which plate laid back,
+//! and when; and what the operator does next.
 #![tactic(auto)]
 
 mod action;

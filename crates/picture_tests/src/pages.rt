@@ -10,13 +10,24 @@ use std::alloc::Global;
 use std::io::Write;
 use std::process::Abort;
 
-// The rows of the first entries of the journal of one plate: it is laid in, and the feed belt carries it to its end.
-const ROWS: &str =
-    r##"[[0,0,0,0,0,0,0,0,0],"000000000","adfhnnppa","---------","-----","000000","000000","rr",0,0,[0,0,0,0,0,0],-1,"",""],
-[[0,0,0,0,0,0,0,0,0],"000000000","adfhnnppa","---------","-----","000000","000000","gr",0,0,[1,0,0,0,0,0],0,"lamp,feed,green,","feed belt: its light turns green"],
-[[1,0,0,0,0,0,0,0,0],"000000000","adfhnnppa","---------","-----","000000","000000","rr",0,0,[2,1,0,0,0,0],0,"admitted,1,,","feed belt: plate 1 is admitted"],
-[[1,0,0,0,0,0,0,0,0],"000000000","adfhnnppa","b--------","-----","000000","000000","rr",0,0,[3,1,0,0,0,0],0,"started,feed_belt,to_end,","feed belt: starts to go to its end"],
-[[0,1,0,0,0,0,0,0,0],"000000000","adfhnnppa","---------","-----","000000","000000","rr",0,0,[4,1,0,0,0,0],0,"conveyed,feed_belt,1,feed_end","feed belt: brings plate 1 to the feed belt's end"]"##;
+// The rows of the first entries of the journal of one plate, in pieces: it is laid in, and the feed belt carries it to
+// its end.
+const ROWS: [&str; 14] = [
+    r#"[[0,0,0,0,0,0,0,0,0],"000000000","adfhnnppa","---------","-----","000000","000000","rr",0,0,"#,
+    r#"[0,0,0,0,0,0],-1,"",""],"#,
+    "\n",
+    r#"[[0,0,0,0,0,0,0,0,0],"000000000","adfhnnppa","---------","-----","000000","000000","gr",0,0,"#,
+    r#"[1,0,0,0,0,0],0,"lamp,feed,green,","feed belt: its light turns green"],"#,
+    "\n",
+    r#"[[1,0,0,0,0,0,0,0,0],"000000000","adfhnnppa","---------","-----","000000","000000","rr",0,0,"#,
+    r#"[2,1,0,0,0,0],0,"admitted,1,,","feed belt: plate 1 is admitted"],"#,
+    "\n",
+    r#"[[1,0,0,0,0,0,0,0,0],"000000000","adfhnnppa","b--------","-----","000000","000000","rr",0,0,"#,
+    r#"[3,1,0,0,0,0],0,"started,feed_belt,to_end,","feed belt: starts to go to its end"],"#,
+    "\n",
+    r#"[[0,1,0,0,0,0,0,0,0],"000000000","adfhnnppa","---------","-----","000000","000000","rr",0,0,"#,
+    r#"[4,1,0,0,0,0],0,"conveyed,feed_belt,1,feed_end","feed belt: brings plate 1 to the feed belt's end"]"#,
+];
 
 // Writes the page of the first four entries of the journal of one plate.
 fn write_first<W: Write>(
@@ -58,7 +69,13 @@ fn is_page(
     );
     let (_, rest) = text.split_once("\"rows\":[\n").unwrap_or(("", ""));
     let (rows, _) = rest.split_once("\n]}\n</script>\n").unwrap_or(("", ""));
-    assert!(rt; rows == ROWS, "{words}");
+    let mut left = rows;
+    for piece in ROWS {
+        let rest = left.strip_prefix(piece);
+        assert!(rt; rest.is_some(), "{words}: {piece}");
+        left = rest.unwrap_or("");
+    }
+    assert!(rt; left == "", "{words}");
     assert!(rt; text.contains(words), "{words}");
     assert!(rt; text.ends_with("</script>\n</body>\n</html>\n"), "{words}");
 }
@@ -111,7 +128,8 @@ const STEPS: [(Option<AuditError>, bool, &str); 9] = [
     (
         Some(AuditError::Refused(5, Refusal::WrongPose(Axis::RobotTurn))),
         false,
-        r##"[5,"WrongPose robot_turn: the robot's turn isn't where it has to be, moves, or has no such motion","axis-3",-1,"",""]"##,
+        "[5,\"WrongPose robot_turn: the robot's turn isn't where it has to be, moves, or has no such motion\",\
+         \"axis-3\",-1,\"\",\"\"]",
     ),
     (
         Some(AuditError::Refused(5, Refusal::NotHolder(Zone::Z4))),

@@ -190,7 +190,8 @@ fn shown_as(rt: &impl Abort, alloc: Global, form: Form, entry: Option<u32>) -> S
     String::from_utf8(written).ok().expect(rt, "text")
 }
 
-// A page with durations is the page without, and in it the chart of all entries with these, whatever entry is asked for.
+// A page with durations is the page without, and in it the chart of all entries with these, whatever entry is asked
+// for.
 #[test]
 fn a_page_has_a_chart_of_all_entries(rt: HostRuntime) {
     let mut durations = Durations::ONE;
@@ -227,7 +228,8 @@ fn a_page_has_the_record_that_is_not_booked(rt: HostRuntime) {
     let refused = page_of(&rt, rt.alloc(), REFUSED, 1);
     assert!(rt;
         refused.as_str().contains(
-            "\n\"refused\":[2,\"LampAlready feed: the feed light has that colour already\",\"lamp-0\",0,\"lamp,feed,green,\",\"feed belt: its light turns green\"],\n"
+            "\n\"refused\":[2,\"LampAlready feed: the feed light has that colour \
+                already\",\"lamp-0\",0,\"lamp,feed,green,\",\"feed belt: its light turns green\"],\n"
         )
     );
     let unreadable = page_of(&rt, rt.alloc(), UNREADABLE, 1);

@@ -1,5 +1,6 @@
 -- Where the plates of a legal journal may be
-use Rattle.std.proofs.Common.{◌≡◌, ◌≢◌, ℕ, ◌+◌, ◌≤◌, ◌<◌, Bool, true, false, ◌==◌, List, [], ◌∷◌, ◌++◌, Option, Some, None, refl, sym, ap, ◌∙◌, arith, ◌⊎◌, if◌then◌else◌}
+use Rattle.std.proofs.Common.{◌≡◌, ◌≢◌, ℕ, ◌+◌, ◌≤◌, ◌<◌, Bool, true, false, ◌==◌, List, [], ◌∷◌, ◌++◌, Option, Some}
+use Rattle.std.proofs.Common.{None, refl, sym, ap, ◌∙◌, arith, ◌⊎◌, if◌then◌else◌}
 use Rattle.std.specs.Prelude.{unwrap_or, nat_le}
 use Rattle.std.specs.Option.{option_and_then}
 use Rattle.std.specs.List.{count_by}
@@ -25,8 +26,11 @@ pub full_not : (n m : ℕ) → nat_le n m ≡ false → m < n
 full_not n m h = grind (arith, nat_tests)
 
 -- no more plates are admitted than the limit says
-limit_step : (l : BookLimits) (J : List Entry) (e : Entry) → count_by is_admitted J ≤ l.plates → first l (situation_of J) e ≡ None → (if is_admitted e then count_by is_admitted J + 1 else count_by is_admitted J) ≤ l.plates
-limit_step l J (Admitted k) n h = let p : count_by is_admitted J < l.plates = full_not _ _ (none_refused (tests l (situation_of J) (Admitted k)) h).1.0 in omega arith
+limit_step : (l : BookLimits) (J : List Entry) (e : Entry) → count_by is_admitted J ≤ l.plates
+    → first l (situation_of J) e ≡ None → (if is_admitted e then count_by is_admitted J + 1 else count_by is_admitted J)
+    ≤ l.plates
+limit_step l J (Admitted k) n h = let p : count_by is_admitted J < l.plates =
+    full_not _ _ (none_refused (tests l (situation_of J) (Admitted k)) h).1.0 in omega arith
 limit_step l J _ n h = n
 
 pub admitted_law : (l : BookLimits) (J : List Entry) → legal l J ≡ true → count_by is_admitted J ≤ l.plates
@@ -37,7 +41,8 @@ admitted_law l = along l (λ J. count_by is_admitted J ≤ l.plates) (omega arit
 split : (k n : ℕ) → ((k ≡ 0) ⊎ (n + 1 ≤ k) → ⊥) → (1 ≤ k) × (k ≤ n)
 split k n h = grind arith
 
-pub somewhere_small : (l : BookLimits) (J : List Entry) (k : ℕ) → legal l J ≡ true → place_of J k ≢ Place.Nowhere → (1 ≤ k) × (k ≤ l.plates)
+pub somewhere_small : (l : BookLimits) (J : List Entry) (k : ℕ) → legal l J ≡ true → place_of J k ≢ Place.Nowhere
+    → (1 ≤ k) × (k ≤ l.plates)
 somewhere_small l J k h n =
     let g = good_when_legal l J h in
     let r = split k (after J).admitted (λ o. n (g.safe.plates.outside k o)) in
@@ -54,7 +59,8 @@ pub source_inside : (e : Entry) → source e ≢ Place.Delivered
 source_inside (Conveyed a k dest) = start_at (motion_to a dest)
 source_inside _ = λ e. cc
 
-put_case : (o : Option Placing) (k : ℕ) (v x : Place) → ((p : Placing) → o ≡ Some p → p.plate ≡ k → ⊥) → x ≡ v → unwrap_or (option_and_then (λ (p : Placing). when (p.plate == k) p.goes) o) x ≡ v
+put_case : (o : Option Placing) (k : ℕ) (v x : Place) → ((p : Placing) → o ≡ Some p → p.plate ≡ k → ⊥) → x ≡ v
+    → unwrap_or (option_and_then (λ (p : Placing). when (p.plate == k) p.goes) o) x ≡ v
 put_case None k v x n e = e
 put_case (Some p) k v x n e = go (p.plate == k) refl
   where
@@ -63,17 +69,21 @@ put_case (Some p) k v x n e = go (p.plate == k) refl
     go false t = e
 
 -- a plate stays where no entry takes one from
-pub stays : (l : BookLimits) (J : List Entry) (e : Entry) (k : ℕ) (v : Place) → Good J → allowed l J e ≡ true → source e ≢ v → place_of J k ≡ v → place_of (J ++ e ∷ []) k ≡ v
+pub stays : (l : BookLimits) (J : List Entry) (e : Entry) (k : ℕ) (v : Place) → Good J → allowed l J e ≡ true
+    → source e ≢ v → place_of J k ≡ v → place_of (J ++ e ∷ []) k ≡ v
 stays l J e k v g a n h =
     let s = safe_entry l J e g a in
     rw (view_snoc (puts k) Place.Nowhere J e)
     (put_case (placing e) k v (place_of J k) (λ p i j. n (sym (s.from p i) ∙ ap (place_of J) j ∙ h)) h)
 
-put_there : (o : Option Placing) (k : ℕ) (v x : Place) → (let p : Placing = record { plate = k; goes = v } in o ≡ Some p) → unwrap_or (option_and_then (λ (p : Placing). when (p.plate == k) p.goes) o) x ≡ v
+put_there : (o : Option Placing) (k : ℕ) (v x : Place)
+    → (let p : Placing = record { plate = k; goes = v } in o ≡ Some p)
+    → unwrap_or (option_and_then (λ (p : Placing). when (p.plate == k) p.goes) o) x ≡ v
 put_there o k v x e = let t : (k == k) ≡ true = grind (arith, nat_tests) in rw (e, t) refl
 
 -- the plate of an entry that puts it somewhere is there
-pub comes : (J : List Entry) (e : Entry) (k : ℕ) (v : Place) → (let p : Placing = record { plate = k; goes = v } in placing e ≡ Some p) → place_of (J ++ e ∷ []) k ≡ v
+pub comes : (J : List Entry) (e : Entry) (k : ℕ) (v : Place)
+    → (let p : Placing = record { plate = k; goes = v } in placing e ≡ Some p) → place_of (J ++ e ∷ []) k ≡ v
 comes J e k v h = rw (view_snoc (puts k) Place.Nowhere J e) (put_there (placing e) k v (place_of J k) h)
 
 -- no entry puts its plate nowhere

@@ -3,7 +3,12 @@ ghost use Rattle.std.specs.Prelude.{◌≡◌, ◌≤◌, ◌||◌, not};
 ghost use Rattle.cell_types.specs.Same.{same_pose};
 ghost use Rattle.cell_types.specs.Cell.{is_pose_of};
 ghost use Rattle.plate_book.specs.Records.Recorded.{recorded};
-ghost use Rattle.plate_book.specs.Rules.First.{not_at_rest, not_resting_at, cannot_go, not_going, zone_taken, not_holder, station_empty, station_full, plate_not_at, other_plate_at, lamp_red, lamp_already, visited, still_there, journal_full, plate_limit, machine_failed, machine_healthy, owner_failed, visits_failed, no_neighbour, wrong_number, ends_by_arrival, no_arrival, not_waiting, plate_expected, not_returnable, not_expected};
+ghost use Rattle.plate_book.specs.Rules.First.{not_at_rest, not_resting_at, cannot_go, not_going, zone_taken};
+ghost use Rattle.plate_book.specs.Rules.First.{not_holder, station_empty, station_full, plate_not_at, other_plate_at};
+ghost use Rattle.plate_book.specs.Rules.First.{lamp_red, lamp_already, visited, still_there, journal_full, plate_limit};
+ghost use Rattle.plate_book.specs.Rules.First.{machine_failed, machine_healthy, owner_failed, visits_failed};
+ghost use Rattle.plate_book.specs.Rules.First.{no_neighbour, wrong_number, ends_by_arrival, no_arrival, not_waiting};
+ghost use Rattle.plate_book.specs.Rules.First.{plate_expected, not_returnable, not_expected};
 
 use crate::registers::Registers;
 use crate::{BookLimits, Refusal};

@@ -1,5 +1,6 @@
 //! The lists that the records keep: where each plate is, and the plates that went out of the cell.
-ghost use Rattle.std.specs.Prelude.{ℕ, ◌≡◌, ◌≤◌, ◌<◌, ◌==◌, ◌&&◌, nat_le, true, length, OnOk, OnErr, IfErr, vec_capacity};
+ghost use Rattle.std.specs.Prelude.{ℕ, ◌≡◌, ◌≤◌, ◌<◌, ◌==◌, ◌&&◌, nat_le, true, length, OnOk, OnErr, IfErr};
+ghost use Rattle.std.specs.Prelude.{vec_capacity};
 ghost use Rattle.cell_types.specs.After.{with_at};
 ghost use Rattle.cell_views.specs.Views.{placing, is_quarantined};
 ghost use Rattle.plate_book.specs.Records.Booked.{placed_by, delivered_by, cleared_by};
@@ -22,7 +23,8 @@ pub fn place_in(places: &[Place], plate: PlateId) -> Place
 
 /// Puts a plate somewhere, if it is one of those that have a place.
 fn put(places: &mut [Place], plate: PlateId, place: Place)
-    ensures { (j : ℕ) → place_in places.new j ≡ with_at (λ i. (plate == i) && nat_le i (length places.old)) place (place_in places.old) j }
+    ensures { (j : ℕ) → place_in places.new j ≡ with_at (λ i. (plate == i) && nat_le i (length places.old)) place
+        (place_in places.old) j }
 {
     let index = plate.number() as usize - 1;
     if index < places.len() {
@@ -32,7 +34,8 @@ fn put(places: &mut [Place], plate: PlateId, place: Place)
 
 /// Puts the plate of an entry where the entry puts it.
 pub fn move_plate(places: &mut [Place], entry: &Entry)
-    ensures { (j : ℕ) → place_in places.new j ≡ placed_by (placing entry.now) (length places.old) (place_in places.old) j }
+    ensures { (j : ℕ) → place_in places.new j ≡ placed_by (placing entry.now) (length places.old) (place_in places.old)
+        j }
 {
     match entry {
         Entry::Admitted { plate } | Entry::Reinstated { plate } => {

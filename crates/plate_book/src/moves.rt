@@ -2,7 +2,8 @@
 ghost use Rattle.std.specs.Prelude.{◌≡◌, Some};
 ghost use Rattle.cell_types.specs.Cell.{axis_of_arm, faced_of};
 ghost use Rattle.plate_book.specs.Records.Recorded.{recorded};
-ghost use Rattle.plate_book.specs.Rules.First.{first_true, feed_belt_tests, deposit_belt_tests, press_tests, lamp_tests, arm_tests, outward_tests, faces, started_tests, all_resting};
+ghost use Rattle.plate_book.specs.Rules.First.{first_true, feed_belt_tests, deposit_belt_tests, press_tests};
+ghost use Rattle.plate_book.specs.Rules.First.{lamp_tests, arm_tests, outward_tests, faces, started_tests, all_resting};
 
 use crate::Refusal;
 use crate::checks::first_true;
@@ -56,7 +57,8 @@ impl Registers {
     }
 
     pub fn press_tests(&self, press: Press, to: Pose) -> Option<Refusal>
-        ensures { result ≡ first_true (press_tests (recorded self.now) press.machine press.axis press.zone press.station to) }
+        ensures { result ≡ first_true (press_tests (recorded self.now) press.machine press.axis press.zone press.station
+            to) }
     {
         let axis = press.axis;
         match to {
@@ -118,7 +120,8 @@ impl Registers {
     }
 
     pub fn outward_tests(&self, arm: Arm) -> Option<Refusal>
-        ensures { result ≡ first_true (outward_tests (recorded self.now) (axis_of_arm arm) (faces (recorded self.now) arm)) }
+        ensures { result ≡ first_true (outward_tests (recorded self.now) (axis_of_arm arm)
+            (faces (recorded self.now) arm)) }
     {
         match self.facing(arm) {
             Some(facing) => self.out_to(axis_of_arm(arm), facing),

@@ -3,7 +3,10 @@ ghost use Rattle.std.specs.Prelude.{◌≡◌, ◌+◌, ◌<◌, ◌≤◌, ◌�
 ghost use Rattle.plate_book.specs.Records.Recorded.{recorded};
 ghost use Rattle.cell_types.specs.Cell.{motion_to, machine_of_station, station_of_arm, faced_of, grips_at, drops_at};
 ghost use Rattle.cell_types.specs.declared.words.Entry.TheVariants.{Admitted};
-ghost use Rattle.plate_book.specs.Rules.First.{first_true, claimed_tests, parked_tests, conveyed_tests, forged_tests, handing_tests, quarantined_tests, repaired_tests, expected_tests, reinstated_tests, any_visited, any_still_there, first, is_faced, faces, kind_tests, machine_failed, not_holder, neighbour_tests, not_at_rest};
+ghost use Rattle.plate_book.specs.Rules.First.{first_true, claimed_tests, parked_tests, conveyed_tests, forged_tests};
+ghost use Rattle.plate_book.specs.Rules.First.{handing_tests, quarantined_tests, repaired_tests, expected_tests};
+ghost use Rattle.plate_book.specs.Rules.First.{reinstated_tests, any_visited, any_still_there, first, is_faced, faces};
+ghost use Rattle.plate_book.specs.Rules.First.{kind_tests, machine_failed, not_holder, neighbour_tests, not_at_rest};
 
 use crate::checks::first_true;
 use crate::conditions::no_neighbour;
@@ -192,7 +195,8 @@ impl Registers {
     }
 
     fn gripped_tests(&self, arm: Arm, plate: PlateId, src: Station) -> Option<Refusal>
-        ensures { result ≡ first_true (neighbour_tests (grips_at arm src) (handing_tests (recorded self.now) arm src src (station_of_arm arm) plate)) }
+        ensures { result ≡ first_true (neighbour_tests (grips_at arm src)
+            (handing_tests (recorded self.now) arm src src (station_of_arm arm) plate)) }
     {
         if grips_at(arm, src) {
             self.handing_tests(arm, src, src, station_of_arm(arm), plate)
@@ -202,7 +206,8 @@ impl Registers {
     }
 
     fn dropped_tests(&self, arm: Arm, plate: PlateId, dest: Station) -> Option<Refusal>
-        ensures { result ≡ first_true (neighbour_tests (drops_at arm dest) (handing_tests (recorded self.now) arm dest (station_of_arm arm) dest plate)) }
+        ensures { result ≡ first_true (neighbour_tests (drops_at arm dest)
+            (handing_tests (recorded self.now) arm dest (station_of_arm arm) dest plate)) }
     {
         if drops_at(arm, dest) {
             self.handing_tests(arm, dest, station_of_arm(arm), dest, plate)
@@ -283,7 +288,8 @@ impl Registers {
     }
 
     fn yielded_tests(&self, machine: Machine, zone: Zone) -> Option<Refusal>
-        ensures { result ≡ first_true (parked_tests (recorded self.now) machine ++ not_holder (recorded self.now) machine zone ∷ []) }
+        ensures { result ≡ first_true (parked_tests (recorded self.now) machine ++ not_holder (recorded self.now)
+            machine zone ∷ []) }
     {
         self.parked_tests(machine)
             .or(first_true(&[self.not_holder(machine, zone)]))

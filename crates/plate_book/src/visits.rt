@@ -9,7 +9,8 @@ use cell_types::{Entry, visitor};
 /// Notes the place of an entry, counted from 1, where it is the claim of a zone by its visitor.
 pub fn note_visit(visits: &mut [u32; 5], place: u32, entry: &Entry)
     requires { place + 1 < 2 ^ 32 }
-    ensures { (z : Zone) → slice_index_or visits.new (zone_number z) 0 ≡ (if is_visit z entry.now then place + 1 else slice_index_or visits.old (zone_number z) 0) }
+    ensures { (z : Zone) → slice_index_or visits.new (zone_number z) 0
+        ≡ (if is_visit z entry.now then place + 1 else slice_index_or visits.old (zone_number z) 0) }
 {
     if let Entry::Claimed { machine, zone } = entry {
         if *machine == visitor(*zone) {

@@ -6,9 +6,9 @@ use cell_turns::{Act, OperatorPort, PortFault};
 use cell_types::{Machine, Station};
 use std::alloc::{AllocError, Global};
 
-/// Hands over others. They keep their acts in room that was reserved when they were made, and fail at some of those, and at
-/// all for which no room is left; what failed isn't done. Some fail at acts of one kind alone. They tell until their
-/// failures can't be counted.
+/// Hands over others. They keep their acts in room that was reserved when they were made, and fail at some of those,
+/// and at all for which no room is left; what failed isn't done. Some fail at acts of one kind alone. They tell until
+/// their failures can't be counted.
 #[derive(Debug, Drop)]
 pub struct TellingHands<O> {
     hands: O,
@@ -21,8 +21,8 @@ pub struct TellingHands<O> {
 }
 
 impl<O> TellingHands<O> {
-    /// Hands over others, with room for so many acts: at which of all acts, by their number, taking out a plate fails, and
-    /// at which putting a machine at home.
+    /// Hands over others, with room for so many acts: at which of all acts, by their number, taking out a plate fails,
+    /// and at which putting a machine at home.
     pub fn new(
         alloc: Global,
         hands: O,
@@ -76,8 +76,10 @@ impl<O> TellingHands<O> {
     // Keeps an act that was done or failed, and answers that.
     fn keep(&mut self, act: Act, done: bool) -> Result<(), PortFault>
         ensures still { self.new.telling ≡ true → self.old.telling ≡ true }
-        ensures acts { self.new.telling ≡ true → self.new.acts.items ≡ self.old.acts.items ++ (if is_ok result then act ∷ [] else []) }
-        ensures failures { self.new.telling ≡ true → self.new.failures ≡ self.old.failures + (if is_ok result then 0 else 1) }
+        ensures acts { self.new.telling ≡ true
+            → self.new.acts.items ≡ self.old.acts.items ++ (if is_ok result then act ∷ [] else []) }
+        ensures failures { self.new.telling ≡ true
+            → self.new.failures ≡ self.old.failures + (if is_ok result then 0 else 1) }
     {
         if done && self.acts.len() < self.acts.capacity() {
             self.acts.push_reserved(act);

@@ -1,5 +1,5 @@
-//! Ports and hands of the operator for the test crates: each stands over another, keeps what it was asked, and fails as a
-//! test wants. No test stands here, and no crate but the test crates uses it.
+//! Ports and hands of the operator for the test crates: each stands over another, keeps what it was asked, and fails as
+//! a test wants. No test stands here, and no crate but the test crates uses it.
 #![tactic(auto)]
 
 mod failing;

@@ -7,9 +7,9 @@ use cell_turns::{Port, PortFault};
 use cell_types::Command;
 use std::alloc::{AllocError, Global};
 
-/// A port over another. It keeps its answers and its commands in room that was reserved when it was made. It fails at some of
-/// its commands, and at all for which no room is left; those don't reach the other port. It tells until an answer found no
-/// room, or its failures can't be counted.
+/// A port over another. It keeps its answers and its commands in room that was reserved when it was made. It fails at
+/// some of its commands, and at all for which no room is left; those don't reach the other port. It tells until an
+/// answer found no room, or its failures can't be counted.
 #[derive(Debug, Drop)]
 pub struct TellingPort<P> {
     port: P,

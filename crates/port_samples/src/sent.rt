@@ -31,8 +31,8 @@ impl Following<'_> {
         Ok(false)
     }
 
-    // Follows the commands of entries. After one that failed the next entry, and no other, declares a fault of the machine's
-    // commands.
+    // Follows the commands of entries. After one that failed the next entry, and no other, declares a fault of the
+    // machine's commands.
     fn follow(&mut self, list: &[Entry]) -> Result<(), &'static str> {
         let mut failed = false;
         for entry in list {
@@ -58,8 +58,8 @@ fn is_command_fault(entry: &Entry) -> bool {
     )
 }
 
-/// Whether a machine's port was asked to send the commands of these entries in their order, and then the last command, if
-/// there is one, and no other: it was sent those at which it didn't fail. The error says what else was asked.
+/// Whether a machine's port was asked to send the commands of these entries in their order, and then the last command,
+/// if there is one, and no other: it was sent those at which it didn't fail. The error says what else was asked.
 pub fn was_sent<P>(
     list: &[Entry],
     last: Option<Command>,

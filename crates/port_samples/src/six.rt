@@ -3,8 +3,8 @@ use crate::{Failing, TellingPort};
 use cell_turns::Six;
 use std::alloc::{AllocError, Global};
 
-/// Telling ports over those of six machines. Each has room for so many answers and as many commands, and fails so, in the
-/// machines' order.
+/// Telling ports over those of six machines. Each has room for so many answers and as many commands, and fails so, in
+/// the machines' order.
 pub fn telling_ports<P: Drop>(
     alloc: Global,
     ports: Six<P>,

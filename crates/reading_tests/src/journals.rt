@@ -23,8 +23,8 @@ fn said_of(alloc: Global, text: &[u8]) -> (Vec<u8>, Option<u8>) {
     (said, status)
 }
 
-// Checks that what is read of a text is judged and explained as the whole is, and says whether it is cut within the record that is
-// refused.
+// Checks that what is read of a text is judged and explained as the whole is, and says whether it is cut within the
+// record that is refused.
 fn check<W: AllocGlobal + Abort>(rt: &W, text: &[u8], what: (&str, usize)) -> bool {
     let alloc = rt.alloc();
     let read = journal_text(alloc, text).expect(rt, "memory");
@@ -49,7 +49,8 @@ fn check<W: AllocGlobal + Abort>(rt: &W, text: &[u8], what: (&str, usize)) -> bo
     cuts
 }
 
-// Checks each first part of a text with each tail, and an end by turns, behind it, and gives how many are cut within a record.
+// Checks each first part of a text with each tail, and an end by turns, behind it, and gives how many are cut within a
+// record.
 fn check_all<W: AllocGlobal + Abort>(rt: &W, journal: &[u8]) -> usize {
     let mut cuts = 0usize;
     for len in 0..journal.len() + 1 {

@@ -39,8 +39,8 @@ fn said_of(alloc: Global, kind: Kind, text: &[u8]) -> (Vec<u8>, Option<u8>) {
     (said, status)
 }
 
-// Checks that what is read of a text decides as the whole does, and says whether it is all, and whether it is cut within the
-// record that is refused.
+// Checks that what is read of a text decides as the whole does, and says whether it is all, and whether it is cut
+// within the record that is refused.
 fn check<L: ScriptLine + Drop, W: AllocGlobal + Abort>(
     rt: &W,
     kind: Kind,
@@ -79,8 +79,8 @@ fn size_of(tail: &[u8]) -> usize {
     }
 }
 
-// Checks each first part of a script with each tail, and an end by turns, behind it, and gives how many are cut within a record.
-// Not all is read of any.
+// Checks each first part of a script with each tail, and an end by turns, behind it, and gives how many are cut within
+// a record. Not all is read of any.
 fn check_all<L: ScriptLine + Drop, W: AllocGlobal + Abort>(
     rt: &W,
     kind: Kind,

@@ -261,8 +261,8 @@ fn follow_texts_of_a_run(rt: HostRuntime) -> Result<(), Fail> {
     Ok(())
 }
 
-// The plate stays on the feed belt, which fails, since the operator waits for more plates, and no plate sets the second press
-// in motion.
+// The plate stays on the feed belt, which fails, since the operator waits for more plates, and no plate sets the second
+// press in motion.
 const STALLED: Texts = [
     "plates = 1",
     "\"press_two\",1,no_motion,\n",

@@ -100,8 +100,8 @@ fn show_journal_as_page_with_chart(rt: HostRuntime) -> Result<(), Fail> {
     check_show(&rt, Form::TimedPage(Durations::ONE))
 }
 
-// What is written where a journal is shown beside another text, and the answer. Where the call is marked, memory may be refused
-// to it.
+// What is written where a journal is shown beside another text, and the answer. Where the call is marked, memory may be
+// refused to it.
 fn beside(alloc: Global, marked: bool) -> Result<(Vec<u8>, Result<u8, ShowError>), Fail> {
     let text = clearing(alloc, PROFILE_1, QUOTED)?;
     let other = clearing(alloc, PROFILE_1, PLAIN)?;

@@ -166,8 +166,8 @@ pub(crate) const QUOTED: &[u8] = b"\"quarantined\",1,table,\n";
 
 pub(crate) const PROFILE_1: &[u8] = b"profile,1,,\n";
 
-// The text of a journal of ten entries, which begins with the profile's record, and in which the first plate is cleared from
-// the table by this last record.
+// The text of a journal of ten entries, which begins with the profile's record, and in which the first plate is cleared
+// from the table by this last record.
 pub(crate) fn clearing(alloc: Global, profile: &[u8], last: &[u8]) -> Result<Vec<u8>, AllocError> {
     let mut text = Vec::new(alloc);
     text.extend_from_slice(profile)?;

@@ -70,8 +70,8 @@ fn check_counts<R: Run>(rt: &impl Abort, kept: &Kept<R>, shares: &Shares<R>, cou
     check_same(rt, &"counts", &shares.counts(), &entries(count));
 }
 
-// The feed light is green, and a plate is shown for the second time: the turn admits it. Where its list is refused memory
-// nothing has changed, so the same turn admits it later.
+// The feed light is green, and a plate is shown for the second time: the turn admits it. Where its list is refused
+// memory nothing has changed, so the same turn admits it later.
 fn admit<R: Run>(rt: &impl Abort, alloc: Global, book: Book, blanks: Blanks, plan: &Plan)
     requires parts { 0 < R.parts }
     requires limits { book.limits ≡ R.limits }
@@ -112,8 +112,8 @@ fn turn(rt: HostRuntime) {
     admit::<Brand>(&rt, alloc, book, blanks, &plan(&rt));
 }
 
-// A stop is asked of the feed belt, which has a plate and declares itself failed; the operator takes the plate out and puts
-// the belt at home, and it turns its light green: an entry at each step.
+// A stop is asked of the feed belt, which has a plate and declares itself failed; the operator takes the plate out and
+// puts the belt at home, and it turns its light green: an entry at each step.
 fn steps(rt: &impl Abort) -> [Step; 5] {
     [
         Step::Hand(entry_of(BOOKED[0]).expect(rt, "a record")),

@@ -9,8 +9,8 @@ use std::sync::Wait;
 use std::test::Fail;
 use std::thread::Threads;
 
-// What is printed where a journal is followed by the three texts of its run, or what is booked then. It has to end with this
-// status.
+// What is printed where a journal is followed by the three texts of its run, or what is booked then. It has to end with
+// this status.
 fn followed<R: AllocGlobal + Abort + Wait>(
     rt: &R,
     journal: &[u8],
@@ -84,7 +84,8 @@ fn a_run_in_rounds_is_followed(rt: HostRuntime) -> Result<(), Fail> {
 // The first runs end on threads as they do in rounds.
 const ON_THREADS: usize = 4;
 
-// Journals that aren't followed wholly: the journal but for its profile, the three texts of the run, and what is printed.
+// Journals that aren't followed wholly: the journal but for its profile, the three texts of the run, and what is
+// printed.
 const PARTED: [&str; 5] = [
     // Two entries of different machines are exchanged. Each of these journals is legal.
     "lamp,feed,green,\nadmitted,1,,\nstarted,feed_belt,to_end,\nconveyed,feed_belt,1,feed_end\nclaimed,feed,z1,\n\

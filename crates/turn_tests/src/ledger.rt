@@ -23,7 +23,8 @@ fn counts_are(rt: &impl Abort, counts: Totals, entries: u32, admitted: u32) {
 }
 
 fn is_small(counts: Totals) -> bool
-    ensures { result ≡ true → (counts.entries ≤ 1000) × (counts.admitted ≤ 1000) × (counts.forged ≤ 1000) × (counts.quarantined ≤ 1000) × (counts.delivered ≤ 1000) × (counts.reinstated ≤ 1000) }
+    ensures { result ≡ true → (counts.entries ≤ 1000) × (counts.admitted ≤ 1000) × (counts.forged ≤ 1000)
+        × (counts.quarantined ≤ 1000) × (counts.delivered ≤ 1000) × (counts.reinstated ≤ 1000) }
 {
     counts.entries <= 1000
         && counts.admitted <= 1000

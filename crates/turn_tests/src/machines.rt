@@ -210,8 +210,8 @@ fn useful_entries_are_proposed(rt: HostRuntime) {
     all_are_proposed(&rt, rt.alloc(), &USEFUL);
 }
 
-// After so many of the journal's entries and then these, the robot proposes one of the useful entries that are its own, and the
-// first press proposes nothing.
+// After so many of the journal's entries and then these, the robot proposes one of the useful entries that are its own,
+// and the first press proposes nothing.
 fn check_fault(rt: &impl Abort, alloc: Global, count: usize, records: &[&str], useful: &str) {
     let mut book = begun(alloc, 100, 10, count).expect(rt, "a book");
     assert!(rt; book_all(&mut book, records).is_ok(), "all are allowed");

@@ -84,7 +84,8 @@ fn lights_are_wanted(rt: HostRuntime) {
     }
 }
 
-// A plate that is expected may be laid in though as many were admitted as are planned, where the belt is empty and healthy.
+// A plate that is expected may be laid in though as many were admitted as are planned, where the belt is empty and
+// healthy.
 #[test]
 fn a_light_is_wanted_for_a_plate_that_is_expected(rt: HostRuntime) {
     let none: &[&str] = &[];

@@ -76,8 +76,8 @@ fn check_turn<R: Run>(
     }
 }
 
-// The length of the journal after turns of one machine at these readings, each of which answers what is wanted. Before turn
-// number `fault` (counted from 0) the port's failure is told.
+// The length of the journal after turns of one machine at these readings, each of which answers what is wanted. Before
+// turn number `fault` (counted from 0) the port's failure is told.
 fn take_turns<R: Run>(
     rt: &impl Abort,
     alloc: Global,

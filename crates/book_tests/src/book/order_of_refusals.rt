@@ -20,7 +20,8 @@ const ADMITTED: [&str; 15] = [
     "100 10 0|declared,feed,silent,|admitted,1,,|MachineFailed feed",
     "100 10 2|declared,feed,silent, quarantined,1,feed_in expected,1,,|admitted,2,,|MachineFailed feed",
     "100 10 0||admitted,2,,|WrongPlate",
-    "100 10 2|declared,feed,silent, quarantined,1,feed_in expected,1,, repaired,feed,, lamp,feed,green,|admitted,3,,|WrongPlate",
+    "100 10 2|declared,feed,silent, quarantined,1,feed_in expected,1,, repaired,feed,, \
+        lamp,feed,green,|admitted,3,,|WrongPlate",
     "100 10 2|declared,feed,silent, quarantined,1,feed_in expected,1,, repaired,feed,,|admitted,2,,|LampRed feed",
 ];
 
@@ -80,7 +81,15 @@ const DROPPED: [&str; 23] = [
     "100 10 30||dropped,arm1,1,press1|WrongPose arm_one",
     "100 10 20||dropped,arm1,2,press1|WrongPose robot_turn",
     "100 10 29||dropped,arm1,1,press1|StationEmpty arm1",
-    "100 10 31|yielded,robot,z3, claimed,table,z1, claimed,table,z2, started,table_lift,low, arrived,table_lift,low, started,table_turn,belt, arrived,table_turn,belt, yielded,table,z1, yielded,table,z2, lamp,feed,green, admitted,2,, started,feed_belt,to_end, conveyed,feed_belt,2,feed_end claimed,feed,z1, started,feed_belt,to_table, conveyed,feed_belt,2,table yielded,feed,z1, claimed,table,z1, claimed,table,z2, started,table_lift,high, arrived,table_lift,high, started,table_turn,robot, arrived,table_turn,robot, yielded,table,z1, yielded,table,z2, started,robot_turn,table1, arrived,robot_turn,table1, claimed,robot,z2, started,arm_one,out, arrived,arm_one,out, gripped,arm1,2,table started,arm_one,in, arrived,arm_one,in, claimed,robot,z3, started,robot_turn,p1_load, arrived,robot_turn,p1_load, started,arm_one,out, arrived,arm_one,out,|dropped,arm1,1,press1|StationFull press1",
+    "100 10 31|yielded,robot,z3, claimed,table,z1, claimed,table,z2, started,table_lift,low, arrived,table_lift,low, \
+        started,table_turn,belt, arrived,table_turn,belt, yielded,table,z1, yielded,table,z2, lamp,feed,green, \
+        admitted,2,, started,feed_belt,to_end, conveyed,feed_belt,2,feed_end claimed,feed,z1, \
+        started,feed_belt,to_table, conveyed,feed_belt,2,table yielded,feed,z1, claimed,table,z1, claimed,table,z2, \
+        started,table_lift,high, arrived,table_lift,high, started,table_turn,robot, arrived,table_turn,robot, \
+        yielded,table,z1, yielded,table,z2, started,robot_turn,table1, arrived,robot_turn,table1, claimed,robot,z2, \
+        started,arm_one,out, arrived,arm_one,out, gripped,arm1,2,table started,arm_one,in, arrived,arm_one,in, \
+        claimed,robot,z3, started,robot_turn,p1_load, arrived,robot_turn,p1_load, started,arm_one,out, \
+        arrived,arm_one,out,|dropped,arm1,1,press1|StationFull press1",
     "1 10 0|declared,robot,silent,|dropped,arm1,1,feed_in|JournalFull",
     "1 10 1||dropped,arm1,1,feed_in|JournalFull",
     "100 10 0|declared,robot,silent,|dropped,arm1,1,feed_in|MachineFailed robot",
@@ -93,9 +102,11 @@ const EXPECTED: [&str; 9] = [
     "34 10 32|declared,press1,silent, quarantined,1,press1|expected,1,,|JournalFull",
     "100 10 1||expected,1,,|WrongPlate",
     "100 10 2|declared,feed,silent, quarantined,1,feed_in expected,1,,|expected,2,,|WrongPlate",
-    "100 10 2|declared,feed,silent, quarantined,1,feed_in expected,1,, repaired,feed,, lamp,feed,green,|expected,1,,|LampAlready feed",
+    "100 10 2|declared,feed,silent, quarantined,1,feed_in expected,1,, repaired,feed,, \
+        lamp,feed,green,|expected,1,,|LampAlready feed",
     "100 10 32|declared,press1,silent, quarantined,1,press1 lamp,feed,green,|expected,1,,|LampAlready feed",
-    "100 10 32|declared,press1,silent, quarantined,1,press1 lamp,feed,green, admitted,2,, declared,feed,silent, quarantined,2,feed_in expected,2,,|expected,1,,|PlateExpected",
+    "100 10 32|declared,press1,silent, quarantined,1,press1 lamp,feed,green, admitted,2,, declared,feed,silent, \
+        quarantined,2,feed_in expected,2,,|expected,1,,|PlateExpected",
 ];
 
 const FORGED: [&str; 9] = [
@@ -130,7 +141,13 @@ const GRIPPED: [&str; 23] = [
     "100 10 21||gripped,arm1,1,table|WrongPose arm_one",
     "100 10 7||gripped,arm1,2,table|WrongPose arm_one",
     "100 10 20||gripped,arm1,1,table|StationEmpty table",
-    "100 10 22|yielded,robot,z2, claimed,table,z1, claimed,table,z2, started,table_lift,low, arrived,table_lift,low, started,table_turn,belt, arrived,table_turn,belt, yielded,table,z1, yielded,table,z2, lamp,feed,green, admitted,2,, started,feed_belt,to_end, conveyed,feed_belt,2,feed_end claimed,feed,z1, started,feed_belt,to_table, conveyed,feed_belt,2,table yielded,feed,z1, claimed,table,z1, claimed,table,z2, started,table_lift,high, arrived,table_lift,high, started,table_turn,robot, arrived,table_turn,robot, yielded,table,z1, yielded,table,z2, claimed,robot,z2, started,arm_one,out, arrived,arm_one,out,|gripped,arm1,1,table|StationFull arm1",
+    "100 10 22|yielded,robot,z2, claimed,table,z1, claimed,table,z2, started,table_lift,low, arrived,table_lift,low, \
+        started,table_turn,belt, arrived,table_turn,belt, yielded,table,z1, yielded,table,z2, lamp,feed,green, \
+        admitted,2,, started,feed_belt,to_end, conveyed,feed_belt,2,feed_end claimed,feed,z1, \
+        started,feed_belt,to_table, conveyed,feed_belt,2,table yielded,feed,z1, claimed,table,z1, claimed,table,z2, \
+        started,table_lift,high, arrived,table_lift,high, started,table_turn,robot, arrived,table_turn,robot, \
+        yielded,table,z1, yielded,table,z2, claimed,robot,z2, started,arm_one,out, \
+        arrived,arm_one,out,|gripped,arm1,1,table|StationFull arm1",
     "1 10 0|declared,robot,silent,|gripped,arm1,1,feed_in|JournalFull",
     "1 10 1||gripped,arm1,1,feed_in|JournalFull",
     "100 10 0|declared,robot,silent,|gripped,arm1,1,feed_in|MachineFailed robot",
@@ -298,7 +315,8 @@ const YIELDED: [&str; 6] = [
 ];
 
 const DECLARED: [&str; 1] = [
-    "1 10 1|declared,feed,silent, declared,table,silent, declared,robot,silent, declared,press1,silent, declared,press2,silent, declared,deposit,silent,|declared,feed,silent,|JournalFull",
+    "1 10 1|declared,feed,silent, declared,table,silent, declared,robot,silent, declared,press1,silent, \
+        declared,press2,silent, declared,deposit,silent,|declared,feed,silent,|JournalFull",
 ];
 
 #[test]

@@ -1,23 +1,30 @@
 //! What stands around two pages in one.
 
-/// From the first line of the page to the first page, which stands in an attribute. The script stands before the frames, since
-/// these tell at once where they are.
+/// From the first line of the page to the first page, which stands in an attribute. The script stands before the
+/// frames, since these tell at once where they are.
 pub(crate) const BESIDE_HEAD: &str = r##"<!DOCTYPE html>
 <html lang="en">
 <head>
 <meta charset="utf-8">
 <meta name="viewport" content="width=device-width, initial-scale=1">
-<meta http-equiv="Content-Security-Policy" content="default-src 'none'; style-src 'unsafe-inline'; script-src 'unsafe-inline'; img-src data:">
+<meta http-equiv="Content-Security-Policy"
+  content="default-src 'none'; style-src 'unsafe-inline'; script-src 'unsafe-inline'; img-src data:">
 <link rel="icon" href="data:,">
 <title>Two journals of the forging cell, side by side</title>
 <style>
-:root { color-scheme: light dark; --ground: #fbfaf7; --ink: #1c2226; --line: #aab3b8; --panel: #f0eee8; --mark: #2a5d9f; }
-@media (prefers-color-scheme: dark) { :root { --ground: #15191c; --ink: #e6e9ea; --line: #55616a; --panel: #1f2529; --mark: #85b7f5; } }
+:root { color-scheme: light dark; --ground: #fbfaf7; --ink: #1c2226; --line: #aab3b8; --panel: #f0eee8;
+  --mark: #2a5d9f; }
+@media (prefers-color-scheme: dark) {
+  :root { --ground: #15191c; --ink: #e6e9ea; --line: #55616a; --panel: #1f2529; --mark: #85b7f5; }
+}
 * { box-sizing: border-box; }
-body { margin: 0; height: 100vh; display: flex; flex-direction: column; background: var(--ground); color: var(--ink); font: 16px/1.45 system-ui, sans-serif; }
-#both { display: flex; flex-wrap: wrap; gap: 0.5rem; align-items: center; padding: 0.5rem 1rem; border-bottom: 1px solid var(--line); }
+body { margin: 0; height: 100vh; display: flex; flex-direction: column; background: var(--ground);
+  color: var(--ink); font: 16px/1.45 system-ui, sans-serif; }
+#both { display: flex; flex-wrap: wrap; gap: 0.5rem; align-items: center; padding: 0.5rem 1rem;
+  border-bottom: 1px solid var(--line); }
 h1 { font-size: 1.1rem; margin: 0 1rem 0 0; }
-button { font: inherit; color: inherit; background: var(--panel); border: 1px solid var(--line); border-radius: 4px; padding: 0.3rem 0.6rem; min-height: 2.2rem; }
+button { font: inherit; color: inherit; background: var(--panel); border: 1px solid var(--line); border-radius: 4px;
+  padding: 0.3rem 0.6rem; min-height: 2.2rem; }
 :focus-visible { outline: 3px solid var(--mark); outline-offset: 2px; }
 main { flex: 1; min-height: 0; display: grid; grid-template-columns: 1fr 1fr; }
 iframe { width: 100%; height: 100%; border: 0; }
@@ -56,7 +63,8 @@ iframe + iframe { border-left: 2px solid var(--line); }
     if (isNew && places.size === 2) go(entryInAddress());
     if (isNew || data.isAsked) return;
     keep(data.entry);
-    if (document.getElementById("together").checked) frames().filter((frame) => frame !== source).forEach((frame) => send(frame, data.entry));
+    if (document.getElementById("together").checked)
+      frames().filter((frame) => frame !== source).forEach((frame) => send(frame, data.entry));
   });
   const moves = {
     ArrowLeft: () => go(farthest() - 1), ArrowRight: () => go(farthest() + 1),

@@ -29,9 +29,11 @@ pub(crate) const CONTROL_SCRIPT: &str =
     const where = station === -1 ? "not in the cell" : "at " + stations[station];
     const texts = [];
     if (plate !== 0) texts.push(`Plate ${plate}: ${where}; ${soFar(ofPlate, i)}.`);
-    if (zone !== -1) texts.push(`Z${zones[zone].slice(1)}: ${named(machines, state.holders[zone]) ?? "free"}; ${soFar(ofZone, i)}.`);
+    if (zone !== -1)
+      texts.push(`Z${zones[zone].slice(1)}: ${named(machines, state.holders[zone]) ?? "free"}; ${soFar(ofZone, i)}.`);
     el("followed").textContent = texts.join(" ");
-    const wanted = { "followed-back": beforeOf(all), "followed-on": nextOf(all), "failure-back": beforeOf(failures), "failure-on": nextOf(failures) };
+    const wanted = { "followed-back": beforeOf(all), "followed-on": nextOf(all),
+      "failure-back": beforeOf(failures), "failure-on": nextOf(failures) };
     Object.entries(wanted).forEach(([id, found]) => { el(id).disabled = found === undefined; });
   };
 
@@ -53,7 +55,9 @@ pub(crate) const CONTROL_SCRIPT: &str =
       svg("rect", { x: laneX(i) + 1, y: y + 3, width: lanes.step - 2, height: lanes.height - 6, rx: 3 }),
       svg("text", { class: "sign", x: laneX(i) + lanes.step / 2, y: y + lanes.height / 2 }, signOf(i)),
     );
-    if (follows(i)) mark.append(svg("rect", { class: "followed", x: laneX(i), y: y + lanes.height - 4, width: lanes.step, height: 4 }));
+    if (follows(i))
+      mark.append(svg("rect", { class: "followed", x: laneX(i), y: y + lanes.height - 4, width: lanes.step,
+        height: 4 }));
     return mark;
   };
   const layLanes = () => {
@@ -89,7 +93,8 @@ pub(crate) const CONTROL_SCRIPT: &str =
     if (mark !== null) mark.classList.add("current");
   };
 
-  // All entries in one strip, and below them those that are followed, drawn once for a size, and a frame round the current one.
+  // All entries in one strip, and below them those that are followed, drawn once for a size, and a frame round the
+  // current one.
   const drawStrip = () => {
     const canvas = el("whole");
     canvas.width = canvas.clientWidth;
@@ -101,7 +106,8 @@ pub(crate) const CONTROL_SCRIPT: &str =
     for (let i = 1; i <= last; i += 1) pen.fillRect((i - 1) * wide, rows[i][11] * 6, Math.max(1, wide - 0.5), 5);
     pen.fillStyle = colours.getPropertyValue("--red");
     for (let i = 1; i <= last; i += 1) {
-      if (faults.includes(kindOf(i)) || i > good) pen.fillRect((i - 1) * wide, rows[i][11] * 6, Math.max(2, wide - 0.5), 5);
+      if (faults.includes(kindOf(i)) || i > good)
+        pen.fillRect((i - 1) * wide, rows[i][11] * 6, Math.max(2, wide - 0.5), 5);
     }
     pen.fillStyle = colours.getPropertyValue("--follow");
     followed.all.forEach((i) => pen.fillRect((i - 1) * wide, 43, Math.max(2, wide - 0.5), 5));
@@ -236,7 +242,8 @@ pub(crate) const CONTROL_SCRIPT: &str =
     act();
   };
   const onLanes = (event) => {
-    const i = lanes.first + Math.floor((event.clientX - el("lanes").getBoundingClientRect().left - lanes.left) / lanes.step);
+    const left = el("lanes").getBoundingClientRect().left + lanes.left;
+    const i = lanes.first + Math.floor((event.clientX - left) / lanes.step);
     if (i >= lanes.first && i < lanes.first + lanes.shown && i <= last) goTo(i);
   };
   const onStrip = (event) => {
@@ -257,7 +264,8 @@ pub(crate) const CONTROL_SCRIPT: &str =
   };
 
   el("slider").max = el("number").max = last;
-  el("legend").textContent = "Signs: " + Object.values(signs).map(([sign, words]) => `${sign} ${words}`).join(", ") + ".";
+  el("legend").textContent =
+    "Signs: " + Object.values(signs).map(([sign, words]) => `${sign} ${words}`).join(", ") + ".";
   el("slider").addEventListener("input", (event) => goTo(event.target.value));
   el("number").addEventListener("change", (event) => goTo(event.target.value));
   el("first").addEventListener("click", () => goTo(0));

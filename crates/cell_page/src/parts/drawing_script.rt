@@ -9,8 +9,8 @@ pub(crate) const DRAWING_SCRIPT: &str = r##"
 (() => {
   const journal = JSON.parse(document.getElementById("journal").textContent);
   const { machines, stations, axes, parts, poses, ways, zones, lights, rows, refused } = journal;
-  // The entries are good up to this one. After it comes a step for the record that is refused or can't be read, if there is one: it
-  // leaves what the last good entry left.
+  // The entries are good up to this one. After it comes a step for the record that is refused or can't be read, if
+  // there is one: it leaves what the last good entry left.
   const good = rows.length - 1;
   if (refused !== null) rows.push([...rows[good].slice(0, 11), ...refused.slice(3)]);
   const last = rows.length - 1;
@@ -27,15 +27,18 @@ pub(crate) const DRAWING_SCRIPT: &str = r##"
   const signs = {
     lamp: ["L", "light"], admitted: ["A", "admitted"], claimed: ["[", "zone claimed"], yielded: ["]", "zone yielded"],
     started: [">", "started"], arrived: ["|", "arrived"], conveyed: ["C", "conveyed"], forged: ["*", "forged"],
-    gripped: ["^", "gripped"], dropped: ["v", "dropped"], delivered: ["D", "delivered"], declared: ["X", "declared failed"],
+    gripped: ["^", "gripped"], dropped: ["v", "dropped"], delivered: ["D", "delivered"],
+    declared: ["X", "declared failed"],
     stop_asked: ["S", "stop asked"], quarantined: ["Q", "quarantined"], repaired: ["R", "repaired"],
     expected: ["E", "expected"], reinstated: ["B", "laid back"],
   };
   const faults = ["declared", "stop_asked", "quarantined", "repaired"];
 
   const read = (i) => {
-    const [plates, forged, at, going, holders, failed, asked, lamps, expected, quarantine, totals, actor, record, sentence] = rows[i];
-    return { plates, forged, at, going, holders, failed, asked, lamps, expected, quarantine, totals, actor, record, sentence };
+    const [plates, forged, at, going, holders, failed, asked, lamps, expected, quarantine, totals, actor, record,
+      sentence] = rows[i];
+    return { plates, forged, at, going, holders, failed, asked, lamps, expected, quarantine, totals, actor, record,
+      sentence };
   };
   const named = (names, letter) => (letter === "-" ? null : names[letter.charCodeAt(0) - 97]);
   const kindOf = (i) => rows[i][12].split(",", 1)[0];
@@ -227,9 +230,11 @@ pub(crate) const DRAWING_SCRIPT: &str = r##"
     const moving = axes.map((_, a) => a).filter((a) => state.going[a] !== "-");
     const resting = axes.map((_, a) => a).filter((a) => state.going[a] === "-");
     const flagged = (flags) => listed(machines.filter((_, m) => flags[m] === "1"));
-    el("moving-line").textContent = moving.length === 0 ? "Nothing moves." : moving.map((a) => axes[a] + goingText(state, a)).join(", ");
+    el("moving-line").textContent =
+      moving.length === 0 ? "Nothing moves." : moving.map((a) => axes[a] + goingText(state, a)).join(", ");
     const facts = {
-      plates: listed(full.map((s) => `${state.plates[s]}${state.forged[s] === "1" ? " (forged)" : ""} at ${stations[s]}`)),
+      plates: listed(full.map((s) =>
+        `${state.plates[s]}${state.forged[s] === "1" ? " (forged)" : ""} at ${stations[s]}`)),
       moving: listed(moving.map((a) => `${axes[a]}: ${axisText(state, a)}`)),
       rest: listed(resting.map((a) => `${axes[a]}: ${axisText(state, a)}`)),
       zones: zones.map((name, z) => `${name}: ${named(machines, state.holders[z]) ?? "free"}`).join(", "),
@@ -238,7 +243,8 @@ pub(crate) const DRAWING_SCRIPT: &str = r##"
       asked: flagged(state.asked),
       expected: state.expected === 0 ? "none" : "plate " + state.expected,
       quarantine: String(state.quarantine),
-      totals: `${entries} entries; ${admitted} admitted, ${forged} forged, ${quarantined} quarantined, ${delivered} delivered, ${reinstated} laid back`,
+      totals: `${entries} entries; ${admitted} admitted, ${forged} forged, ` +
+        `${quarantined} quarantined, ${delivered} delivered, ${reinstated} laid back`,
     };
     Object.entries(facts).forEach(([name, text]) => { el("fact-" + name).textContent = text; });
   };

@@ -6,23 +6,27 @@ pub(crate) const HEAD: &str = r##"<!DOCTYPE html>
 <head>
 <meta charset="utf-8">
 <meta name="viewport" content="width=device-width, initial-scale=1">
-<meta http-equiv="Content-Security-Policy" content="default-src 'none'; style-src 'unsafe-inline'; script-src 'unsafe-inline'; img-src data:">
+<meta http-equiv="Content-Security-Policy"
+  content="default-src 'none'; style-src 'unsafe-inline'; script-src 'unsafe-inline'; img-src data:">
 <link rel="icon" href="data:,">
 <title>The forging cell, entry by entry</title>
 <style>
 :root {
   color-scheme: light dark;
   --ground: #fbfaf7; --ink: #1c2226; --soft: #58636b; --line: #aab3b8; --panel: #f0eee8;
-  --machine: #e4e8ea; --raw: #ffffff; --forged: #f3c178; --red: #b3201f; --green: #1b7a3d; --mark: #2a5d9f; --held: #cfe0f5; --follow: #8a2f8f;
+  --machine: #e4e8ea; --raw: #ffffff; --forged: #f3c178; --red: #b3201f; --green: #1b7a3d;
+  --mark: #2a5d9f; --held: #cfe0f5; --follow: #8a2f8f;
 }
 @media (prefers-color-scheme: dark) {
   :root {
     --ground: #15191c; --ink: #e6e9ea; --soft: #a3afb6; --line: #55616a; --panel: #1f2529;
-    --machine: #2a3237; --raw: #15191c; --forged: #6d4510; --red: #ff7b72; --green: #56c271; --mark: #85b7f5; --held: #233d5c; --follow: #e59be8;
+    --machine: #2a3237; --raw: #15191c; --forged: #6d4510; --red: #ff7b72; --green: #56c271;
+    --mark: #85b7f5; --held: #233d5c; --follow: #e59be8;
   }
 }
 * { box-sizing: border-box; }
-body { margin: 0 auto; max-width: 76rem; padding: 0.75rem 1rem 2rem; background: var(--ground); color: var(--ink); font: 16px/1.45 system-ui, sans-serif; }
+body { margin: 0 auto; max-width: 76rem; padding: 0.75rem 1rem 2rem; background: var(--ground);
+  color: var(--ink); font: 16px/1.45 system-ui, sans-serif; }
 h1 { font-size: 1.25rem; margin: 0 0 0.25rem; }
 h2 { font-size: 1rem; margin: 1.25rem 0 0.35rem; }
 #last { margin: 0.25rem 0 0.5rem; min-height: 3.1em; }
@@ -32,7 +36,10 @@ h2 { font-size: 1rem; margin: 1.25rem 0 0.35rem; }
 .answer { border: 2px solid var(--red); padding: 0.5rem 0.75rem; font-weight: 600; }
 #controls, #jumps { display: flex; flex-wrap: wrap; gap: 0.5rem; align-items: center; margin: 0.5rem 0; }
 #controls input[type=range] { flex: 1 1 100%; min-width: 8rem; margin: 0.25rem 0; accent-color: var(--mark); }
-button, select, input[type=number] { font: inherit; color: inherit; background: var(--panel); border: 1px solid var(--line); border-radius: 4px; padding: 0.3rem 0.6rem; min-height: 2.2rem; }
+button, select, input[type=number] {
+  font: inherit; color: inherit; background: var(--panel); border: 1px solid var(--line); border-radius: 4px;
+  padding: 0.3rem 0.6rem; min-height: 2.2rem;
+}
 button:disabled { color: var(--soft); }
 input[type=number] { width: 6.5rem; }
 :focus-visible { outline: 3px solid var(--mark); outline-offset: 2px; }
@@ -60,7 +67,8 @@ input[type=number] { width: 6.5rem; }
 #cell .zone.followed rect { stroke: var(--follow); stroke-width: 5; }
 #cell .zone.followed .name { fill: var(--follow); text-decoration: underline; }
 /* What a refusal names. */
-#cell .in-the-way .body, #cell .in-the-way rect.lens, #cell .zone.in-the-way rect { stroke: var(--red); stroke-width: 6; stroke-dasharray: none; }
+#cell .in-the-way .body, #cell .in-the-way rect.lens, #cell .zone.in-the-way rect {
+  stroke: var(--red); stroke-width: 6; stroke-dasharray: none; }
 #cell .plate.in-the-way .halo { display: inline; visibility: visible; stroke: var(--red); stroke-width: 5; }
 #cell .in-the-way .name, #cell .axis.in-the-way { fill: var(--red); font-weight: 600; text-decoration: underline; }
 #cell .arm-name { font-weight: 600; font-size: 13px; dominant-baseline: central; }
@@ -74,7 +82,9 @@ input[type=number] { width: 6.5rem; }
 #facts div { display: flex; gap: 0.5rem; border-top: 1px solid var(--line); padding: 0.25rem 0; break-inside: avoid; }
 #facts dt { flex: 0 0 6.5rem; color: var(--soft); }
 #facts dd { margin: 0; overflow-wrap: anywhere; }
-#whole { width: 100%; height: 48px; display: block; background: var(--panel); border: 1px solid var(--line); cursor: pointer; }
+#whole {
+  width: 100%; height: 48px; display: block; background: var(--panel); border: 1px solid var(--line); cursor: pointer;
+}
 #strip { position: relative; }
 #here { position: absolute; top: 0; bottom: 0; border: 2px solid var(--mark); pointer-events: none; }
 #lanes { width: 100%; display: block; margin-top: 0.25rem; cursor: pointer; }
@@ -132,7 +142,13 @@ figure { margin: 0; }
 .back-row .soft, .back-row #facts { font-size: 1.15rem; }
 .back-row #moving-line { font-size: 1.5rem; }
 </style>
-<noscript><style>#last, #picture, #controls, #jumps, #strip, #lanes, #lanes ~ *:not(.chart):not(script) { display: none; } h2 { display: none; } .chart h2 { display: block; } .still { overflow-x: auto; } .still svg { display: block; width: 100%; min-width: 34rem; max-width: 60rem; height: auto; }</style></noscript>
+<noscript><style>
+#last, #picture, #controls, #jumps, #strip, #lanes, #lanes ~ *:not(.chart):not(script) { display: none; }
+h2 { display: none; }
+.chart h2 { display: block; }
+.still { overflow-x: auto; }
+.still svg { display: block; width: 100%; min-width: 34rem; max-width: 60rem; height: auto; }
+</style></noscript>
 </head>
 <body>
 <main>

@@ -27,7 +27,9 @@ pub(crate) const LISTS: &str = r##"<div id="controls" role="group" aria-label="G
 </div>
 <p class="soft" id="followed"></p>
 <h2 id="lanes-name">Who booked which entry</h2>
-<div id="strip"><canvas id="whole" role="img" aria-label="All entries, a row for each machine and the operator"></canvas><div id="here"></div></div>
+<div id="strip">
+<canvas id="whole" role="img" aria-label="All entries, a row for each machine and the operator"></canvas>
+<div id="here"></div></div>
 <svg id="lanes" role="img" aria-labelledby="lanes-name"></svg>
 <p class="soft" id="legend"></p>
 <h2>The state in words</h2>
@@ -44,8 +46,13 @@ pub(crate) const LISTS: &str = r##"<div id="controls" role="group" aria-label="G
 <div><dt>So far</dt><dd id="fact-totals"></dd></div>
 </dl>
 <details><summary>Keys</summary>
-<p class="soft"><kbd>&larr;</kbd> and <kbd>&rarr;</kbd> step back and forward, <kbd>Page Up</kbd> and <kbd>Page Down</kbd> too, as a presenter's remote sends them; <kbd>Home</kbd> and <kbd>End</kbd> go to the start and the end, <kbd>Space</kbd> plays and pauses. A click on a mark or on the rows above it goes to that entry. The page's address keeps the entry.</p>
-<p class="soft">Letters: <kbd>d</kbd> goes to the next entry that declares a machine failed, or that is refused, <kbd>p</kbd> to the next one of the plate that is followed, <kbd>z</kbd> to that of the zone, and with <kbd>Shift</kbd> to the one before; <kbd>w</kbd> makes the words larger.</p>
+<p class="soft"><kbd>&larr;</kbd> and <kbd>&rarr;</kbd> step back and forward, <kbd>Page Up</kbd>
+and <kbd>Page Down</kbd> too, as a presenter's remote sends them; <kbd>Home</kbd>
+and <kbd>End</kbd> go to the start and the end, <kbd>Space</kbd> plays and pauses.
+A click on a mark or on the rows above it goes to that entry. The page's address keeps the entry.</p>
+<p class="soft">Letters: <kbd>d</kbd> goes to the next entry that declares a machine failed, or that is refused,
+<kbd>p</kbd> to the next one of the plate that is followed, <kbd>z</kbd> to that of the zone,
+and with <kbd>Shift</kbd> to the one before; <kbd>w</kbd> makes the words larger.</p>
 <label class="soft"><input type="checkbox" id="letters" checked> Letters are keys</label>
 </details>
 "##;

@@ -1,5 +1,6 @@
 //! The fourth step of a turn: the entry of what was decided is booked and listed.
-ghost use Rattle.std.specs.Prelude.{◌≡◌, ◌<◌, ◌++◌, None, IfOk, IfErr, IfSome, OnOk, OnErr, option_to_list, vec_len, vec_capacity};
+ghost use Rattle.std.specs.Prelude.{◌≡◌, ◌<◌, ◌++◌, None, IfOk, IfErr, IfSome, OnOk, OnErr, option_to_list, vec_len};
+ghost use Rattle.std.specs.Prelude.{vec_capacity};
 ghost use Rattle.cell_views.specs.Views.{count_of};
 ghost use Rattle.plate_book.specs.Rules.Legal.{first_of};
 ghost use Rattle.cell_ledger.specs.Counts.{plus};
@@ -25,7 +26,8 @@ pub fn entry_of(
     plan: &Plan,
 ) -> Result<Option<Entry>, Refusal>
     requires { watch.now.machine ≡ machine }
-    ensures ok { IfOk result (λ e. IsRuled book.now.limits book.now.entries watch.now.machine plan.now.plates ruling e) }
+    ensures ok { IfOk result (λ e. IsRuled book.now.limits book.now.entries watch.now.machine plan.now.plates ruling
+        e) }
     ensures err { IfErr result (λ why. (ruling ≡ PastLast) × (why ≡ Refusal.PlateLimit)) }
 {
     match ruling {
@@ -61,11 +63,17 @@ pub fn book_entry<R: Run>(
 ) -> Result<(), Refusal>
     requires { IfSome entry (λ _. vec_len entries.old < vec_capacity entries.old) }
     ensures entries { OnOk result (entries.new.items ≡ entries.old.items ++ option_to_list entry) }
-    ensures kept { OnOk result (kept.new ≡ record { limits = kept.old.limits; entries = kept.old.entries ++ option_to_list entry }) }
-    ensures shares { OnOk result (shares.new ≡ held shares.old.parts (plus shares.old.counts (count_of (option_to_list entry)))) }
+    ensures kept { OnOk result (kept.new ≡ record {
+      limits = kept.old.limits;
+      entries =
+          kept.old.entries ++ option_to_list entry;
+    }) }
+    ensures shares { OnOk result (shares.new
+        ≡ held shares.old.parts (plus shares.old.counts (count_of (option_to_list entry)))) }
     ensures allowed { OnOk result (IfSome entry (λ e. first_of kept.old.limits kept.old.entries e ≡ None)) }
     ensures refused { IfErr result (λ why. IsUnbooked kept.old.limits kept.old.entries entry why) }
-    ensures unchanged { OnErr result ((entries.new.items ≡ entries.old.items) × (kept.new ≡ kept.old) × (shares.new ≡ shares.old)) }
+    ensures unchanged { OnErr result ((entries.new.items ≡ entries.old.items) × (kept.new ≡ kept.old)
+        × (shares.new ≡ shares.old)) }
 {
     let Some(entry) = entry else {
         return Ok(());

@@ -1,7 +1,8 @@
 //! The third step of a turn: what is decided, by the first of nine points that applies.
 ghost use Rattle.std.specs.Prelude.{◌≡◌, ◌+◌};
 ghost use Rattle.cell_types.specs.Same.{same_pose};
-ghost use Rattle.cell_turns.specs.Rulings.{forged, conveyed, arrived, ending, next_plate, laid_in, books, signed, declares, ruling_by};
+ghost use Rattle.cell_turns.specs.Rulings.{forged, conveyed, arrived, ending, next_plate, laid_in, books, signed};
+ghost use Rattle.cell_turns.specs.Rulings.{declares, ruling_by};
 
 use crate::watch::{Memory, Watch};
 use cell_diagnosis::{Motion, Verdict};
@@ -152,8 +153,8 @@ fn declares(machine: Machine, cause: Cause) -> Ruling
 /// 5. The axis watch found a fault: `Declared` with it.
 /// 6. The rest watch found a fault: `Declared` with it.
 /// 7. The motion has ended: `Forged` for a press at Top, `Conveyed` for a belt, else `Arrived`.
-/// 8. This reading and the last one show a sign: `Reinstated` of the plate that is expected or, where none is, `Admitted`
-///    with the next number; or `Delivered` of the plate at DepEnd.
+/// 8. This reading and the last one show a sign: `Reinstated` of the plate that is expected or, where none is,
+///    `Admitted` with the next number; or `Delivered` of the plate at DepEnd.
 /// 9. An entry is proposed.
 #[inline(always)]
 fn ruling_by(book: &Book, machine: Machine, kept: &Memory, found: &Findings) -> Ruling

@@ -65,8 +65,10 @@ fn follow(axis: &mut Option<AxisWatch>, motion: Option<Motion>)
 /// Notes a reading, where a motion is followed.
 #[inline(always)]
 fn note_axis(axis: &mut Option<AxisWatch>, reading: Option<Reading>) -> Verdict
-    ensures fits { (f : Option Following) → FitsAxis axis.old f → FitsAxis axis.new (option_map (with_reading reading) f) }
-    ensures verdict { (f : Option Following) → FitsAxis axis.old f → result ≡ axis_verdict (option_map (with_reading reading) f) }
+    ensures fits { (f : Option Following) → FitsAxis axis.old f
+        → FitsAxis axis.new (option_map (with_reading reading) f) }
+    ensures verdict { (f : Option Following) → FitsAxis axis.old f
+        → result ≡ axis_verdict (option_map (with_reading reading) f) }
 {
     match axis {
         Some(watch) => watch.note(reading),
@@ -80,15 +82,17 @@ fn note_motion(
     motion: Option<Motion>,
     reading: Option<Reading>,
 ) -> Verdict
-    ensures fits { (f : Option Following) → FitsAxis axis.old f → FitsAxis axis.new (option_map (with_reading reading) (followed f motion)) }
-    ensures verdict { (f : Option Following) → FitsAxis axis.old f → result ≡ axis_verdict (option_map (with_reading reading) (followed f motion)) }
+    ensures fits { (f : Option Following) → FitsAxis axis.old f
+        → FitsAxis axis.new (option_map (with_reading reading) (followed f motion)) }
+    ensures verdict { (f : Option Following) → FitsAxis axis.old f
+        → result ≡ axis_verdict (option_map (with_reading reading) (followed f motion)) }
 {
     follow(axis, motion);
     note_axis(axis, reading)
 }
 
-/// Whether a reading is present and shows that a plate lies at FeedIn under a green light, or that none is left at DepEnd
-/// under one.
+/// Whether a reading is present and shows that a plate lies at FeedIn under a green light, or that none is left at
+/// DepEnd under one.
 #[inline(always)]
 fn shows_sign(book: &Book, machine: Machine, reading: Option<Reading>) -> bool
     ensures { result ≡ shows_sign book.now.entries machine reading }
@@ -113,10 +117,14 @@ pub fn notice(
     plan: &Plan,
 ) -> Findings
     requires { watch.old.machine ≡ machine }
-    ensures axis { (f : Option Following) → FitsAxis watch.old.axis f → FitsAxis watch.new.axis (axis_noted book.now.entries watch.old.machine plan.now f reading) }
-    ensures at_axis { (f : Option Following) → FitsAxis watch.old.axis f → result.at_axis ≡ axis_verdict (axis_noted book.now.entries watch.old.machine plan.now f reading) }
-    ensures rest { (L : List Noted) → RestFits watch.old.rest L → RestFits watch.new.rest (rest_noted book.now.entries watch.old.machine watch.old.memory L reading) }
-    ensures at_rest { (L : List Noted) → RestFits watch.old.rest L → result.at_rest ≡ rest (rest_noted book.now.entries watch.old.machine watch.old.memory L reading) }
+    ensures axis { (f : Option Following) → FitsAxis watch.old.axis f
+        → FitsAxis watch.new.axis (axis_noted book.now.entries watch.old.machine plan.now f reading) }
+    ensures at_axis { (f : Option Following) → FitsAxis watch.old.axis f
+        → result.at_axis ≡ axis_verdict (axis_noted book.now.entries watch.old.machine plan.now f reading) }
+    ensures rest { (L : List Noted) → RestFits watch.old.rest L
+        → RestFits watch.new.rest (rest_noted book.now.entries watch.old.machine watch.old.memory L reading) }
+    ensures at_rest { (L : List Noted) → RestFits watch.old.rest L
+        → result.at_rest ≡ rest (rest_noted book.now.entries watch.old.machine watch.old.memory L reading) }
     ensures machine { watch.new.machine ≡ watch.old.machine }
     ensures motion { result.motion ≡ motion_of_machine book.now.entries plan.now watch.old.machine }
     ensures sign { result.sign ≡ shows_sign book.now.entries watch.old.machine reading }

@@ -59,7 +59,8 @@ pub fn begins_anew(machine: Machine, book: &Book, watch: &Watch) -> bool
 /// The watch of a motion ends where the motion has ended, or where the watches begin anew.
 #[inline(always)]
 fn end_axis(axis: &mut Option<AxisWatch>, anew: bool, booked: &Option<Entry>)
-    ensures { (f : Option Following) → FitsAxis axis.old f → FitsAxis axis.new (if anew || ends_motion booked.now then None else f) }
+    ensures { (f : Option Following) → FitsAxis axis.old f
+        → FitsAxis axis.new (if anew || ends_motion booked.now then None else f) }
 {
     if anew || ends_motion(booked) {
         *axis = None;
@@ -77,7 +78,8 @@ fn end_rest(machine: Machine, rest: &mut RestWatch, anew: bool)
     }
 }
 
-/// What the watch, which was `before` until this turn's reading was noted, keeps of a turn that left the book like this.
+/// What the watch, which was `before` until this turn's reading was noted, keeps of a turn that left the book like
+/// this.
 #[inline(always)]
 pub fn keep(
     machine: Machine,
@@ -90,9 +92,12 @@ pub fn keep(
 )
     requires same { before.now.machine ≡ machine }
     requires machine { watch.old.machine ≡ machine }
-    ensures axis { (f : Option Following) → FitsAxis watch.old.axis f → FitsAxis watch.new.axis (if anew || ends_motion booked.now then None else f) }
-    ensures rest { (L : List NotedValue) → RestFits watch.old.rest L → RestFits watch.new.rest (if anew then [] else L) }
-    ensures memory { watch.new.memory ≡ remembered book.now.entries before.now.machine (is_none booked.now && before.now.memory.command_failed) (not anew && (not before.now.memory.sign && sign)) }
+    ensures axis { (f : Option Following) → FitsAxis watch.old.axis f
+        → FitsAxis watch.new.axis (if anew || ends_motion booked.now then None else f) }
+    ensures rest { (L : List NotedValue) → RestFits watch.old.rest L
+        → RestFits watch.new.rest (if anew then [] else L) }
+    ensures memory { watch.new.memory ≡ remembered book.now.entries before.now.machine
+        (is_none booked.now && before.now.memory.command_failed) (not anew && (not before.now.memory.sign && sign)) }
     ensures machine { watch.new.machine ≡ watch.old.machine }
 {
     let kept = &before.memory;

@@ -1,5 +1,6 @@
 -- What the tests tell, as equations.
-use Rattle.std.proofs.Common.{◌≡◌, ℕ, Bool, true, false, ◌==◌, ◌&&◌, ◌||◌, not, List, [], ◌∷◌, ◌++◌, Option, Some, None, is_some, is_none, refl, sym, ap, ◌∙◌, eqb-true, get_or}
+use Rattle.std.proofs.Common.{◌≡◌, ℕ, Bool, true, false, ◌==◌, ◌&&◌, ◌||◌, not, List, [], ◌∷◌, ◌++◌, Option, Some, None}
+use Rattle.std.proofs.Common.{is_some, is_none, refl, sym, ap, ◌∙◌, eqb-true, get_or}
 use Rattle.cell_types.specs.declared.words.Machine.{Machine}
 use Rattle.cell_types.specs.declared.words.Station.{Station}
 use Rattle.cell_types.specs.declared.words.Axis.{Axis}
@@ -8,7 +9,9 @@ use Rattle.cell_types.specs.declared.words.Zone.{Zone}
 use Rattle.cell_types.specs.declared.words.Belt.{Belt}
 use Rattle.cell_types.specs.declared.words.Colour.{Colour}
 use Rattle.cell_types.specs.declared.words.AxisState.{AxisState}
-use Rattle.cell_types.specs.Same.{same_machine, same_station, same_axis, same_pose, same_zone, same_belt, same_colour, machine_number, station_number, axis_number, pose_number, zone_number, belt_number, colour_number}
+use Rattle.cell_types.specs.Same.{same_machine, same_station, same_axis, same_pose, same_zone, same_belt, same_colour}
+use Rattle.cell_types.specs.Same.{machine_number, station_number, axis_number, pose_number, zone_number, belt_number}
+use Rattle.cell_types.specs.Same.{colour_number}
 use Rattle.plate_book.specs.declared.refusal.Refusal.{Refusal}
 use Rattle.plate_book.specs.Rules.First.{first_true, is_pose, rests_at}
 use Rattle.cell_types.specs.After.{is_machine, Snapshot, is_plate}
@@ -26,10 +29,12 @@ machine_back _ = refl
 pub machine_same : (x y : Machine) → same_machine x y ≡ true → x ≡ y
 machine_same x y h =
     sym (machine_back x)
-    ∙ (ap (λ (n : ℕ). get_or all_machine n Machine.Feed) (eqb-true (machine_number x) (machine_number y) h) ∙ machine_back y)
+    ∙ (ap (λ (n : ℕ). get_or all_machine n Machine.Feed) (eqb-true (machine_number x) (machine_number y) h)
+    ∙ machine_back y)
 
 all_station : List Station
-all_station = Station.FeedIn ∷ Station.FeedEnd ∷ Station.Table ∷ Station.Arm1 ∷ Station.Arm2 ∷ Station.Press1 ∷ Station.Press2 ∷ Station.DepIn ∷ Station.DepEnd ∷ []
+all_station = Station.FeedIn ∷ Station.FeedEnd ∷ Station.Table ∷ Station.Arm1 ∷ Station.Arm2 ∷ Station.Press1
+    ∷ Station.Press2 ∷ Station.DepIn ∷ Station.DepEnd ∷ []
 
 station_back : (x : Station) → get_or all_station (station_number x) Station.FeedIn ≡ x
 unfolding all_station
@@ -39,10 +44,12 @@ station_back _ = refl
 pub station_same : (x y : Station) → same_station x y ≡ true → x ≡ y
 station_same x y h =
     sym (station_back x)
-    ∙ (ap (λ (n : ℕ). get_or all_station n Station.FeedIn) (eqb-true (station_number x) (station_number y) h) ∙ station_back y)
+    ∙ (ap (λ (n : ℕ). get_or all_station n Station.FeedIn) (eqb-true (station_number x) (station_number y) h)
+    ∙ station_back y)
 
 all_axis : List Axis
-all_axis = Axis.FeedBelt ∷ Axis.TableLift ∷ Axis.TableTurn ∷ Axis.RobotTurn ∷ Axis.ArmOne ∷ Axis.ArmTwo ∷ Axis.PressOne ∷ Axis.PressTwo ∷ Axis.DepositBelt ∷ []
+all_axis = Axis.FeedBelt ∷ Axis.TableLift ∷ Axis.TableTurn ∷ Axis.RobotTurn ∷ Axis.ArmOne ∷ Axis.ArmTwo ∷ Axis.PressOne
+    ∷ Axis.PressTwo ∷ Axis.DepositBelt ∷ []
 
 axis_back : (x : Axis) → get_or all_axis (axis_number x) Axis.FeedBelt ≡ x
 unfolding all_axis
@@ -55,7 +62,9 @@ axis_same x y h =
     ∙ (ap (λ (n : ℕ). get_or all_axis n Axis.FeedBelt) (eqb-true (axis_number x) (axis_number y) h) ∙ axis_back y)
 
 all_pose : List Pose
-all_pose = Pose.Rest ∷ Pose.ToEnd ∷ Pose.ToTable ∷ Pose.Low ∷ Pose.High ∷ Pose.Belt ∷ Pose.Robot ∷ Pose.Table1 ∷ Pose.P1Load ∷ Pose.P1Unload ∷ Pose.P2Load ∷ Pose.P2Unload ∷ Pose.Deposit2 ∷ Pose.In ∷ Pose.Out ∷ Pose.Middle ∷ Pose.Top ∷ Pose.Bottom ∷ []
+all_pose = Pose.Rest ∷ Pose.ToEnd ∷ Pose.ToTable ∷ Pose.Low ∷ Pose.High ∷ Pose.Belt ∷ Pose.Robot ∷ Pose.Table1
+    ∷ Pose.P1Load ∷ Pose.P1Unload ∷ Pose.P2Load ∷ Pose.P2Unload ∷ Pose.Deposit2 ∷ Pose.In ∷ Pose.Out ∷ Pose.Middle
+    ∷ Pose.Top ∷ Pose.Bottom ∷ []
 
 pose_back : (x : Pose) → get_or all_pose (pose_number x) Pose.Rest ≡ x
 unfolding all_pose
@@ -168,7 +177,8 @@ abbrev pub Passed : List (Bool × Refusal) → Type 0
 Passed [] = Unit {0}
 Passed (t ∷ ts) = (t.0 ≡ false) × Passed ts
 
-passed_case : (t : Bool × Refusal) (ts : List (Bool × Refusal)) (b : Bool) → t.0 ≡ b → first_true (t ∷ ts) ≡ None → (t.0 ≡ false) × (first_true ts ≡ None)
+passed_case : (t : Bool × Refusal) (ts : List (Bool × Refusal)) (b : Bool) → t.0 ≡ b → first_true (t ∷ ts) ≡ None
+    → (t.0 ≡ false) × (first_true ts ≡ None)
 unfolding first_true
 passed_case t ts false e h = (e, rw e at h)
 passed_case t ts true e h = let g = rw e at h in (cc, cc)
@@ -209,7 +219,8 @@ free s t h = not_some_tells (s.plate t) h
 pub plate_at : (s : Snapshot) (t : Station) (k : ℕ) → not (is_plate k (s.plate t)) ≡ false → s.plate t ≡ Some k
 plate_at s t k h = is_plate_tells k (s.plate t) (not_false (is_plate k (s.plate t)) h)
 
-pub no_other : (s : Snapshot) (t : Station) (j k : ℕ) → s.plate t ≡ Some j → (is_some (s.plate t) && not (is_plate k (s.plate t))) ≡ false → s.plate t ≡ Some k
+pub no_other : (s : Snapshot) (t : Station) (j k : ℕ) → s.plate t ≡ Some j
+    → (is_some (s.plate t) && not (is_plate k (s.plate t))) ≡ false → s.plate t ≡ Some k
 no_other s t j k e h =
     let g : not (is_plate k (Some j)) ≡ false = rw e at h in
     let i = eqb-true j k (not_false (j == k) g) in

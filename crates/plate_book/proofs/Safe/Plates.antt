@@ -1,5 +1,6 @@
 -- The part of the invariant that is about plates.
-use Rattle.std.proofs.Common.{◌≡◌, ◌≢◌, ℕ, ◌+◌, ◌≤◌, Bool, true, false, cond, ◌==◌, ◌&&◌, Option, Some, None, is_some, refl, sym, ap, ◌∙◌, eq-eqb, ne_eqb, arith, ◌⊎◌, inl, inr, if◌then◌else◌}
+use Rattle.std.proofs.Common.{◌≡◌, ◌≢◌, ℕ, ◌+◌, ◌≤◌, Bool, true, false, cond, ◌==◌, ◌&&◌, Option, Some, None, is_some}
+use Rattle.std.proofs.Common.{refl, sym, ap, ◌∙◌, eq-eqb, ne_eqb, arith, ◌⊎◌, inl, inr, if◌then◌else◌}
 use Rattle.cell_types.specs.declared.words.Machine.{Machine}
 use Rattle.cell_types.specs.declared.words.Station.{Station}
 use Rattle.cell_types.specs.declared.words.Axis.{Axis}
@@ -43,7 +44,8 @@ ends Axis.PressOne Pose.Middle = Some Station.Press1
 ends Axis.PressTwo Pose.Middle = Some Station.Press2
 ends _ _ = None
 
-pub record PlatesSafe (ax : Axes) (plate : Station → Option ℕ) (place : ℕ → Place) (marks : ℕ → ℕ) (n : ℕ) : Type 0 where
+pub record PlatesSafe (ax : Axes) (plate : Station → Option ℕ) (place : ℕ → Place) (marks : ℕ
+    → ℕ) (n : ℕ) : Type 0 where
   pub there : (t : Station) (k : ℕ) → plate t ≡ Some k → place k ≡ Place.At t
   pub here : (t : Station) (k : ℕ) → place k ≡ Place.At t → plate t ≡ Some k
   pub outside : (k : ℕ) → (k ≡ 0) ⊎ (n + 1 ≤ k) → place k ≡ Place.Nowhere
@@ -64,13 +66,16 @@ placed_same k v place = placed_same_case k v place (k == k) refl
 pub placed_other : (k : ℕ) (v : Place) (place : ℕ → Place) (j : ℕ) → j ≢ k → placed_at k v place j ≡ place j
 placed_other k v place j n = let e : (k == j) ≡ false = ne_eqb k j (λ d. n (sym d)) in rw e
 
-without_case : (k : ℕ) (plate : Station → Option ℕ) (t : Station) (j : ℕ) (o : Option ℕ) → plate t ≡ o → (if is_plate k o then None else o) ≡ Some j → (plate t ≡ Some j) × (j ≢ k)
+without_case : (k : ℕ) (plate : Station → Option ℕ) (t : Station) (j : ℕ) (o : Option ℕ) → plate t ≡ o
+    → (if is_plate k o then None else o) ≡ Some j → (plate t ≡ Some j) × (j ≢ k)
 without_case k plate t j o e f = grind (arith, pose_same)
 
-pub without_tells : (k : ℕ) (plate : Station → Option ℕ) (t : Station) (j : ℕ) → without k plate t ≡ Some j → (plate t ≡ Some j) × (j ≢ k)
+pub without_tells : (k : ℕ) (plate : Station → Option ℕ) (t : Station) (j : ℕ) → without k plate t ≡ Some j
+    → (plate t ≡ Some j) × (j ≢ k)
 without_tells k plate t j h = without_case k plate t j (plate t) refl h
 
-pub without_is : (k : ℕ) (plate : Station → Option ℕ) (t : Station) (j : ℕ) → plate t ≡ Some j → j ≢ k → without k plate t ≡ Some j
+pub without_is : (k : ℕ) (plate : Station → Option ℕ) (t : Station) (j : ℕ) → plate t ≡ Some j → j ≢ k
+    → without k plate t ≡ Some j
 without_is k plate t j e n = let f : (j == k) ≡ false = ne_eqb j k n in rw (e, f)
 
 -- what leaves makes nothing full
@@ -84,17 +89,22 @@ pub record Numbered (k n n' : ℕ) : Type 0 where
   pub grows : n ≤ n'
   pub others : (j : ℕ) → j ≢ k → j ≤ n' → j ≤ n
 
-outside_after : (place : ℕ → Place) (k n n' : ℕ) (v : Place) → Numbered k n n' → ((j : ℕ) → (j ≡ 0) ⊎ (n + 1 ≤ j) → place j ≡ Place.Nowhere) → (j : ℕ) → (j ≡ 0) ⊎ (n' + 1 ≤ j) → placed_at k v place j ≡ Place.Nowhere
+outside_after : (place : ℕ → Place) (k n n' : ℕ) (v : Place) → Numbered k n n'
+    → ((j : ℕ) → (j ≡ 0) ⊎ (n + 1 ≤ j) → place j ≡ Place.Nowhere) → (j : ℕ) → (j ≡ 0) ⊎ (n' + 1 ≤ j)
+    → placed_at k v place j ≡ Place.Nowhere
 outside_after place k n n' v e f j g = grind (arith, pose_same)
 
-inside_after : (place : ℕ → Place) (k n n' : ℕ) (v : Place) → v ≢ Place.Nowhere → Numbered k n n' → ((j : ℕ) → 1 ≤ j → j ≤ n → place j ≢ Place.Nowhere) → (j : ℕ) → 1 ≤ j → j ≤ n' → placed_at k v place j ≢ Place.Nowhere
+inside_after : (place : ℕ → Place) (k n n' : ℕ) (v : Place) → v ≢ Place.Nowhere → Numbered k n n'
+    → ((j : ℕ) → 1 ≤ j → j ≤ n → place j ≢ Place.Nowhere) → (j : ℕ) → 1 ≤ j → j ≤ n'
+    → placed_at k v place j ≢ Place.Nowhere
 inside_after place k n n' v nv w o j low high = go (cases_eq j k)
   where
     go : (j ≡ k) ⊎ (j ≡ k → ⊥) → placed_at k v place j ≢ Place.Nowhere
     go (inl e) = rw (e, placed_same k v place) nv
     go (inr ne) = rw (placed_other k v place j ne) (o j low (w.others j ne high))
 
-counted_after : (ax : Axes) (place : ℕ → Place) (marks : ℕ → ℕ) (k : ℕ) (v : Place) → Counted ax v (marks k) → ((j : ℕ) → Counted ax (place j) (marks j)) → (j : ℕ) → Counted ax (placed_at k v place j) (marks j)
+counted_after : (ax : Axes) (place : ℕ → Place) (marks : ℕ → ℕ) (k : ℕ) (v : Place) → Counted ax v (marks k)
+    → ((j : ℕ) → Counted ax (place j) (marks j)) → (j : ℕ) → Counted ax (placed_at k v place j) (marks j)
 counted_after ax place marks k v c o j = go (cases_eq j k)
   where
     go : (j ≡ k) ⊎ (j ≡ k → ⊥) → Counted ax (placed_at k v place j) (marks j)
@@ -108,7 +118,9 @@ station_yes s t e = eq-eqb (station_number s) (station_number t) (ap station_num
 pub with_plate_at : (k : ℕ) (s t : Station) (plate : Station → Option ℕ) → s ≡ t → with_plate k s plate t ≡ Some k
 with_plate_at k s t plate e = rw (station_yes s t e)
 
-there_case : (plate : Station → Option ℕ) (place : ℕ → Place) (k : ℕ) (s t : Station) (j : ℕ) (b : Bool) → same_station s t ≡ b → ((t : Station) (j : ℕ) → plate t ≡ Some j → place j ≡ Place.At t) → (if b then Some k else without k plate t) ≡ Some j → placed_at k (Place.At s) place j ≡ Place.At t
+there_case : (plate : Station → Option ℕ) (place : ℕ → Place) (k : ℕ) (s t : Station) (j : ℕ) (b : Bool)
+    → same_station s t ≡ b → ((t : Station) (j : ℕ) → plate t ≡ Some j → place j ≡ Place.At t)
+    → (if b then Some k else without k plate t) ≡ Some j → placed_at k (Place.At s) place j ≡ Place.At t
 there_case plate place k s t j true e o h =
     let i : k ≡ j = cc in
     rw (← i) (placed_same k (Place.At s) place ∙ ap Place.At (station_same s t e))
@@ -116,14 +128,19 @@ there_case plate place k s t j false e o h =
     let w = without_tells k plate t j h in
     placed_other k (Place.At s) place j w.1 ∙ o t j w.0
 
-here_case : (plate : Station → Option ℕ) (k : ℕ) (s t : Station) (j : ℕ) (b : Bool) → same_station s t ≡ b → plate s ≡ None → plate t ≡ Some j → j ≢ k → (if b then Some k else without k plate t) ≡ Some j
+here_case : (plate : Station → Option ℕ) (k : ℕ) (s t : Station) (j : ℕ) (b : Bool) → same_station s t ≡ b
+    → plate s ≡ None → plate t ≡ Some j → j ≢ k → (if b then Some k else without k plate t) ≡ Some j
 here_case plate k s t j b e f g p = grind (arith, pose_same)
 
-clear_case : (plate : Station → Option ℕ) (k : ℕ) (s t : Station) (b : Bool) → same_station s t ≡ b → s ≢ t → plate t ≡ None → (if b then Some k else without k plate t) ≡ None
+clear_case : (plate : Station → Option ℕ) (k : ℕ) (s t : Station) (b : Bool) → same_station s t ≡ b → s ≢ t
+    → plate t ≡ None → (if b then Some k else without k plate t) ≡ None
 clear_case plate k s t b e f g = grind (arith, pose_same)
 
 -- Plate k comes to station s, and leaves every other.
-pub plates_placed : (ax : Axes) (plate : Station → Option ℕ) (place : ℕ → Place) (marks : ℕ → ℕ) (n n' k : ℕ) (s : Station) → PlatesSafe ax plate place marks n → Numbered k n n' → plate s ≡ None → marks k ≡ stage ax s → ((a : Axis) (q : Pose) → (ax a).going ≡ Some q → ends a q ≢ Some s) → PlatesSafe ax (with_plate k s plate) (placed_at k (Place.At s) place) marks n'
+pub plates_placed : (ax : Axes) (plate : Station → Option ℕ) (place : ℕ → Place) (marks : ℕ
+    → ℕ) (n n' k : ℕ) (s : Station) → PlatesSafe ax plate place marks n → Numbered k n n' → plate s ≡ None
+    → marks k ≡ stage ax s → ((a : Axis) (q : Pose) → (ax a).going ≡ Some q → ends a q ≢ Some s)
+    → PlatesSafe ax (with_plate k s plate) (placed_at k (Place.At s) place) marks n'
 plates_placed ax plate place marks n n' k s o w f m c =
     record {
       there = λ t j h. there_case plate place k s t j (same_station s t) refl o.there h;
@@ -131,10 +148,12 @@ plates_placed ax plate place marks n n' k s o w f m c =
       outside = outside_after place k n n' (Place.At s) w o.outside;
       inside = inside_after place k n n' (Place.At s) (λ e. cc) w o.inside;
       counted = counted_after ax place marks k (Place.At s) m o.counted;
-      clear = λ a q t g e. clear_case plate k s t (same_station s t) refl (λ d. c a q g (e ∙ ap Some (sym d))) (o.clear a q t g e);
+      clear = λ a q t g e. clear_case plate k s t (same_station s t) refl (λ d. c a q g (e ∙ ap Some (sym d)))
+          (o.clear a q t g e);
     }
   where
-    go : (t : Station) (j : ℕ) → placed_at k (Place.At s) place j ≡ Place.At t → (j ≡ k) ⊎ (j ≡ k → ⊥) → with_plate k s plate t ≡ Some j
+    go : (t : Station) (j : ℕ) → placed_at k (Place.At s) place j ≡ Place.At t → (j ≡ k) ⊎ (j ≡ k → ⊥)
+        → with_plate k s plate t ≡ Some j
     go t j h (inl e) =
         let p : placed_at k (Place.At s) place j ≡ Place.At s = rw e (placed_same k (Place.At s) place) in
         let d : s ≡ t = cc in
@@ -144,7 +163,9 @@ plates_placed ax plate place marks n n' k s o w f m c =
         here_case plate k s t j (same_station s t) refl f (o.here t j (sym p ∙ h)) ne
 
 -- Plate k leaves the stations.
-pub plates_left : (ax : Axes) (plate : Station → Option ℕ) (place : ℕ → Place) (marks : ℕ → ℕ) (n k : ℕ) (v : Place) → PlatesSafe ax plate place marks n → Numbered k n n → ((t : Station) → v ≢ Place.At t) → v ≢ Place.Nowhere → Counted ax v (marks k) → PlatesSafe ax (without k plate) (placed_at k v place) marks n
+pub plates_left : (ax : Axes) (plate : Station → Option ℕ) (place : ℕ → Place) (marks : ℕ → ℕ) (n k : ℕ) (v : Place)
+    → PlatesSafe ax plate place marks n → Numbered k n n → ((t : Station) → v ≢ Place.At t) → v ≢ Place.Nowhere
+    → Counted ax v (marks k) → PlatesSafe ax (without k plate) (placed_at k v place) marks n
 plates_left ax plate place marks n k v o w nt nv m =
     record {
       there = λ t j h. let d = without_tells k plate t j h in placed_other k v place j d.1 ∙ o.there t j d.0;
@@ -164,60 +185,87 @@ plates_left ax plate place marks n k v o w nt nv m =
         without_is k plate t j (o.here t j (sym p ∙ h)) ne
 
 -- a plate that is somewhere has a number
-pub numbered : (place : ℕ → Place) (n k : ℕ) → ((j : ℕ) → (j ≡ 0) ⊎ (n + 1 ≤ j) → place j ≡ Place.Nowhere) → place k ≢ Place.Nowhere → Numbered k n n
+pub numbered : (place : ℕ → Place) (n k : ℕ) → ((j : ℕ) → (j ≡ 0) ⊎ (n + 1 ≤ j) → place j ≡ Place.Nowhere)
+    → place k ≢ Place.Nowhere → Numbered k n n
 numbered place n k e f = grind (arith, pose_same)
 
 -- The axes change.
-pub stage_same : (ax ax' : Axes) (t : Station) → (ax' Axis.PressOne).at ≡ (ax Axis.PressOne).at → (ax' Axis.PressTwo).at ≡ (ax Axis.PressTwo).at → stage ax' t ≡ stage ax t
+pub stage_same : (ax ax' : Axes) (t : Station) → (ax' Axis.PressOne).at ≡ (ax Axis.PressOne).at
+    → (ax' Axis.PressTwo).at ≡ (ax Axis.PressTwo).at → stage ax' t ≡ stage ax t
 stage_same ax ax' t e f = grind (arith, pose_same)
 
-counted_axes : (ax ax' : Axes) (plate : Station → Option ℕ) (j m : ℕ) (p : Place) → ((t : Station) → p ≡ Place.At t → plate t ≡ Some j) → ((t : Station) → (stage ax' t ≡ stage ax t) ⊎ (plate t ≡ None)) → Counted ax p m → Counted ax' p m
+counted_axes : (ax ax' : Axes) (plate : Station → Option ℕ) (j m : ℕ) (p : Place)
+    → ((t : Station) → p ≡ Place.At t → plate t ≡ Some j)
+    → ((t : Station) → (stage ax' t ≡ stage ax t) ⊎ (plate t ≡ None)) → Counted ax p m → Counted ax' p m
 counted_axes ax ax' plate j m p e f g = grind (arith, pose_same)
 
-pub plates_axes : (ax ax' : Axes) (plate : Station → Option ℕ) (place : ℕ → Place) (marks : ℕ → ℕ) (n : ℕ) → PlatesSafe ax plate place marks n → ((t : Station) → (stage ax' t ≡ stage ax t) ⊎ (plate t ≡ None)) → ((a : Axis) (q : Pose) (t : Station) → (ax' a).going ≡ Some q → ends a q ≡ Some t → plate t ≡ None) → PlatesSafe ax' plate place marks n
+pub plates_axes : (ax ax' : Axes) (plate : Station → Option ℕ) (place : ℕ → Place) (marks : ℕ → ℕ) (n : ℕ)
+    → PlatesSafe ax plate place marks n → ((t : Station) → (stage ax' t ≡ stage ax t) ⊎ (plate t ≡ None))
+    → ((a : Axis) (q : Pose) (t : Station) → (ax' a).going ≡ Some q → ends a q ≡ Some t → plate t ≡ None)
+    → PlatesSafe ax' plate place marks n
 plates_axes ax ax' plate place marks n e f g = grind (arith, pose_same)
 
 -- an axis starts: it has the pose that it leaves
-begun_at : (ax : Axes) (a y : Axis) (to : Pose) (b : Bool) → same_axis a y ≡ b → (cond b (going_to (ax a).at to) (ax y)).at ≡ (ax y).at
+begun_at : (ax : Axes) (a y : Axis) (to : Pose) (b : Bool) → same_axis a y ≡ b
+    → (cond b (going_to (ax a).at to) (ax y)).at ≡ (ax y).at
 begun_at ax a y to b e = grind (arith, pose_same)
 
-begun_clear : (ax : Axes) (plate : Station → Option ℕ) (a y : Axis) (to q : Pose) (t : Station) (b : Bool) → same_axis a y ≡ b → (ends a to ≡ Some t → plate t ≡ None) → ((ax y).going ≡ Some q → plate t ≡ None) → (cond b (going_to (ax a).at to) (ax y)).going ≡ Some q → ends y q ≡ Some t → plate t ≡ None
+begun_clear : (ax : Axes) (plate : Station → Option ℕ) (a y : Axis) (to q : Pose) (t : Station) (b : Bool)
+    → same_axis a y ≡ b → (ends a to ≡ Some t → plate t ≡ None) → ((ax y).going ≡ Some q → plate t ≡ None)
+    → (cond b (going_to (ax a).at to) (ax y)).going ≡ Some q → ends y q ≡ Some t → plate t ≡ None
 begun_clear ax plate a y to q t b e f g p r = grind (arith, pose_same)
 
-pub plates_begun : (ax : Axes) (a : Axis) (to : Pose) (plate : Station → Option ℕ) (place : ℕ → Place) (marks : ℕ → ℕ) (n : ℕ) → PlatesSafe ax plate place marks n → ((t : Station) → ends a to ≡ Some t → plate t ≡ None) → PlatesSafe (begun ax a to) plate place marks n
+pub plates_begun : (ax : Axes) (a : Axis) (to : Pose) (plate : Station → Option ℕ) (place : ℕ → Place) (marks : ℕ
+    → ℕ) (n : ℕ) → PlatesSafe ax plate place marks n → ((t : Station) → ends a to ≡ Some t → plate t ≡ None)
+    → PlatesSafe (begun ax a to) plate place marks n
 plates_begun ax a to plate place marks n o w =
     plates_axes ax (begun ax a to) plate place marks n o
-    (λ t. inl (stage_same ax (begun ax a to) t (begun_at ax a Axis.PressOne to (same_axis a Axis.PressOne) refl) (begun_at ax a Axis.PressTwo to (same_axis a Axis.PressTwo) refl)))
+    (λ t. inl (stage_same ax (begun ax a to) t (begun_at ax a Axis.PressOne to (same_axis a Axis.PressOne) refl)
+    (begun_at ax a Axis.PressTwo to (same_axis a Axis.PressTwo) refl)))
     (λ y q t g e. begun_clear ax plate a y to q t (same_axis a y) refl (w t) (λ d. o.clear y q t d e) g e)
 
 -- where a motion ends is empty when it starts
-pub start_clear : (s : Snapshot) (a : Axis) (to : Pose) (t : Station) → Passed (started_tests (situation_in s) a to) → ends a to ≡ Some t → s.plate t ≡ None
+pub start_clear : (s : Snapshot) (a : Axis) (to : Pose) (t : Station) → Passed (started_tests (situation_in s) a to)
+    → ends a to ≡ Some t → s.plate t ≡ None
 start_clear s a to t e f = grind (arith, pose_same)
 
 -- an axis comes to rest
-pub rests_clear : (ax : Axes) (plate : Station → Option ℕ) (a y : Axis) (p q : Pose) (t : Station) (b : Bool) → same_axis a y ≡ b → ((ax y).going ≡ Some q → plate t ≡ None) → (cond b (rest p) (ax y)).going ≡ Some q → plate t ≡ None
+pub rests_clear : (ax : Axes) (plate : Station → Option ℕ) (a y : Axis) (p q : Pose) (t : Station) (b : Bool)
+    → same_axis a y ≡ b → ((ax y).going ≡ Some q → plate t ≡ None) → (cond b (rest p) (ax y)).going ≡ Some q
+    → plate t ≡ None
 rests_clear ax plate a y p q t b e f g = grind (arith, pose_same)
 
-pub plates_rests : (ax : Axes) (a : Axis) (p : Pose) (plate : Station → Option ℕ) (place : ℕ → Place) (marks : ℕ → ℕ) (n : ℕ) → PlatesSafe ax plate place marks n → ((t : Station) → (stage (with_at (same_axis a) (rest p) ax) t ≡ stage ax t) ⊎ (plate t ≡ None)) → PlatesSafe (with_at (same_axis a) (rest p) ax) plate place marks n
+pub plates_rests : (ax : Axes) (a : Axis) (p : Pose) (plate : Station → Option ℕ) (place : ℕ → Place) (marks : ℕ
+    → ℕ) (n : ℕ) → PlatesSafe ax plate place marks n
+    → ((t : Station) → (stage (with_at (same_axis a) (rest p) ax) t ≡ stage ax t) ⊎ (plate t ≡ None))
+    → PlatesSafe (with_at (same_axis a) (rest p) ax) plate place marks n
 plates_rests ax a p plate place marks n o w =
     plates_axes ax (with_at (same_axis a) (rest p) ax) plate place marks n o w
     (λ y q t g e. rests_clear ax plate a y p q t (same_axis a y) refl (λ d. o.clear y q t d e) g)
 
 -- a press arrives: empty at Middle, with a forged plate at Bottom
-press_arrives : (q p : Pose) → press_goes q p ≡ true → p ≢ Pose.Top → (p ≡ Pose.Middle) ⊎ (press_stage p ≡ press_stage q)
+press_arrives : (q p : Pose) → press_goes q p ≡ true → p ≢ Pose.Top
+    → (p ≡ Pose.Middle) ⊎ (press_stage p ≡ press_stage q)
 press_arrives q p e f = grind (arith, pose_same)
 
-pub arrived_stage : (ax : Axes) (a : Axis) (p : Pose) (plate : Station → Option ℕ) (t : Station) → (ax a).going ≡ Some p → may_go a (ax a).at p ≡ true → ends_by_arrival a p ≡ true → ((t : Station) → ends a p ≡ Some t → plate t ≡ None) → (stage (with_at (same_axis a) (rest p) ax) t ≡ stage ax t) ⊎ (plate t ≡ None)
+pub arrived_stage : (ax : Axes) (a : Axis) (p : Pose) (plate : Station → Option ℕ) (t : Station) → (ax a).going ≡ Some p
+    → may_go a (ax a).at p ≡ true → ends_by_arrival a p ≡ true → ((t : Station) → ends a p ≡ Some t → plate t ≡ None)
+    → (stage (with_at (same_axis a) (rest p) ax) t ≡ stage ax t) ⊎ (plate t ≡ None)
 arrived_stage ax a p plate t e f g q = grind (arith, pose_same)
 
 -- A machine is repaired: its stations are empty.
-homed_clear : (ax : Axes) (plate : Station → Option ℕ) (y : Axis) (q : Pose) (t : Station) (b : Bool) → ((ax y).going ≡ Some q → plate t ≡ None) → (cond b (rest (home y)) (ax y)).going ≡ Some q → plate t ≡ None
+homed_clear : (ax : Axes) (plate : Station → Option ℕ) (y : Axis) (q : Pose) (t : Station) (b : Bool)
+    → ((ax y).going ≡ Some q → plate t ≡ None) → (cond b (rest (home y)) (ax y)).going ≡ Some q → plate t ≡ None
 homed_clear ax plate y q t b e f = grind (arith, pose_same)
 
-homed_stage : (ax : Axes) (m : Machine) (plate : Station → Option ℕ) (t : Station) → (same_machine (machine_of_station t) m ≡ true → plate t ≡ None) → (stage (homed ax m) t ≡ stage ax t) ⊎ (plate t ≡ None)
+homed_stage : (ax : Axes) (m : Machine) (plate : Station → Option ℕ) (t : Station)
+    → (same_machine (machine_of_station t) m ≡ true → plate t ≡ None) → (stage (homed ax m) t ≡ stage ax t)
+    ⊎ (plate t ≡ None)
 homed_stage ax m plate t e = grind (arith, pose_same)
 
-pub plates_homed : (ax : Axes) (m : Machine) (plate : Station → Option ℕ) (place : ℕ → Place) (marks : ℕ → ℕ) (n : ℕ) → PlatesSafe ax plate place marks n → ((t : Station) → same_machine (machine_of_station t) m ≡ true → plate t ≡ None) → PlatesSafe (homed ax m) plate place marks n
+pub plates_homed : (ax : Axes) (m : Machine) (plate : Station → Option ℕ) (place : ℕ → Place) (marks : ℕ → ℕ) (n : ℕ)
+    → PlatesSafe ax plate place marks n → ((t : Station) → same_machine (machine_of_station t) m ≡ true
+    → plate t ≡ None) → PlatesSafe (homed ax m) plate place marks n
 plates_homed ax m plate place marks n o f =
     plates_axes ax (homed ax m) plate place marks n o
     (λ t. homed_stage ax m plate t (f t))
@@ -227,7 +275,8 @@ plates_homed ax m plate place marks n o f =
 still_case : (s : Snapshot) (t : Station) (b : Bool) → (b && is_some (s.plate t)) ≡ false → b ≡ true → s.plate t ≡ None
 still_case s t b e f = grind (arith, pose_same)
 
-pub emptied : (s : Snapshot) (m : Machine) → Passed (any_still_there (situation_in s) m) → (t : Station) → same_machine (machine_of_station t) m ≡ true → s.plate t ≡ None
+pub emptied : (s : Snapshot) (m : Machine) → Passed (any_still_there (situation_in s) m) → (t : Station)
+    → same_machine (machine_of_station t) m ≡ true → s.plate t ≡ None
 unfolding any_still_there
 emptied s m e t f = grind (arith, pose_same)
 
@@ -241,10 +290,14 @@ forged_other k j marks n = let e : (k == j) ≡ false = ne_eqb k j (λ d. n (sym
 pub forged_same : (k : ℕ) (marks : ℕ → ℕ) → forged_at k marks k ≡ marks k + 1
 forged_same k marks = let e : (k == k) ≡ true = eq-eqb k k refl in rw e
 
-counted_axes_but : (ax ax' : Axes) (j m : ℕ) (p : Place) (t : Station) → (p ≡ Place.At t → ⊥) → ((u : Station) → u ≢ t → stage ax' u ≡ stage ax u) → Counted ax p m → Counted ax' p m
+counted_axes_but : (ax ax' : Axes) (j m : ℕ) (p : Place) (t : Station) → (p ≡ Place.At t → ⊥)
+    → ((u : Station) → u ≢ t → stage ax' u ≡ stage ax u) → Counted ax p m → Counted ax' p m
 counted_axes_but ax ax' j m p t e f g = grind (arith, pose_same)
 
-pub forged_counted : (ax ax' : Axes) (plate : Station → Option ℕ) (place : ℕ → Place) (marks : ℕ → ℕ) (n k : ℕ) (t : Station) → PlatesSafe ax plate place marks n → plate t ≡ Some k → stage ax t ≡ 0 → stage ax' t ≡ 1 → ((u : Station) → u ≢ t → stage ax' u ≡ stage ax u) → (j : ℕ) → Counted ax' (place j) (forged_at k marks j)
+pub forged_counted : (ax ax' : Axes) (plate : Station → Option ℕ) (place : ℕ → Place) (marks : ℕ
+    → ℕ) (n k : ℕ) (t : Station) → PlatesSafe ax plate place marks n → plate t ≡ Some k → stage ax t ≡ 0
+    → stage ax' t ≡ 1 → ((u : Station) → u ≢ t → stage ax' u ≡ stage ax u) → (j : ℕ)
+    → Counted ax' (place j) (forged_at k marks j)
 forged_counted ax ax' plate place marks n k t o e z one w j = go (cases_eq j k)
   where
     go : (j ≡ k) ⊎ (j ≡ k → ⊥) → Counted ax' (place j) (forged_at k marks j)
@@ -270,5 +323,6 @@ Ending ax _ = ⊥
 ending : (ax : Axes) (a : Axis) (q : Pose) (t : Station) → (ax a).going ≡ Some q → ends a q ≡ Some t → Ending ax t
 ending ax a q t e f = grind (arith, pose_same)
 
-pub no_end : (ax : Axes) (t : Station) → (Ending ax t → ⊥) → (a : Axis) (q : Pose) → (ax a).going ≡ Some q → ends a q ≢ Some t
+pub no_end : (ax : Axes) (t : Station) → (Ending ax t → ⊥) → (a : Axis) (q : Pose) → (ax a).going ≡ Some q
+    → ends a q ≢ Some t
 no_end ax t n a q g e = n (ending ax a q t g e)

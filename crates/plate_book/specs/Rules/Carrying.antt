@@ -1,4 +1,5 @@
--- What a healthy machine that moves carries: a belt the plate of its motion's first station, a press that goes to Top a plate
+-- What a healthy machine that moves carries: a belt the plate of its motion's first station, a press that goes to Top a
+-- plate
 use Rattle.std.specs.Prelude.{◌≡◌, true, false, Option, Some, None, List}
 use Rattle.cell_types.specs.declared.words.Station.{Station}
 use Rattle.cell_types.specs.declared.words.Axis.{Axis}
@@ -21,4 +22,5 @@ carries_from _ _ = None
 
 -- where an axis of a healthy machine goes with a motion that carries a plate, that plate is there
 abbrev pub IsCarrying : List Entry → Type 0
-IsCarrying J = (a : Axis) (to : Pose) (s : Station) → going_of J a ≡ Some to → carries_from a to ≡ Some s → is_failed J (machine_of_axis a) ≡ false → is_occupied J s ≡ true
+IsCarrying J = (a : Axis) (to : Pose) (s : Station) → going_of J a ≡ Some to → carries_from a to ≡ Some s
+    → is_failed J (machine_of_axis a) ≡ false → is_occupied J s ≡ true

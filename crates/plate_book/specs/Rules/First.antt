@@ -1,5 +1,6 @@
 -- Which entries are refused, and by which test: for each kind of entry its tests in the order of the refusals
-use Rattle.std.specs.Prelude.{ℕ, ◌==◌, ◌+◌, nat_le, Bool, true, false, not, ◌&&◌, ◌||◌, Option, Some, None, is_some, is_none, List, [], ◌∷◌, ◌++◌, if◌then◌else◌}
+use Rattle.std.specs.Prelude.{ℕ, ◌==◌, ◌+◌, nat_le, Bool, true, false, not, ◌&&◌, ◌||◌, Option, Some, None, is_some}
+use Rattle.std.specs.Prelude.{is_none, List, [], ◌∷◌, ◌++◌, if◌then◌else◌}
 use Rattle.cell_types.specs.declared.words.Machine.{Machine}
 use Rattle.cell_types.specs.declared.words.Machine.TheVariants as machine
 use Rattle.cell_types.specs.declared.words.Station.{Station}
@@ -17,16 +18,25 @@ use Rattle.cell_types.specs.declared.words.Belt.TheVariants as belt
 use Rattle.cell_types.specs.declared.words.Colour.{Colour}
 use Rattle.cell_types.specs.declared.words.Colour.TheVariants as colour
 use Rattle.cell_types.specs.declared.words.Entry.{Entry}
-use Rattle.cell_types.specs.declared.words.Entry.TheVariants.{Lamp, Admitted, Claimed, Yielded, Started, Arrived, Conveyed, Forged, Gripped, Dropped, Delivered, Declared, StopAsked, Quarantined, Repaired, Expected, Reinstated}
+use Rattle.cell_types.specs.declared.words.Entry.TheVariants.{Lamp, Admitted, Claimed, Yielded, Started, Arrived}
+use Rattle.cell_types.specs.declared.words.Entry.TheVariants.{Conveyed, Forged, Gripped, Dropped, Delivered, Declared}
+use Rattle.cell_types.specs.declared.words.Entry.TheVariants.{StopAsked, Quarantined, Repaired, Expected, Reinstated}
 use Rattle.cell_types.specs.Same.{same_machine, same_station, same_pose, same_colour}
 use Rattle.cell_types.specs.declared.cell.BeltMotion.{BeltMotion}
-use Rattle.cell_types.specs.Cell.{machine_of_axis, machine_of_station, is_before_press, machine_of_belt, is_pose_of, owner, visitor, axis_of_arm, station_of_arm, motion_to, Faced, faced, grips_at, drops_at}
+use Rattle.cell_types.specs.Cell.{machine_of_axis, machine_of_station, is_before_press, machine_of_belt, is_pose_of}
+use Rattle.cell_types.specs.Cell.{owner, visitor, axis_of_arm, station_of_arm, motion_to, Faced, faced, grips_at}
+use Rattle.cell_types.specs.Cell.{drops_at}
 use Rattle.cell_types.specs.After.{is_machine, is_plate}
 use Rattle.cell_journal.specs.Stored.{is_full}
 use Rattle.cell_views.specs.Situations.{Situation}
 use Rattle.plate_book.specs.declared.limits.BookLimits.{BookLimits}
 use Rattle.plate_book.specs.declared.refusal.Refusal.{Refusal}
-use Rattle.plate_book.specs.declared.refusal.Refusal.TheVariants.{JournalFull, PlateLimit, MachineFailed, MachineHealthy, OwnerFailed, WrongPose, ZoneTaken, NotHolder, NotNeighbour, StationEmpty, StationFull, WrongPlate, LampRed, LampAlready, NoPress, AlreadyAsked, PlateStillThere, PlateExpected, NotReturnable}
+use Rattle.plate_book.specs.declared.refusal.Refusal.TheVariants.{JournalFull, PlateLimit, MachineFailed}
+use Rattle.plate_book.specs.declared.refusal.Refusal.TheVariants.{MachineHealthy, OwnerFailed, WrongPose, ZoneTaken}
+use Rattle.plate_book.specs.declared.refusal.Refusal.TheVariants.{NotHolder, NotNeighbour, StationEmpty, StationFull}
+use Rattle.plate_book.specs.declared.refusal.Refusal.TheVariants.{WrongPlate, LampRed, LampAlready, NoPress}
+use Rattle.plate_book.specs.declared.refusal.Refusal.TheVariants.{AlreadyAsked, PlateStillThere, PlateExpected}
+use Rattle.plate_book.specs.declared.refusal.Refusal.TheVariants.{NotReturnable}
 
 -- a condition, and the refusal where it holds
 abbrev pub Test : Type 0
@@ -191,7 +201,8 @@ abbrev pub outward_tests : Situation → Axis → Option Faced → List (Bool ×
 outward_tests c a None = (true, WrongPose axis.RobotTurn) ∷ []
 outward_tests c a (Some f) =
     owner_failed c f.owner
-    ∷ (all_resting c f.before ++ not_resting_at c a pose.In ∷ all_resting c f.after ++ not_holder c machine.Robot f.zone ∷ [])
+    ∷ (all_resting c f.before ++ not_resting_at c a pose.In ∷ all_resting c f.after ++ not_holder c machine.Robot f.zone
+    ∷ [])
 
 abbrev pub arm_tests : Situation → Arm → Pose → List (Bool × Refusal)
 arm_tests c arm pose.Out = outward_tests c (axis_of_arm arm) (faces c arm)

@@ -32,8 +32,8 @@ abbrev pub still_waiting : Option (ℕ × Station) → List Entry → Option (�
 still_waiting (Some p) later = when (not (list_any (ends_waiting p.0) later)) p
 still_waiting None later = None
 
--- the plates that were cleared and not laid back, in the order of their last clearing, each with the station from which it
--- was taken then
+-- the plates that were cleared and not laid back, in the order of their last clearing, each with the station from which
+-- it was taken then
 abbrev pub quarantine_of : List Entry → List (ℕ × Station)
 quarantine_of [] = []
 quarantine_of (e ∷ later) = cons_option (still_waiting (clears e) later) (quarantine_of later)

@@ -4,7 +4,12 @@ use Rattle.cell_types.specs.Texts.{machine_word, axis_word, zone_word, station_w
 use Rattle.plate_book.specs.declared.open_error.OpenError.{OpenError}
 use Rattle.plate_book.specs.declared.open_error.OpenError.TheVariants as opening
 use Rattle.plate_book.specs.declared.refusal.Refusal.{Refusal}
-use Rattle.plate_book.specs.declared.refusal.Refusal.TheVariants.{JournalFull, PlateLimit, MachineFailed, MachineHealthy, OwnerFailed, WrongPose, ZoneTaken, NotHolder, NotNeighbour, StationEmpty, StationFull, WrongPlate, LampRed, LampAlready, NoPress, AlreadyAsked, PlateStillThere, PlateExpected, NotReturnable, OutOfMemory}
+use Rattle.plate_book.specs.declared.refusal.Refusal.TheVariants.{JournalFull, PlateLimit, MachineFailed}
+use Rattle.plate_book.specs.declared.refusal.Refusal.TheVariants.{MachineHealthy, OwnerFailed, WrongPose, ZoneTaken}
+use Rattle.plate_book.specs.declared.refusal.Refusal.TheVariants.{NotHolder, NotNeighbour, StationEmpty, StationFull}
+use Rattle.plate_book.specs.declared.refusal.Refusal.TheVariants.{WrongPlate, LampRed, LampAlready, NoPress}
+use Rattle.plate_book.specs.declared.refusal.Refusal.TheVariants.{AlreadyAsked, PlateStillThere, PlateExpected}
+use Rattle.plate_book.specs.declared.refusal.Refusal.TheVariants.{NotReturnable, OutOfMemory}
 
 abbrev pub refusal_name : Refusal → List ℕ
 refusal_name JournalFull = codes "JournalFull"

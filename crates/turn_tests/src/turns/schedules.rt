@@ -468,7 +468,8 @@ fn is_nothing(ran: &Ran) -> bool {
         && ran.operator.is_empty()
 }
 
-// A turn that is refused: the book, the shares, the machine's watch, the lists and the ports are as they were before it.
+// A turn that is refused: the book, the shares, the machine's watch, the lists and the ports are as they were before
+// it.
 fn check_refused<R: Run, P: Port + Drop, O: OperatorPort + Drop>(
     rt: &impl Abort,
     alloc: Global,

@@ -21,8 +21,8 @@ const PRESSES: &str = "\
     press1 1 0 0 0; press2 1 0 0 0; started,press_two,top; press2 1 0 0 0; press2 0 0 0 0; press2 2 0 0 0; \
     press2 2 0 0 0; press1 1 0 0 0";
 
-// A stop before any reading, one after the first, one between two poses, and one at the end. A motion that is turned off
-// goes on, and one to a pose that the axis lacks doesn't begin.
+// A stop before any reading, one after the first, one between two poses, and one at the end. A motion that is turned
+// off goes on, and one to a pose that the axis lacks doesn't begin.
 const STOPS: &str = "\
     started,press_one,top; stop press1; press1 1 0 0 0; press1 1 0 0 0; started,press_one,top; press1 1 0 0 0; \
     stop press1; press1 1 0 0 0; press1 1 0 0 0; started,press_one,top; press1 any 2; stop press1; \

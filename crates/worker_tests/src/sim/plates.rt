@@ -47,7 +47,8 @@ const TURN_LOSES: &str = "\
     started,arm_two,out; robot 1 2 1 1; robot 1 2 0 1; started,robot_turn,p2_load; robot 1 2 2 1; \
     robot 0 2 2 0";
 
-// An arm is out at the table: each motion of the table counts, and no other. The arm is out until it shows that it is in.
+// An arm is out at the table: each motion of the table counts, and no other. The arm is out until it shows that it is
+// in.
 const AT_THE_TABLE: &str = "\
     started,arm_one,out; robot any 2; started,table_lift,high; collisions 0; robot any 1; \
     started,table_turn,robot; collisions 1; started,press_one,top; started,deposit_belt,to_end; \

@@ -10,8 +10,8 @@ use cell_types::{Command, Machine, command_of};
 use std::process::Abort;
 use std::sync::{Mutex, Wait};
 
-/// A way in a new world: how many plates are laid in it at most, the script of its faults, and the way's parts. A part is
-/// a text of steps, parted by a semicolon and a blank:
+/// A way in a new world: how many plates are laid in it at most, the script of its faults, and the way's parts. A part
+/// is a text of steps, parted by a semicolon and a blank:
 ///
 /// ```text
 /// started,press_one,top      the command of this entry is carried out; blank fields at its end are left out
@@ -77,8 +77,8 @@ fn is_shown<P: Port>(rt: &impl Abort, port: &mut P, wanted: &str) -> bool {
     port.read() == Some(Reading { switches, presence })
 }
 
-/// Takes a step by a port and the operator's hands in a world, and says whether it is met. A command names its own part of
-/// the cell, so that any port takes it.
+/// Takes a step by a port and the operator's hands in a world, and says whether it is met. A command names its own part
+/// of the cell, so that any port takes it.
 pub(crate) fn is_met<P: Port, O: OperatorPort, R: Abort + Wait>(
     rt: &R,
     world: &Mutex<World>,

@@ -64,8 +64,8 @@ const FEEDS_NOTHING: Work<'static> = Work {
     length: 0,
 };
 
-/// All others are lost, so the feed belt's worker works until it has nothing to do, and sets the end then. What it books is
-/// what comes first in the journal of one plate.
+/// All others are lost, so the feed belt's worker works until it has nothing to do, and sets the end then. What it
+/// books is what comes first in the journal of one plate.
 pub(crate) const FEEDS_ONE_PLATE: Work<'static> = Work {
     name: "feeds one plate",
     before: (None, NONE, ALL_BUT_FEED),
@@ -157,8 +157,8 @@ const FILLS_THE_JOURNAL: Work<'static> = Work {
     ..FEEDS_NOTHING
 };
 
-// An end that is set while the port is read comes before the turn. One that is set while the only turn's command is sent
-// comes before the limit of turns. The lock is free both times, else the port would wait forever.
+// An end that is set while the port is read comes before the turn. One that is set while the only turn's command is
+// sent comes before the limit of turns. The lock is free both times, else the port would wait forever.
 const ENDS_AT_A_READING: Work<'static> = Work {
     name: "ends at a reading",
     who: Who::Machine(Serving {

@@ -27,8 +27,8 @@ pub(crate) fn plan_of(rt: &impl Abort, plates: u32, journal_limit: u32, turns: u
     }
 }
 
-/// The operator's script of a text. In a run that refuses one allocation it may be refused here, and not when it is read
-/// again.
+/// The operator's script of a text. In a run that refuses one allocation it may be refused here, and not when it is
+/// read again.
 pub(crate) fn script_of<R: AllocGlobal + Abort>(rt: &R, text: &str) -> Script {
     let bytes = text.as_bytes();
     let script = Script::read(rt.alloc(), bytes);
@@ -38,8 +38,8 @@ pub(crate) fn script_of<R: AllocGlobal + Abort>(rt: &R, text: &str) -> Script {
     script
 }
 
-/// Runs seven workers on threads over these ports. There has to be a report, and what holds of every report has to hold of
-/// it.
+/// Runs seven workers on threads over these ports. There has to be a report, and what holds of every report has to hold
+/// of it.
 pub(crate) fn run_over<
     P: Port + Send,
     O: OperatorPort + Send,

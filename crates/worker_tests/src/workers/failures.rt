@@ -14,7 +14,8 @@ use std::process::Abort;
 use std::sync::{Mutex, Wait};
 use std::thread::Threads;
 
-/// How many answers of a port, commands to it and acts of the operator a test keeps: more than a run of a few plates has.
+/// How many answers of a port, commands to it and acts of the operator a test keeps: more than a run of a few plates
+/// has.
 const ROOM: usize = 20_000;
 
 // A run in which a machine's port fails, and the operator's hands at acts of each kind, and what has to come of it.

@@ -102,8 +102,8 @@ fn run_meeting<R: AllocGlobal + Abort + Threads + Wait + Clock + Sync>(rt: &R, m
     assert_eq!(rt; world.lock(rt).collisions(), 0);
 }
 
-// The workers of the two presses are both inside a read of their ports at one time: neither waits for the other's turn, and
-// the lock is free while they read.
+// The workers of the two presses are both inside a read of their ports at one time: neither waits for the other's turn,
+// and the lock is free while they read.
 #[test]
 fn two_presses_meet(rt: HostRuntime) {
     let meeting = Meeting {

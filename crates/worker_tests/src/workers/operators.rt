@@ -130,8 +130,8 @@ const CANNOT_REPAIR: Work<'static> = Work {
     ..REPAIRS
 };
 
-// The repair is allowed when the operator chooses it and refused when he books it: another entry filled the journal, or the
-// press was repaired before. He ends then, and his act by hand isn't booked.
+// The repair is allowed when the operator chooses it and refused when he books it: another entry filled the journal, or
+// the press was repaired before. He ends then, and his act by hand isn't booked.
 const FINDS_NO_ROOM: Work<'static> = Work {
     name: "finds no room for the repair",
     who: Who::Operator(Operating {

@@ -1,5 +1,6 @@
-//! Workers and a whole run that may be refused memory, at any allocation: they end for want of memory, or as they do with
-//! ample memory. Each test marks one call, to which a library below the program can refuse memory (docs/HOSTILE.md).
+//! Workers and a whole run that may be refused memory, at any allocation: they end for want of memory, or as they do
+//! with ample memory. Each test marks one call, to which a library below the program can refuse memory
+//! (docs/HOSTILE.md).
 use crate::sim::steps::faults_of;
 use crate::workers::alone::FEEDS_ONE_PLATE;
 use crate::workers::cell::{AMPLE, plan_of, script_of};

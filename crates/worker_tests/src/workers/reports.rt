@@ -30,8 +30,8 @@ pub(crate) fn sum_of(some: Totals, others: Totals) -> Totals {
     }
 }
 
-// Checks that each worker's list is its actor's entries of the journal, its counts are those of its list, and the counts of
-// all add up to the totals.
+// Checks that each worker's list is its actor's entries of the journal, its counts are those of its list, and the
+// counts of all add up to the totals.
 fn check_lists(rt: &impl Abort, report: &Report) {
     let mut all = count_of(&[]);
     for ((list, counts), actor) in report.workers.iter().zip(ACTORS.iter()) {
@@ -47,8 +47,8 @@ fn check_lists(rt: &impl Abort, report: &Report) {
     check_same(rt, &"the totals", &all, &report.totals);
 }
 
-/// Checks what holds of every report: its lists, and that its journal's text is that of a legal journal with these totals,
-/// which is no longer than the plan lets it be.
+/// Checks what holds of every report: its lists, and that its journal's text is that of a legal journal with these
+/// totals, which is no longer than the plan lets it be.
 pub(crate) fn check_report<R: AllocGlobal + Abort>(rt: &R, report: &Report, plan: &Plan) {
     let alloc = rt.alloc();
     let mut text = Vec::new(alloc);

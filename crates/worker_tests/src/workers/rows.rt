@@ -7,8 +7,8 @@ use std::process::Abort;
 use std::sync::Wait;
 use std::thread::Threads;
 
-// A run: how many plates there are, how many turns each worker has, the scripts of faults and of the operator, how the run
-// ends, and what it counts: admitted, forged, quarantined, delivered.
+// A run: how many plates there are, how many turns each worker has, the scripts of faults and of the operator, how the
+// run ends, and what it counts: admitted, forged, quarantined, delivered.
 type Row = (u32, u32, &'static str, &'static str, End, [u32; 4]);
 
 // Five plates are all forged and delivered. Of six one stays in the second press, and is cleared or left there.

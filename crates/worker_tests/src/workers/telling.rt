@@ -4,9 +4,9 @@ use cell_types::{Command, Entry, Machine};
 use port_samples::{TellingPort, was_sent};
 use std::process::Abort;
 
-/// Checks what a machine's port was asked in a whole run in which the machine's worker booked this list: the commands of its
-/// entries in their order, and then to switch all off, but for those at which it failed. The port gave at least one answer
-/// for each entry.
+/// Checks what a machine's port was asked in a whole run in which the machine's worker booked this list: the commands
+/// of its entries in their order, and then to switch all off, but for those at which it failed. The port gave at least
+/// one answer for each entry.
 pub(crate) fn check_sent<P>(
     rt: &impl Abort,
     machine: Machine,

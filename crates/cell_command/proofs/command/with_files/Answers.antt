@@ -4,4 +4,5 @@ use Rattle.cell_command.specs.Shape.{scripted}
 use Rattle.cell_command.proofs.command.with_files.Goals as goal
 
 pub returns-clause-app : goal.returns-clause-app
-returns-clause-app c = subst (λ (a : App). IfOk c.with_scripts.result (λ made. app_of made ≡ scripted a)) c.in_ok-settings.ensures.app c.with_scripts.ensures.app
+returns-clause-app c = subst (λ (a : App). IfOk c.with_scripts.result (λ made. app_of made ≡ scripted a))
+    c.in_ok-settings.ensures.app c.with_scripts.ensures.app

@@ -9,6 +9,7 @@ pub returns-then-not-is_empty : goal.returns-then-not-is_empty
 returns-then-not-is_empty c =
     let same : c.without_plus-digits.result.now ≡ without_leading_plus c.args.word.now =
     c.without_plus-digits.ensures ∙ ap without_leading_plus c.as_bytes.ensures.value in
-    let test : c.are_digits.result ≡ list_all is_ascii_digit (without_leading_plus c.args.word.now) = c.are_digits.ensures ∙ ap (list_all is_ascii_digit) same in
+    let test : c.are_digits.result ≡ list_all is_ascii_digit (without_leading_plus c.args.word.now) =
+    c.are_digits.ensures ∙ ap (list_all is_ascii_digit) same in
     let some : 0 < length c.without_plus-digits.result.now = search rules in
     (λ are. (rw same at some, digits-valued _ (sym test ∙ are)), λ has. test ∙ digits-tested _ has.1)

@@ -9,5 +9,6 @@ use Rattle.cell_command.proofs.escaped.write_text.Given as goal
 abbrev pub invariant-loop-c : goal.invariant-loop-c
 invariant-loop-c g l = record {
   utf8 : IsUtf8 (chars_rest l.c-iterator);
-  written : IsPlainFormatter l.initial.f → (done : List ℕ) × HasWritten g.W.Write.write_str_gives l.initial.f done l.f × (done ++ escaped (chars_rest l.c-iterator) ≡ escaped l.text);
+  written : IsPlainFormatter l.initial.f → (done : List ℕ) × HasWritten g.W.Write.write_str_gives l.initial.f done l.f
+      × (done ++ escaped (chars_rest l.c-iterator) ≡ escaped l.text);
 }

@@ -5,7 +5,8 @@ use Rattle.cell_command.proofs.order.any_values.Goals as goal
 
 pub returns-in_default : goal.returns-in_default
 returns-in_default c =
-    ap (map (λ (v : Bor (List ℕ)). v.now)) c.new.ensures.items ∙ any-values (found_of c.args.matches.now) c.args.id.now None c.in_default.ensures
+    ap (map (λ (v : Bor (List ℕ)). v.now)) c.new.ensures.items ∙ any-values (found_of c.args.matches.now) c.args.id.now
+    None c.in_default.ensures
 
 pub returns-in-Ok : goal.returns-in-Ok
 returns-in-Ok c =

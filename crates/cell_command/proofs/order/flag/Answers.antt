@@ -5,5 +5,9 @@ use Rattle.cell_command.proofs.order.flag.Goals as goal
 
 pub returns : goal.returns
 returns c =
-    let same = one_text-rows (found_of c.args.matches.now) c.args.id.now in
-    (λ e. c.get_flag.ensures.value (same ∙ e), λ e. c.get_flag.ensures.other (same ∙ e), λ e. c.get_flag.ensures.none (same ∙ e))
+    let same = one_text-rows (found_of c.args.matches.now) c.args.id.now in (
+      λ e. c.get_flag.ensures.value (same ∙ e),
+      λ e. c.get_flag.ensures.other (same ∙ e),
+      λ e. c.get_flag.ensures.none
+          (same ∙ e),
+    )

@@ -5,4 +5,5 @@ use Rattle.cell_command.proofs.Facts.{same-value}
 use Rattle.cell_command.proofs.order.path.Goals as goal
 
 pub returns : goal.returns
-returns c = same-value c.get_str.result _ (c.get_str.ensures ∙ first_value-rows (found_of c.args.matches.now) c.args.id.now)
+returns c = same-value c.get_str.result _ (c.get_str.ensures
+    ∙ first_value-rows (found_of c.args.matches.now) c.args.id.now)

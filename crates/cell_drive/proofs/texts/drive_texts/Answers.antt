@@ -16,6 +16,7 @@ returns g c =
       Ok c.in-Ok.inputs,
       c.in-Ok.ensures,
       λ few.
-          subst (λ all. DrivesEntries c.in-Ok.inputs.plan c.in-Ok.inputs.script all (g.W.Write.contents c.args.output.now) (g.W.Write.contents c.drive_entries-ran.new.writer)) lines
+          subst (λ all. DrivesEntries c.in-Ok.inputs.plan c.in-Ok.inputs.script all
+          (g.W.Write.contents c.args.output.now) (g.W.Write.contents c.drive_entries-ran.new.writer)) lines
           (of-status c.drive_entries-ran.result status same c.drive_entries-ran.ensures few),
     )) c.ended-2.ensures)

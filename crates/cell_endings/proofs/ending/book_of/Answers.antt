@@ -4,5 +4,6 @@ use Rattle.cell_endings.proofs.ending.book_of.Goals as goal
 
 pub loop-place-preserved : goal.loop-place-preserved
 loop-place-preserved c =
-    booked-more _ c.loop-place.book _ c.args.journal.now.entries c.loop-place.place c.at.result c.at.ensures c.loop-place.invariant
+    booked-more _ c.loop-place.book _ c.args.journal.now.entries c.loop-place.place c.at.result c.at.ensures
+    c.loop-place.invariant
     (of-success c.apply.result (sym c.is_err.ensures.value ∙ c.if-is_err.false) c.apply.ensures.booked)

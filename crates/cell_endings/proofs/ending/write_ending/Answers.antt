@@ -6,9 +6,12 @@ use Rattle.cell_endings.proofs.ending.write_ending.Goals as goal
 
 pub returns-clause-text : goal.returns-clause-text
 returns-clause-text g c =
-    told-whole c.write_faults.result _ c.args.journal.now.entries c.args.end c.args.plan.now (script_lines line_of c.args.operator.now) (script_lines next_fault c.args.faults.now)
-    _ _ _ _ _ _ c.in_ok-book.ensures c.in_ok-write_run.ensures c.in_ok-write_failures.ensures c.in_ok-write_plates.ensures c.in_ok-write_operator.ensures c.write_faults.ensures
+    told-whole c.write_faults.result _ c.args.journal.now.entries c.args.end c.args.plan.now
+    (script_lines line_of c.args.operator.now) (script_lines next_fault c.args.faults.now)
+    _ _ _ _ _ _ c.in_ok-book.ensures c.in_ok-write_run.ensures c.in_ok-write_failures.ensures
+    c.in_ok-write_plates.ensures c.in_ok-write_operator.ensures c.write_faults.ensures
 
 pub returns-clause-legal : goal.returns-clause-legal
 returns-clause-legal g c =
-    always c.write_faults.result (legal-book _ c.args.journal.now.entries c.args.plan.now c.in_ok-book.ensures c.is_lawful.ensures.legal)
+    always c.write_faults.result (legal-book _ c.args.journal.now.entries c.args.plan.now c.in_ok-book.ensures
+    c.is_lawful.ensures.legal)

@@ -6,7 +6,8 @@ use Rattle.cell_endings.proofs.failures.declared_last.Goals.{in-Some, in_default
 
 pub loop-place-preserved : goal.loop-place-preserved
 loop-place-preserved c =
-    let more = last-more (declares c.args.machine) c.args.journal.now.entries c.loop-place.place c.at.result c.loop-place.found _ c.at.ensures c.loop-place.invariant in
+    let more = last-more (declares c.args.machine) c.args.journal.now.entries c.loop-place.place c.at.result
+    c.loop-place.found _ c.at.ensures c.loop-place.invariant in
     elim c.match-declares.branch [
       | in-Some w ↦ rw w.found-is (rw (sym c.declares.ensures ∙ w.in-Some.is) at more)
       | in_default w ↦ rw w.found-is (rw (sym c.declares.ensures ∙ w.in_default.is) at more)

@@ -5,4 +5,5 @@ use Rattle.cell_endings.specs.Failures.{declared_last, declares}
 use Rattle.cell_endings.proofs.failures.declared_last.Given as goal
 
 abbrev pub invariant-loop-place : goal.invariant-loop-place
-invariant-loop-place l = option_or (last_numbered (declares l.machine) (l.place + 1) (drop l.place l.journal.entries)) l.found ≡ declared_last l.journal.entries l.machine
+invariant-loop-place l = option_or (last_numbered (declares l.machine) (l.place + 1) (drop l.place l.journal.entries))
+    l.found ≡ declared_last l.journal.entries l.machine

@@ -6,5 +6,6 @@ pub loop-machine-preserved : goal.loop-machine-preserved
 loop-machine-preserved g c =
     record {
       all = c.loop-machine.invariant.all;
-      told = told-more (failure_of c.args.book.now.entries) _ _ _ _ c.loop-machine.machine-index _ c.loop-machine-test.true c.loop-machine.invariant.told c.in_ok-write_failure.ensures;
+      told = told-more (failure_of c.args.book.now.entries) _ _ _ _ c.loop-machine.machine-index _
+          c.loop-machine-test.true c.loop-machine.invariant.told c.in_ok-write_failure.ensures;
     }

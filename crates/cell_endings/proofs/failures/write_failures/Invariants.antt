@@ -9,5 +9,6 @@ use Rattle.cell_endings.proofs.failures.write_failures.Given as goal
 abbrev pub invariant-loop-machine : goal.invariant-loop-machine
 invariant-loop-machine g l = record {
   all : l.machine-items ≡ all_machine;
-  told : Appends (g.W.Write.contents l.fn.writer) (g.W.Write.contents l.writer) (flat_map (failure_of l.book.entries) (take l.machine-index l.machine-items));
+  told : Appends (g.W.Write.contents l.fn.writer) (g.W.Write.contents l.writer)
+      (flat_map (failure_of l.book.entries) (take l.machine-index l.machine-items));
 }

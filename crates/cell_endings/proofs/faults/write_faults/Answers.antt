@@ -6,5 +6,7 @@ use Rattle.cell_endings.proofs.faults.write_faults.Goals as goal
 pub loop-fault-preserved : goal.loop-fault-preserved
 loop-fault-preserved g c =
     let J = c.args.book.now.entries in
-    let told = rw (c.axis_number.ensures.value, c.motions-counts.ensures, c.journal.ensures) at c.in_ok-write_fault.ensures in
-    told-more (λ (f : PlannedFault). told_fault f (motions_of J f.axis)) _ _ _ c.deref-fault-items.result.now c.loop-fault.fault-index _ c.loop-fault-test.true c.loop-fault.invariant told
+    let told = rw (c.axis_number.ensures.value, c.motions-counts.ensures, c.journal.ensures) at
+    c.in_ok-write_fault.ensures in
+    told-more (λ (f : PlannedFault). told_fault f (motions_of J f.axis)) _ _ _ c.deref-fault-items.result.now
+    c.loop-fault.fault-index _ c.loop-fault-test.true c.loop-fault.invariant told

@@ -6,4 +6,5 @@ use Rattle.cell_endings.proofs.faults.write_faults.Given as goal
 -- the faults so far are told
 abbrev pub invariant-loop-fault : goal.invariant-loop-fault
 invariant-loop-fault g l =
-    Appends (g.W.Write.contents l.fn.writer) (g.W.Write.contents l.writer) (missed_of l.book.entries (take l.fault-index l.fault-items))
+    Appends (g.W.Write.contents l.fn.writer) (g.W.Write.contents l.writer)
+    (missed_of l.book.entries (take l.fault-index l.fault-items))

@@ -11,11 +11,13 @@ loop-place-preserved c =
     let tells = sym (c.is_operator.ensures ∙ ap is_operator c.actor_of.ensures) in
     elim c.if-is_operator.branch [
       | then-is_operator w ↦ record {
-        counted = w.done-is ∙ count-yes (λ e. is_operator (actor_of e)) J c.loop-place.place _ c.at.result c.at.ensures (tells ∙ w.if-is_operator.true) c.loop-place.invariant.counted;
+        counted = w.done-is ∙ count-yes (λ e. is_operator (actor_of e)) J c.loop-place.place _ c.at.result c.at.ensures
+            (tells ∙ w.if-is_operator.true) c.loop-place.invariant.counted;
         few = omega arith;
       }
       | else-is_operator w ↦ record {
-        counted = w.done-is ∙ count-no (λ e. is_operator (actor_of e)) J c.loop-place.place _ c.at.result c.at.ensures (tells ∙ w.if-is_operator.false) c.loop-place.invariant.counted;
+        counted = w.done-is ∙ count-no (λ e. is_operator (actor_of e)) J c.loop-place.place _ c.at.result c.at.ensures
+            (tells ∙ w.if-is_operator.false) c.loop-place.invariant.counted;
         few = omega arith;
       }
     ]

@@ -2,4 +2,5 @@ use Rattle.std.proofs.Common.{sym}
 use Rattle.cell_endings.proofs.operator.write_task.Goals as goal
 
 pub returns-in-None : goal.returns-in-None
-returns-in-None g c = rw (c.in-Clear.is, sym c.plate_at.ensures, c.in-None.is) (rw c.station_name.ensures at c.writeln.ensures.bytes)
+returns-in-None g c = rw (c.in-Clear.is, sym c.plate_at.ensures, c.in-None.is)
+    (rw c.station_name.ensures at c.writeln.ensures.bytes)

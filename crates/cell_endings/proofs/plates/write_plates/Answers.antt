@@ -6,5 +6,6 @@ pub loop-station-preserved : goal.loop-station-preserved
 loop-station-preserved g c =
     record {
       all = c.loop-station.invariant.all;
-      told = told-more (told_at c.args.book.now.limits c.args.book.now.entries) _ _ _ _ c.loop-station.station-index _ c.loop-station-test.true c.loop-station.invariant.told c.in_ok-write_station.ensures;
+      told = told-more (told_at c.args.book.now.limits c.args.book.now.entries) _ _ _ _ c.loop-station.station-index _
+          c.loop-station-test.true c.loop-station.invariant.told c.in_ok-write_station.ensures;
     }

@@ -9,5 +9,6 @@ use Rattle.cell_endings.proofs.plates.write_plates.Given as goal
 abbrev pub invariant-loop-station : goal.invariant-loop-station
 invariant-loop-station g l = record {
   all : l.station-items ≡ all_station;
-  told : Appends (g.W.Write.contents l.fn.writer) (g.W.Write.contents l.writer) (flat_map (told_at l.book.limits l.book.entries) (take l.station-index l.station-items));
+  told : Appends (g.W.Write.contents l.fn.writer) (g.W.Write.contents l.writer)
+      (flat_map (told_at l.book.limits l.book.entries) (take l.station-index l.station-items));
 }

@@ -5,7 +5,9 @@ use Rattle.cell_explain.specs.Scripts.{SaysScript}
 use Rattle.cell_explain.proofs.script.explain_operator_watched.Goals as goal
 
 pub returns-clause-status : goal.returns-clause-status
-returns-clause-status g c = ended c.write.result _ _ _ _ _ c.write.ensures.whole (operator-end _ _ (codes "operator") _ c.say_script-said.ensures)
+returns-clause-status g c = ended c.write.result _ _ _ _ _ c.write.ensures.whole
+    (operator-end _ _ (codes "operator") _ c.say_script-said.ensures)
 
 pub returns-clause-told : goal.returns-clause-told
-returns-clause-told g c = tells c.write.result _ _ _ _ (SaysScript (codes "operator") line_of c.args.text.now) c.write.ensures.whole c.say_script-said.ensures
+returns-clause-told g c = tells c.write.result _ _ _ _ (SaysScript (codes "operator") line_of c.args.text.now)
+    c.write.ensures.whole c.say_script-said.ensures

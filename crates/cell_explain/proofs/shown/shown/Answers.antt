@@ -5,7 +5,8 @@ use Rattle.cell_explain.proofs.shown.shown.Goals as goal
 
 pub returns-then-record-le-MOST : goal.returns-then-record-le-MOST
 returns-then-record-le-MOST c =
-    subst (λ b. IfOk c.shown_bytes.result (λ t. string_bytes t ≡ b)) (short-shown c.args.record.now (omega arith)) c.shown_bytes.ensures
+    subst (λ b. IfOk c.shown_bytes.result (λ t. string_bytes t ≡ b)) (short-shown c.args.record.now (omega arith))
+    c.shown_bytes.ensures
 
 pub slice_bounds-shown_bytes-end : goal.slice_bounds-shown_bytes-end
 slice_bounds-shown_bytes-end c = sym (length-take-le 80 c.args.record.now (omega arith))

@@ -20,11 +20,13 @@ pub note-requires : goal.note-requires
 note-requires c = c.loop-place.invariant.keeps.room
 
 pub loop-place-preserved : goal.loop-place-preserved
-loop-place-preserved c = part_more _ _ _ _ _ _ _ _ _ c.loop-place.invariant c.at-entry.ensures c.ends-end.ensures.due c.ends-end.ensures.early c.note.ensures c.in_ok-push.ensures.items
+loop-place-preserved c = part_more _ _ _ _ _ _ _ _ _ c.loop-place.invariant c.at-entry.ensures c.ends-end.ensures.due
+    c.ends-end.ensures.early c.note.ensures c.in_ok-push.ensures.items
 
 pub returns : goal.returns
 returns c =
-    let whole : c.loop-place.ends.items ≡ times c.args.durations.now c.args.journal.now.entries = part_last _ _ _ _ _ c.loop-place.invariant (omega arith) in
+    let whole : c.loop-place.ends.items ≡ times c.args.durations.now c.args.journal.now.entries =
+    part_last _ _ _ _ _ c.loop-place.invariant (omega arith) in
     record {
       ends = whole;
       long = long _ _ _ whole;

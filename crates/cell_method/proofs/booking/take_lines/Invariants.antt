@@ -8,5 +8,7 @@ abbrev pub invariant-loop : goal.invariant-loop
 invariant-loop g l = record {
   limits : l.book.limits ≡ l.fn.book.limits;
   goes : (s : Stand) → Fits g.P.Port.tells g.P.Port.log l.fn.book.entries l.fn.ports s
-      → Goes g.P.Port.tells g.P.Port.log l.fn.book.limits s (lines_left g.R.Read.remaining l.fn.lines) (lines_left g.R.Read.remaining l.lines) l.book.entries l.ports s.lines s.lost s.rounds (g.W.Write.contents l.fn.writer) (g.W.Write.contents l.writer);
+      → Goes g.P.Port.tells g.P.Port.log l.fn.book.limits s (lines_left g.R.Read.remaining l.fn.lines)
+      (lines_left g.R.Read.remaining l.lines) l.book.entries l.ports s.lines s.lost s.rounds
+      (g.W.Write.contents l.fn.writer) (g.W.Write.contents l.writer);
 }

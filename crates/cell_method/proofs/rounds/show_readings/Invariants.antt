@@ -8,5 +8,7 @@ use Rattle.cell_method.proofs.rounds.show_readings.Given as goal
 -- the machines so far were read, and what they show was told
 abbrev pub invariant-loop-machine : goal.invariant-loop-machine
 invariant-loop-machine g l =
-    (lim : BookLimits) (s : Stand) (J : List Entry) (all : Option (List (Option Row))) → Fits g.P.Port.tells g.P.Port.log J l.fn.ports s
-    → Goes g.P.Port.tells g.P.Port.log lim s all all J l.ports s.lines s.lost s.rounds (g.W.Write.contents l.fn.writer) (g.W.Write.contents l.writer)
+    (lim : BookLimits) (s : Stand) (J : List Entry) (all : Option (List (Option Row)))
+    → Fits g.P.Port.tells g.P.Port.log J l.fn.ports s
+    → Goes g.P.Port.tells g.P.Port.log lim s all all J l.ports s.lines s.lost s.rounds (g.W.Write.contents l.fn.writer)
+    (g.W.Write.contents l.writer)

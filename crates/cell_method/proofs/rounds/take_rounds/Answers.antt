@@ -1,7 +1,8 @@
 use Rattle.std.proofs.Common.{◌∙◌, refl}
 use Rattle.cell_method.specs.Lines.{lines_left}
 use Rattle.cell_method.specs.Rounds.{start}
-use Rattle.cell_method.proofs.Runs.{broke-later, broke-limits, driven, goes-desk, goes-limits, goes-start, goes-then, start-fits}
+use Rattle.cell_method.proofs.Runs.{broke-later, broke-limits, driven, goes-desk, goes-limits, goes-start, goes-then}
+use Rattle.cell_method.proofs.Runs.{start-fits}
 use Rattle.cell_method.proofs.rounds.take_rounds.Goals as goal
 
 pub loop-round-init : goal.loop-round-init
@@ -10,7 +11,9 @@ loop-round-init g c =
     record {
       limits = refl;
       goes = goes-desk _ _ _ _ _ _ _ _ _ _ _ _ _ _ _ _ refl c.requires refl
-          (goes-start g.P.Port.tells g.P.Port.log c.args.book.now.limits s (lines_left g.R.Read.remaining c.args.lines.now) c.args.book.now.entries c.args.ports.now (g.W.Write.contents c.args.writer.now)
+          (goes-start g.P.Port.tells g.P.Port.log c.args.book.now.limits s
+          (lines_left g.R.Read.remaining c.args.lines.now) c.args.book.now.entries c.args.ports.now
+          (g.W.Write.contents c.args.writer.now)
           (start-fits g.P.Port.tells g.P.Port.log c.args.book.now.entries c.args.ports.now c.args.desk.now.script));
     }
 
@@ -18,14 +21,16 @@ pub returns-in_err-end-clause-broke : goal.returns-in_err-end-clause-broke
 returns-in_err-end-clause-broke g c =
     let was = c.loop-round.invariant in
     λ _. broke-later _ _ _ _ _ _ _ _ _ _ _ _ _ _ _ was.goes
-    (broke-limits _ _ _ _ _ _ _ _ was.limits (c.in_err-end.ensures.broke refl was.goes.after c.loop-round.round refl was.goes.fits was.goes.desk))
+    (broke-limits _ _ _ _ _ _ _ _ was.limits (c.in_err-end.ensures.broke refl was.goes.after c.loop-round.round refl
+    was.goes.fits was.goes.desk))
 
 pub returns-in-Some-clause-run : goal.returns-in-Some-clause-run
 returns-in-Some-clause-run g c =
     let was = c.loop-round.invariant in
     driven _ _ _ _ _ _ _ _ _ _ _ _ _ refl
     (goes-then _ _ _ _ _ _ _ _ _ _ _ _ _ _ _ _ _ _ _ _ was.goes
-    (goes-limits _ _ _ _ _ _ _ _ _ _ _ _ _ _ was.limits (c.in_ok-end.ensures.goes was.goes.after c.loop-round.round refl was.goes.fits was.goes.desk)))
+    (goes-limits _ _ _ _ _ _ _ _ _ _ _ _ _ _ was.limits (c.in_ok-end.ensures.goes was.goes.after c.loop-round.round refl
+    was.goes.fits was.goes.desk)))
 
 pub loop-round-preserved : goal.loop-round-preserved
 loop-round-preserved g c =
@@ -33,5 +38,6 @@ loop-round-preserved g c =
     record {
       limits = c.in_ok-end.ensures.limits ∙ was.limits;
       goes = goes-then _ _ _ _ _ _ _ _ _ _ _ _ _ _ _ _ _ _ _ _ was.goes
-          (goes-limits _ _ _ _ _ _ _ _ _ _ _ _ _ _ was.limits (c.in_ok-end.ensures.goes was.goes.after c.loop-round.round refl was.goes.fits was.goes.desk));
+          (goes-limits _ _ _ _ _ _ _ _ _ _ _ _ _ _ was.limits
+          (c.in_ok-end.ensures.goes was.goes.after c.loop-round.round refl was.goes.fits was.goes.desk));
     }

@@ -7,6 +7,8 @@ use Rattle.cell_method.proofs.rounds.take_rounds.Given as goal
 abbrev pub invariant-loop-round : goal.invariant-loop-round
 invariant-loop-round g l = record {
   limits : l.book.limits ≡ l.fn.book.limits;
-  goes : Goes g.P.Port.tells g.P.Port.log l.fn.book.limits (start g.P.Port.log l.fn.book.entries l.fn.ports l.fn.desk.script) (lines_left g.R.Read.remaining l.fn.lines) (lines_left g.R.Read.remaining l.lines) l.book.entries l.ports
+  goes : Goes g.P.Port.tells g.P.Port.log l.fn.book.limits
+      (start g.P.Port.log l.fn.book.entries l.fn.ports l.fn.desk.script) (lines_left g.R.Read.remaining l.fn.lines)
+      (lines_left g.R.Read.remaining l.lines) l.book.entries l.ports
       l.desk.script l.desk.lost l.round (g.W.Write.contents l.fn.writer) (g.W.Write.contents l.writer);
 }

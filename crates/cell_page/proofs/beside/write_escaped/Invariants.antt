@@ -6,4 +6,5 @@ use Rattle.cell_page.proofs.beside.write_escaped.Given as goal
 
 -- the first bytes are written
 abbrev pub invariant-loop-byte : goal.invariant-loop-byte
-invariant-loop-byte g l = Appends (g.W.Write.contents l.fn.writer) (g.W.Write.contents l.writer) (flat_map escaped_byte (take l.byte-index l.text))
+invariant-loop-byte g l = Appends (g.W.Write.contents l.fn.writer) (g.W.Write.contents l.writer)
+    (flat_map escaped_byte (take l.byte-index l.text))

@@ -5,5 +5,7 @@ use Rattle.cell_page.proofs.page.write_for_no_scripts.Goals as goal
 
 pub returns-clause-text : goal.returns-clause-text
 returns-clause-text g c =
-    let same = no_scripts c.args.book.now.entries c.len-entries.result c.row_after-last.result.last (c.len-entries.ensures.value ∙ ap (λ j. length j.entries) c.journal.ensures) c.row_after-last.ensures.last in
-    subst (Appends (g.W.Write.contents c.args.writer.now) (g.W.Write.contents c.write.new.self)) same c.in_ok-write.ensures.bytes
+    let same = no_scripts c.args.book.now.entries c.len-entries.result c.row_after-last.result.last
+    (c.len-entries.ensures.value ∙ ap (λ j. length j.entries) c.journal.ensures) c.row_after-last.ensures.last in
+    subst (Appends (g.W.Write.contents c.args.writer.now) (g.W.Write.contents c.write.new.self)) same
+    c.in_ok-write.ensures.bytes

@@ -4,4 +4,5 @@ use Rattle.cell_page.proofs.page.write_rows.Given as goal
 
 -- the rows up to this number of entries are written
 abbrev pub invariant-loop-taken : goal.invariant-loop-taken
-invariant-loop-taken g l = Appends (g.W.Write.contents l.fn.writer) (g.W.Write.contents l.writer) (rows_upto l.fn.book.entries l.taken)
+invariant-loop-taken g l = Appends (g.W.Write.contents l.fn.writer) (g.W.Write.contents l.writer)
+    (rows_upto l.fn.book.entries l.taken)

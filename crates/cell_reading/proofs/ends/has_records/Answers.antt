@@ -11,7 +11,8 @@ returns-then-not-branch g c =
     let left = rows_to_come g.R.Read.remaining in
     let takes : TakesRow (left c.records.reader) (left c.next_row.new.reader) (fields_of c.next_row.new.row) false =
     rw (← c.if-not-branch.true) c.in_ok-next_row.ensures.takes in
-    none (g.R.Read.remaining c.args.source) (left c.records.reader) (left c.next_row.new.reader) (fields_of c.next_row.new.row) c.records.counter c.args.count
+    none (g.R.Read.remaining c.args.source) (left c.records.reader) (left c.next_row.new.reader)
+    (fields_of c.next_row.new.row) c.records.counter c.args.count
     c.records.invariant.left takes c.records-test.true
 
 pub records-preserved : goal.records-preserved
@@ -21,6 +22,7 @@ records-preserved g c =
     rw (← c.if-not-branch.false) c.in_ok-next_row.ensures.takes in
     record {
       set_up = c.in_ok-next_row.ensures.open;
-      left = more (option_map rows_of (g.R.Read.remaining c.args.source)) (left c.records.reader) (left c.next_row.new.reader) (fields_of c.next_row.new.row) c.records.counter
+      left = more (option_map rows_of (g.R.Read.remaining c.args.source)) (left c.records.reader)
+          (left c.next_row.new.reader) (fields_of c.next_row.new.row) c.records.counter
           c.records.invariant.left takes;
     }

@@ -7,5 +7,6 @@ use Rattle.cell_reading.proofs.ends.has_records.Given as goal
 abbrev pub invariant-records : goal.invariant-records
 invariant-records g l = record {
   set_up : IsSetUp l.reader;
-  left : StillLeft (option_map rows_of (g.R.Read.remaining l.fn.source)) (rows_to_come g.R.Read.remaining l.reader) l.counter;
+  left : StillLeft (option_map rows_of (g.R.Read.remaining l.fn.source)) (rows_to_come g.R.Read.remaining l.reader)
+      l.counter;
 }

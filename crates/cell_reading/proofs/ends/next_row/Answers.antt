@@ -4,5 +4,6 @@ use Rattle.cell_reading.proofs.ends.next_row.Goals as goal
 
 pub returns-clause-takes : goal.returns-clause-takes
 returns-clause-takes g c =
-    takes g.R.Read.remaining c.args.reader.now c.read_byte_record.new.self c.in-Ok.found (fields_of c.read_byte_record.new.row) c.requires.2
+    takes g.R.Read.remaining c.args.reader.now c.read_byte_record.new.self c.in-Ok.found
+    (fields_of c.read_byte_record.new.row) c.requires.2
     (c.in-Ok.ensures.reads c.requires.0 c.requires.1)

@@ -7,5 +7,6 @@ abbrev pub invariant-reads : goal.invariant-reads
 invariant-reads g l = record {
   counted : length l.text.items + l.left ≡ length l.fn.text.items + l.most;
   begins : StartsWith l.text.items l.fn.text.items;
-  whole : Keeps (prepend_known l.fn.text.items (g.R.Read.remaining l.fn.reader)) (prepend_known l.text.items (g.R.Read.remaining l.reader));
+  whole : Keeps (prepend_known l.fn.text.items (g.R.Read.remaining l.fn.reader))
+      (prepend_known l.text.items (g.R.Read.remaining l.reader));
 }

@@ -5,5 +5,6 @@ use Rattle.cell_rows.proofs.rows.read_next.Goals as goal
 
 pub returns-in-Ok-clause-takes : goal.returns-in-Ok-clause-takes
 returns-in-Ok-clause-takes g c =
-    takes (bytes_left g.R.Read.remaining) c.args.reader.now c.read_byte_record.new.self c.in-Ok.found (fields_of c.read_byte_record.new.row)
+    takes (bytes_left g.R.Read.remaining) c.args.reader.now c.read_byte_record.new.self c.in-Ok.found
+    (fields_of c.read_byte_record.new.row)
     c.requires.2 (c.in-Ok.ensures.reads c.requires.0 c.requires.1)

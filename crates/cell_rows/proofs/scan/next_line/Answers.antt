@@ -8,9 +8,11 @@ use Rattle.cell_rows.proofs.scan.next_line.Goals as goal
 pub returns-clause-line : goal.returns-clause-line
 returns-clause-line c = by c.places_of.result c.places_of.ensures.line
   where
-    by : (o : Result Places Stop) → IfOk o (λ p. IsLineAt c.args.text.now c.in_ok-start.start c.args.to p) → IfOk o (λ p. TakesLine c.args.text.now c.args.at c.args.to p)
+    by : (o : Result Places Stop) → IfOk o (λ p. IsLineAt c.args.text.now c.in_ok-start.start c.args.to p)
+        → IfOk o (λ p. TakesLine c.args.text.now c.args.at c.args.to p)
     by (Err e) h = h
     by (Ok p) h = takes_line c.args.text.now c.args.at c.in_ok-start.start c.args.to p c.in_ok-start.ensures.start h
 
 pub returns-clause-unfit : goal.returns-clause-unfit
-returns-clause-unfit c = λ e. unfit_at c.args.text.now c.args.at c.in_ok-start.start c.args.to c.in_ok-start.ensures.start (c.places_of.ensures.unfit e)
+returns-clause-unfit c = λ e. unfit_at c.args.text.now c.args.at c.in_ok-start.start c.args.to
+    c.in_ok-start.ensures.start (c.places_of.ensures.unfit e)

@@ -9,7 +9,8 @@ pub returns-in_err-first-clause-unfit : goal.returns-in_err-first-clause-unfit
 returns-in_err-first-clause-unfit c =
     let text = c.args.text.now in
     λ e tail. spoiled_line (slice_range text c.args.start c.args.to) tail
-    (spoiled_by_length st.StartRecord [] text c.args.start c.args.to (inl refl) (c.in_err-first.ensures.long (search rules)))
+    (spoiled_by_length st.StartRecord [] text c.args.start c.args.to (inl refl)
+    (c.in_err-first.ensures.long (search rules)))
 
 pub returns-in_err-second-clause-unfit : goal.returns-in_err-second-clause-unfit
 returns-in_err-second-clause-unfit c =
@@ -38,7 +39,8 @@ returns-in_err-fourth-clause-unfit c =
     let first = c.in_ok-first.first in
     let second = c.in_ok-second.second in
     let third = c.in_ok-third.third in
-    let before : Row = slice_range text c.args.start first ∷ slice_range text (first + 1) second ∷ slice_range text (second + 1) third ∷ [] in
+    let before : Row = slice_range text c.args.start first ∷ slice_range text (first + 1) second ∷ slice_range text
+    (second + 1) third ∷ [] in
     λ e tail. spoiled_line (slice_range text c.args.start to) tail
     (spoiled_later st.StartRecord [] text c.args.start to first (inl refl) c.in_ok-first.ensures.end
     (spoiled_later st.StartField _ text (first + 1) to second (inr refl) c.in_ok-second.ensures.end

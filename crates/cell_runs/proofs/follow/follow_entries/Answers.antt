@@ -10,7 +10,8 @@ loop-i-init g c =
     record {
       machines = c.requires;
       limits = refl;
-      follows = λ minds fits. follows_start cell.kept.limits c.args.plan.now cell.kept.entries cell.watches cell.script cell.lost minds fits;
+      follows = λ minds fits. follows_start cell.kept.limits c.args.plan.now cell.kept.entries cell.watches cell.script
+          cell.lost minds fits;
     }
 
 pub loop-i-preserved : goal.loop-i-preserved
@@ -23,7 +24,10 @@ loop-i-preserved g c =
       machines = c.follow_entry.ensures.machines;
       limits = c.follow_entry.ensures.limits ∙ was.limits;
       follows = λ minds fits.
-          follows_more start.kept.limits cell.kept.limits c.args.plan.now (place (now start.kept.entries minds) start.script start.lost) c.args.journal.now.entries c.loop-i.i c.at-wanted.result cell.kept.entries next.kept.entries cell.watches next.watches cell.script next.script cell.lost next.lost
+          follows_more start.kept.limits cell.kept.limits c.args.plan.now
+          (place (now start.kept.entries minds) start.script start.lost) c.args.journal.now.entries c.loop-i.i
+          c.at-wanted.result cell.kept.entries next.kept.entries cell.watches next.watches cell.script next.script
+          cell.lost next.lost
           was.limits c.at-wanted.ensures (was.follows minds fits) c.in_default.ensures.acts;
     }
 
@@ -32,5 +36,7 @@ returns-in-Err-clause-ends g c = λ minds fits.
     let was = c.loop-i.invariant in
     let start = c.args.cell.now in
     let cell = c.loop-i.cell in
-    follows_ends start.kept.limits cell.kept.limits c.args.plan.now (place (now start.kept.entries minds) start.script start.lost) c.args.journal.now.entries c.loop-i.i c.at-wanted.result cell.kept.entries c.follow_entry.new.cell.kept.entries cell.watches cell.script cell.lost _
+    follows_ends start.kept.limits cell.kept.limits c.args.plan.now
+    (place (now start.kept.entries minds) start.script start.lost) c.args.journal.now.entries c.loop-i.i
+    c.at-wanted.result cell.kept.entries c.follow_entry.new.cell.kept.entries cell.watches cell.script cell.lost _
     was.limits c.at-wanted.ensures (was.follows minds fits) c.in-Err.ensures.ends

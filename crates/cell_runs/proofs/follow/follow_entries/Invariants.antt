@@ -14,5 +14,7 @@ invariant-loop-i g l =
     record {
       machines : (m : Machine) → machine_of_watch (at l.cell.watches m) ≡ m;
       limits : l.cell.kept.limits ≡ was.kept.limits;
-      follows : (minds : Six Mind) → FitAll was.watches minds → Reaches (Follows was.kept.limits l.plan (place (now was.kept.entries minds) was.script was.lost) (take l.i l.journal.entries)) l.cell.kept.entries l.cell.watches l.cell.script l.cell.lost;
+      follows : (minds : Six Mind) → FitAll was.watches minds
+          → Reaches (Follows was.kept.limits l.plan (place (now was.kept.entries minds) was.script was.lost)
+          (take l.i l.journal.entries)) l.cell.kept.entries l.cell.watches l.cell.script l.cell.lost;
     }

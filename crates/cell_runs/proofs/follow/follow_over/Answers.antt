@@ -10,8 +10,12 @@ returns-clause-followed g c = λ empty.
     let how = c.follow_entries-followed.result in
     let kept = c.new-kept.ensures.book in
     let ends =
-    ends_started g.R.Run.limits c.new-kept.result.0.limits c.args.plan.now c.args.script c.args.book.entries c.new-kept.result.0.entries journal c.follow_entries-followed.new.cell.kept.entries booked c.start-watches.result how
-    (ap (λ (h : History). h.entries) kept) empty (ap (λ (h : History). h.limits) kept ∙ c.requires.limits) (ap (λ (h : History). h.entries) c.into_book.ensures) c.start-watches.ensures.fits c.follow_entries-followed.ensures.ends in
+    ends_started g.R.Run.limits c.new-kept.result.0.limits c.args.plan.now c.args.script c.args.book.entries
+    c.new-kept.result.0.entries journal c.follow_entries-followed.new.cell.kept.entries booked
+    c.start-watches.result how
+    (ap (λ (h : History). h.entries) kept) empty (ap (λ (h : History). h.limits) kept ∙ c.requires.limits)
+    (ap (λ (h : History). h.entries) c.into_book.ensures) c.start-watches.ensures.fits
+    c.follow_entries-followed.ensures.ends in
     record {
       legal = search rules;
       ends = ends;

@@ -12,7 +12,9 @@ returns-clause-operates g c = λ minds fits.
     let next = c.act.new.cell in
     let size : c.len-before.result ≡ length cell.kept.entries = search rules in
     let sees : c.get.result ≡ slice_get next.kept.entries c.len-before.result = search rules in
-    operate_books cell.kept.limits c.args.plan.now (place (now cell.kept.entries minds) cell.script cell.lost) c.len-before.result next.kept.entries next.watches next.script next.lost c.get.result size sees (c.in_ok-act.ensures.operates minds fits)
+    operate_books cell.kept.limits c.args.plan.now (place (now cell.kept.entries minds) cell.script cell.lost)
+    c.len-before.result next.kept.entries next.watches next.script next.lost c.get.result size sees
+    (c.in_ok-act.ensures.operates minds fits)
 
 pub returns-clause-grown : goal.returns-clause-grown
 returns-clause-grown g c = λ minds fits.
@@ -21,5 +23,7 @@ returns-clause-grown g c = λ minds fits.
     let size : c.len-before.result ≡ length cell.kept.entries = search rules in
     let sees : c.get.result ≡ slice_get next.kept.entries c.len-before.result = search rules in
     let s = place (now cell.kept.entries minds) cell.script cell.lost in
-    acted_grow cell.kept.limits c.args.plan.now actors.Operator s c.get.result next.kept.entries next.watches next.script next.lost
-    (operate_books cell.kept.limits c.args.plan.now s c.len-before.result next.kept.entries next.watches next.script next.lost c.get.result size sees (c.in_ok-act.ensures.operates minds fits))
+    acted_grow cell.kept.limits c.args.plan.now actors.Operator s c.get.result next.kept.entries next.watches
+    next.script next.lost
+    (operate_books cell.kept.limits c.args.plan.now s c.len-before.result next.kept.entries next.watches next.script
+    next.lost c.get.result size sees (c.in_ok-act.ensures.operates minds fits))

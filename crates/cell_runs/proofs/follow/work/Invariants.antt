@@ -14,5 +14,7 @@ invariant-loop-turn g l =
       machines : (m : Machine) → machine_of_watch (at l.cell.watches m) ≡ m;
       limits : l.cell.kept.limits ≡ was.kept.limits;
       same : (l.cell.script ≡ was.script) × (l.cell.lost ≡ was.lost);
-      waits : (minds : Six Mind) → FitAll was.watches minds → ReachesNow (Waits was.kept.limits l.plan l.machine (now was.kept.entries minds) l._turn) l.cell.kept.entries l.cell.watches;
+      waits : (minds : Six Mind) → FitAll was.watches minds
+          → ReachesNow (Waits was.kept.limits l.plan l.machine (now was.kept.entries minds) l._turn) l.cell.kept.entries
+          l.cell.watches;
     }

@@ -5,4 +5,5 @@ use Rattle.cell_runs.proofs.following.write_followed.Goals as goal
 pub returns-in-Ok-clause-whole : goal.returns-in-Ok-clause-whole
 returns-in-Ok-clause-whole g c =
     rw (ap (λ (s : Stored). s.entries) c.into_journal-journal.ensures, c.end_of-end.ensures)
-    (c.in_ok-status-in-Ok.ensures.whole c.args.inputs.plan c.args.inputs.script c.args.followed.now.entries c.in-Ok.ensures.followed)
+    (c.in_ok-status-in-Ok.ensures.whole c.args.inputs.plan c.args.inputs.script c.args.followed.now.entries
+    c.in-Ok.ensures.followed)

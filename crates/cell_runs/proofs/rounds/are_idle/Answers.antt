@@ -5,7 +5,8 @@ use Rattle.cell_turns.specs.Six.{at}
 use Rattle.cell_workers.specs.Ends.{is_idle}
 use Rattle.cell_runs.proofs.rounds.are_idle.Goals as goal
 
-all_six : (Q : Machine → Type 0) → Q machine.Feed → Q machine.Table → Q machine.Robot → Q machine.Press1 → Q machine.Press2 → Q machine.Deposit → (m : Machine) → Q m
+all_six : (Q : Machine → Type 0) → Q machine.Feed → Q machine.Table → Q machine.Robot → Q machine.Press1
+    → Q machine.Press2 → Q machine.Deposit → (m : Machine) → Q m
 all_six Q f t r p q d machine.Feed = f
 all_six Q f t r p q d machine.Table = t
 all_six Q f t r p q d machine.Robot = r

@@ -9,6 +9,10 @@ returns-clause-run g c = λ empty.
     record {
       legal = search rules;
       ended =
-          ended_started g.R.Run.limits c.new-kept.result.0.limits c.args.plan.now c.args.script c.args.book.entries c.new-kept.result.0.entries c.run_rounds-end.new.cell.kept.entries c.into_book.result.entries c.start-watches.result c.run_rounds-end.result
-          (ap (λ (h : History). h.entries) kept) empty (ap (λ (h : History). h.limits) kept ∙ c.requires.limits) (ap (λ (h : History). h.entries) c.into_book.ensures) c.start-watches.ensures.fits c.run_rounds-end.ensures.ended;
+          ended_started g.R.Run.limits c.new-kept.result.0.limits c.args.plan.now c.args.script c.args.book.entries
+          c.new-kept.result.0.entries c.run_rounds-end.new.cell.kept.entries c.into_book.result.entries
+          c.start-watches.result c.run_rounds-end.result
+          (ap (λ (h : History). h.entries) kept) empty (ap (λ (h : History). h.limits) kept ∙ c.requires.limits)
+          (ap (λ (h : History). h.entries) c.into_book.ensures) c.start-watches.ensures.fits
+          c.run_rounds-end.ensures.ended;
     }

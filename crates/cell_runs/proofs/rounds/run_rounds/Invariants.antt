@@ -13,5 +13,7 @@ invariant-loop-round g l =
     record {
       machines : (m : Machine) → machine_of_watch (at l.cell.watches m) ≡ m;
       limits : l.cell.kept.limits ≡ was.kept.limits;
-      rounds : (minds : Six Mind) → FitAll was.watches minds → Reaches (Rounds was.kept.limits l.plan (place (now was.kept.entries minds) was.script was.lost) l._round) l.cell.kept.entries l.cell.watches l.cell.script l.cell.lost;
+      rounds : (minds : Six Mind) → FitAll was.watches minds
+          → Reaches (Rounds was.kept.limits l.plan (place (now was.kept.entries minds) was.script was.lost) l._round)
+          l.cell.kept.entries l.cell.watches l.cell.script l.cell.lost;
     }

@@ -25,8 +25,12 @@ returns-in_err-take_step-clause-stops g c =
     let i = c.loop-machine.machine-index in
     let below : i < length order = search rules in
     err_of _ _ _ c.from_residual.ensures.1
-    (λ minds fits. stopped_turn start.kept.limits cell.kept.limits c.args.plan.now (take i order) (take (i + 1) order) (drop (i + 1) order) order (get_or order i machine.Feed) (Turn (get_or order i machine.Feed) c.read-reading.result) (now start.kept.entries minds) cell.kept.entries c.take_step.new.cell.kept.entries cell.watches _
-    was.limits (take_more order i machine.Feed below) (take-append-drop (i + 1) order) refl (was.turns minds fits) c.in_err-take_step.ensures.stops)
+    (λ minds fits. stopped_turn start.kept.limits cell.kept.limits c.args.plan.now (take i order) (take (i + 1) order)
+    (drop (i + 1) order) order (get_or order i machine.Feed)
+    (Turn (get_or order i machine.Feed) c.read-reading.result) (now start.kept.entries minds) cell.kept.entries
+    c.take_step.new.cell.kept.entries cell.watches _
+    was.limits (take_more order i machine.Feed below) (take-append-drop (i + 1) order) refl (was.turns minds fits)
+    c.in_err-take_step.ensures.stops)
 
 pub loop-machine-preserved : goal.loop-machine-preserved
 loop-machine-preserved g c =
@@ -41,6 +45,9 @@ loop-machine-preserved g c =
       limits = c.take_step.ensures.limits ∙ was.limits;
       same = (c.take_step.ensures.same.0 ∙ was.same.0, c.take_step.ensures.same.1 ∙ was.same.1);
       turns = λ minds fits.
-          takes_more start.kept.limits cell.kept.limits c.args.plan.now (take i order) (take (i + 1) order) (get_or order i machine.Feed) (Turn (get_or order i machine.Feed) c.read-reading.result) (now start.kept.entries minds) cell.kept.entries next.kept.entries cell.watches next.watches was.limits (take_more order i machine.Feed below) refl
+          takes_more start.kept.limits cell.kept.limits c.args.plan.now (take i order) (take (i + 1) order)
+          (get_or order i machine.Feed) (Turn (get_or order i machine.Feed) c.read-reading.result)
+          (now start.kept.entries minds) cell.kept.entries next.kept.entries cell.watches next.watches was.limits
+          (take_more order i machine.Feed below) refl
           c.in_ok-take_step.ensures.took (was.turns minds fits);
     }

@@ -14,5 +14,7 @@ invariant-loop-machine g l =
       machines : (m : Machine) → machine_of_watch (at l.cell.watches m) ≡ m;
       limits : l.cell.kept.limits ≡ was.kept.limits;
       same : (l.cell.script ≡ was.script) × (l.cell.lost ≡ was.lost);
-      turns : (minds : Six Mind) → FitAll was.watches minds → TakesTurns was.kept.limits l.plan (take l.machine-index order) (now was.kept.entries minds) l.cell.kept.entries l.cell.watches;
+      turns : (minds : Six Mind) → FitAll was.watches minds
+          → TakesTurns was.kept.limits l.plan (take l.machine-index order) (now was.kept.entries minds)
+          l.cell.kept.entries l.cell.watches;
     }

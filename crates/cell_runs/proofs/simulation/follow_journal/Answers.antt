@@ -7,5 +7,6 @@ use Rattle.cell_runs.proofs.simulation.follow_journal.Goals as goal
 pub returns-clause-followed : goal.returns-clause-followed
 returns-clause-followed g c =
     let opened = c.in_ok-book.ensures in
-    subst (λ (l : BookLimits). IsFollowed l c.args.plan.now c.args.script c.args.journal.now.entries c.follow_over.result.book.entries c.follow_over.result.followed) (ap (λ (h : History). h.limits) opened)
+    subst (λ (l : BookLimits). IsFollowed l c.args.plan.now c.args.script c.args.journal.now.entries
+    c.follow_over.result.book.entries c.follow_over.result.followed) (ap (λ (h : History). h.limits) opened)
     (c.follow_over.ensures.followed (ap (λ (h : History). h.entries) opened))

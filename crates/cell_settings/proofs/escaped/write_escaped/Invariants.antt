@@ -9,6 +9,7 @@ use Rattle.cell_settings.proofs.escaped.write_escaped.Given as goal
 abbrev pub invariant-loop-byte : goal.invariant-loop-byte
 invariant-loop-byte g l = record {
   writer : IsSameWriter l.fn.writer l.writer;
-  bytes : Appends (bytes_held g.W.Write.contents l.fn.writer) (bytes_held g.W.Write.contents l.writer) (concat (map escaped_byte (take l.byte-index l.byte-items)));
+  bytes : Appends (bytes_held g.W.Write.contents l.fn.writer) (bytes_held g.W.Write.contents l.writer)
+      (concat (map escaped_byte (take l.byte-index l.byte-items)));
   same : has_refused l.writer ≡ has_refused l.fn.writer;
 }

@@ -5,5 +5,6 @@ use Rattle.cell_show.proofs.beside.other_page.Goals as goal
 
 pub returns-in-Ok : goal.returns-in-Ok
 returns-in-Ok c =
-    inl (subst (λ (start : List ℕ). ShowsPage c.args.form (Some start) (Some c.show_journal.new.writer.items) (rows_of c.args.text.now)) c.new-page.ensures.items
+    inl (subst (λ (start : List ℕ). ShowsPage c.args.form (Some start) (Some c.show_journal.new.writer.items)
+    (rows_of c.args.text.now)) c.new-page.ensures.items
     (c.in-Ok.ensures.page c.if-status-le-REFUSED.true))

@@ -20,8 +20,10 @@ returns-clause-pages g c = λ low.
     let new = g.W.Write.contents c.write_beside.new.writer in
     let first = c.show_journal.new.writer.items in
     let page =
-    subst (λ (start : List ℕ). IfSome (rows_in (g.R.Read.remaining c.args.reader)) (ShowsPage c.args.form (Some start) (Some first))) c.new-first.ensures.items
+    subst (λ (start : List ℕ). IfSome (rows_in (g.R.Read.remaining c.args.reader))
+    (ShowsPage c.args.form (Some start) (Some first))) c.new-first.ensures.items
     (c.in-Ok.ensures.page low) in
-    let left = subst (λ (a : List ℕ). WritesBeside old new a c.as_slice-2.result.now) c.as_slice.ensures.value c.in_ok-write_beside.ensures.pages in
+    let left = subst (λ (a : List ℕ). WritesBeside old new a c.as_slice-2.result.now) c.as_slice.ensures.value
+    c.in_ok-write_beside.ensures.pages in
     let both = subst (λ (b : List ℕ). WritesBeside old new first b) c.as_slice-2.ensures.value left in
     both_shown _ c.args.form (rows_of c.args.other.now) old new first c.in-Some.second.items page both c.in-Some.ensures

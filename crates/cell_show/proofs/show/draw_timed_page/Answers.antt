@@ -1,4 +1,9 @@
 use Rattle.cell_show.proofs.show.draw_timed_page.Goals as goal
 
 pub returns-clause-page : goal.returns-clause-page
-returns-clause-page g c = λ ok. (c.refused_entry-refused.result, c.refused_entry-refused.ensures, _, c.in_ok-write_page.ensures.page)
+returns-clause-page g c = λ ok. (
+  c.refused_entry-refused.result,
+  c.refused_entry-refused.ensures,
+  _,
+  c.in_ok-write_page.ensures.page,
+)

@@ -10,7 +10,8 @@ pub returns-in_default-clause-status : goal.returns-in_default-clause-status
 returns-in_default-clause-status g c = (Err error.OutOfMemory, wants-memory _, refl)
 
 pub returns-then-status-gt-REFUSED-clause-status : goal.returns-then-status-gt-REFUSED-clause-status
-returns-then-status-gt-REFUSED-clause-status g c = (c.in-Ok.reading.answer, c.in-Ok.ensures.due, c.status_of-status.ensures)
+returns-then-status-gt-REFUSED-clause-status g c =
+    (c.in-Ok.reading.answer, c.in-Ok.ensures.due, c.status_of-status.ensures)
 
 pub returns-then-branch-clause-status : goal.returns-then-branch-clause-status
 returns-then-branch-clause-status g c = (c.in-Ok.reading.answer, c.in-Ok.ensures.due, c.status_of-status.ensures)
@@ -23,7 +24,8 @@ returns-then-branch-clause-there g c = λ low.
     let book = c.in-Ok.reading.book.entries in
     let n = c.len-entries.result in
     let are : IfSome (rows_left g.R.Read.remaining c.args.rows.now) (AreGood book) =
-    good (rows_left g.R.Read.remaining c.args.rows.now) c.in-Ok.reading.answer book c.in-Ok.ensures.due c.in-Ok.ensures.before c.in-Ok.ensures.first
+    good (rows_left g.R.Read.remaining c.args.rows.now) c.in-Ok.reading.answer book c.in-Ok.ensures.due
+    c.in-Ok.ensures.before c.in-Ok.ensures.first
     (omega (arith, c.status_of-status.ensures, low)) in
     let size : length book ≡ n = search rules in
     let shown : c.unwrap_or-shown.result ≡ unwrap_or c.args.entry n = c.unwrap_or-shown.ensures in
@@ -36,8 +38,10 @@ returns-then-branch-clause-page g c = λ low.
     let old = g.W.Write.contents c.args.writer.now in
     let new = g.W.Write.contents c.draw.new.writer in
     let drawn : c.draw.result ≡ Ok true = search rules in
-    let page = subst (λ why. IsPage c.args.form book why old new) c.err-answer.ensures.value (c.draw.ensures.page drawn) in
-    paged (rows_left g.R.Read.remaining c.args.rows.now) c.args.form c.in-Ok.reading.answer book old new c.in-Ok.ensures.due c.in-Ok.ensures.before
+    let page = subst (λ why. IsPage c.args.form book why old new) c.err-answer.ensures.value (c.draw.ensures.page drawn)
+    in
+    paged (rows_left g.R.Read.remaining c.args.rows.now) c.args.form c.in-Ok.reading.answer book old new
+    c.in-Ok.ensures.due c.in-Ok.ensures.before
     c.in-Ok.ensures.first (omega (arith, c.status_of-status.ensures, low)) page
 
 pub returns-in_err-draw-clause-entries : goal.returns-in_err-draw-clause-entries
@@ -46,6 +50,8 @@ returns-in_err-draw-clause-entries g c =
     let why = c.in_err-draw.field-0.0 in
     let is : c.from_residual.result ≡ Err why = search rules in
     let are : IfSome (rows_left g.R.Read.remaining c.args.rows.now) (AreGood book) =
-    good (rows_left g.R.Read.remaining c.args.rows.now) c.in-Ok.reading.answer book c.in-Ok.ensures.due c.in-Ok.ensures.before c.in-Ok.ensures.first
+    good (rows_left g.R.Read.remaining c.args.rows.now) c.in-Ok.reading.answer book c.in-Ok.ensures.due
+    c.in-Ok.ensures.before c.in-Ok.ensures.first
     (omega (arith, c.status_of-status.ensures, c.if-status-gt-REFUSED.false)) in
-    rw is (told_of _ book why are (λ n same. c.in_err-draw.ensures.entry n (ap Err same)) (λ same. c.in_err-draw.ensures.long (ap Err same)))
+    rw is (told_of _ book why are (λ n same. c.in_err-draw.ensures.entry n (ap Err same))
+    (λ same. c.in_err-draw.ensures.long (ap Err same)))

@@ -10,5 +10,6 @@ loop-axis-preserved c =
     let added = rw (c.axis_number.ensures.value) at c.in_ok-push_motions.ensures in
     record {
       all = c.loop-axis.invariant.all;
-      added = flat-more (λ (a : Axis). in_motions c.args.kinds.now a (get_or c.args.counts.now (axis_number a) 0)) _ _ _ _ _ c.loop-axis-test.true c.loop-axis.invariant.added added;
+      added = flat-more (λ (a : Axis). in_motions c.args.kinds.now a (get_or c.args.counts.now (axis_number a) 0)) _ _ _
+          _ _ c.loop-axis-test.true c.loop-axis.invariant.added added;
     }

@@ -10,5 +10,6 @@ use Rattle.cell_sweep.proofs.cases.cases_of.Given as goal
 abbrev pub invariant-loop-axis : goal.invariant-loop-axis
 invariant-loop-axis l = record {
   all : l.axis-items ≡ all_axis;
-  added : l.cases.items ≡ flat_map (λ (a : Axis). in_motions l.kinds a (get_or l.counts (axis_number a) 0)) (take l.axis-index l.axis-items);
+  added : l.cases.items ≡ flat_map (λ (a : Axis). in_motions l.kinds a (get_or l.counts (axis_number a) 0))
+      (take l.axis-index l.axis-items);
 }

@@ -7,4 +7,5 @@ use Rattle.cell_sweep.proofs.print.write_quoted.Given as goal
 -- the bytes so far are written
 abbrev pub invariant-loop-byte : goal.invariant-loop-byte
 invariant-loop-byte g l =
-    Appends (g.W.Write.contents l.fn.writer) (g.W.Write.contents l.writer) (34 ∷ flat_map quoted_byte (take l.byte-index l.text))
+    Appends (g.W.Write.contents l.fn.writer) (g.W.Write.contents l.writer)
+    (34 ∷ flat_map quoted_byte (take l.byte-index l.text))

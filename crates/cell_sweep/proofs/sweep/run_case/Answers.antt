@@ -4,6 +4,8 @@ use Rattle.cell_sweep.proofs.sweep.run_case.Goals as goal
 
 pub returns-clause-told : goal.returns-clause-told
 returns-clause-told g c =
-    served-of _ _ _ _ c.in_ok-operator.operator.items _ _ c.args.planned _ _ _ _ c.as_slice.ensures.value c.as_slice-2.ensures.value
+    served-of _ _ _ _ c.in_ok-operator.operator.items _ _ c.args.planned _ _ _ _ c.as_slice.ensures.value
+    c.as_slice-2.ensures.value
     c.in_ok-operator.ensures c.in_ok-row.ensures.planned
-    (c.as_bytes-faults.ensures.value ∙ c.as_str.ensures.value ∙ c.in_ok-faults.ensures) c.in_ok-ran.ensures.ran c.in_ok-row.ensures.told
+    (c.as_bytes-faults.ensures.value ∙ c.as_str.ensures.value ∙ c.in_ok-faults.ensures) c.in_ok-ran.ensures.ran
+    c.in_ok-row.ensures.told

@@ -13,7 +13,8 @@ loop-planned-preserved g c =
     let (same, told) = c.loop-planned.invariant in
     let sweep = c.args.task.now.sweep in (
       c.in_ok-end.ensures.writer ∙ same,
-      case-more _ _ (wanted sweep.kinds.now sweep.motions sweep.service sweep.csv) c.args.cases.now c.loop-planned.planned-index _ _ _ _
+      case-more _ _ (wanted sweep.kinds.now sweep.motions sweep.service sweep.csv) c.args.cases.now
+          c.loop-planned.planned-index _ _ _ _
           c.loop-planned-test.true told c.in_ok-end.ensures.told,
     )
 
@@ -26,7 +27,8 @@ pub returns-in_err-end-clause-part : goal.returns-in_err-end-clause-part
 returns-in_err-end-clause-part g c =
     let (same, told) = c.loop-planned.invariant in
     let sweep = c.args.task.now.sweep in
-    λ failed. grows-twice _ _ _ (cases-grow _ _ (wanted sweep.kinds.now sweep.motions sweep.service sweep.csv) _ _ _ told) (c.in_err-end.ensures.part refl)
+    λ failed. grows-twice _ _ _ (cases-grow _ _ (wanted sweep.kinds.now sweep.motions sweep.service sweep.csv) _ _ _
+    told) (c.in_err-end.ensures.part refl)
 
 pub returns-in_err-push_end-clause-writer : goal.returns-in_err-push_end-clause-writer
 returns-in_err-push_end-clause-writer g c =
@@ -38,7 +40,8 @@ returns-in_err-push_end-clause-part g c =
     let (same, told) = c.loop-planned.invariant in
     let sweep = c.args.task.now.sweep in
     let w = wanted sweep.kinds.now sweep.motions sweep.service sweep.csv in
-    let more = case-more _ _ w c.args.cases.now c.loop-planned.planned-index _ _ _ _ c.loop-planned-test.true told c.in_ok-end.ensures.told in
+    let more = case-more _ _ w c.args.cases.now c.loop-planned.planned-index _ _ _ _ c.loop-planned-test.true told
+    c.in_ok-end.ensures.told in
     λ failed. cases-grow _ _ w _ _ _ more
 
 pub returns-clause-writer : goal.returns-clause-writer
@@ -50,4 +53,5 @@ pub returns-clause-told : goal.returns-clause-told
 returns-clause-told g c =
     let (same, told) = c.loop-planned.invariant in
     let sweep = c.args.task.now.sweep in
-    all-cases _ _ (wanted sweep.kinds.now sweep.motions sweep.service sweep.csv) _ c.loop-planned.planned-index _ _ c.loop-planned-test.false told
+    all-cases _ _ (wanted sweep.kinds.now sweep.motions sweep.service sweep.csv) _ c.loop-planned.planned-index _ _
+    c.loop-planned-test.false told

@@ -8,4 +8,5 @@ pub returns-then-is_err-3-clause-acted : goal.returns-then-is_err-3-clause-acted
 returns-then-is_err-3-clause-acted g c = λ tells.
     let was = g.O.OperatorPort.log c.args.operator.now in
     acted_once was (g.O.OperatorPort.log c.do_by_hand.new.operator) (act_of c.args.entry)
-    (c.do_by_hand.ensures.told tells ∙ ap (after_hand was (act_of c.args.entry)) (c.is_err-2.ensures.negation ∙ ap not c.if-is_err-2.false))
+    (c.do_by_hand.ensures.told tells ∙ ap (after_hand was (act_of c.args.entry)) (c.is_err-2.ensures.negation
+    ∙ ap not c.if-is_err-2.false))

@@ -19,10 +19,17 @@ loop-step-init g c =
       machines = c.requires;
       few = omega arith;
       still = λ t. t;
-      grown = grown_start c.args.kept.now c.args.shares.now (map_six items c.no_entries.result) c.new.result.items none c.new.ensures.items;
-      sent = λ m t. record { sends = sends_start (g.P.Port.log (at c.args.ports.now m)) (has_failed_command (at c.args.watches.now m)) (at (map_six items c.no_entries.result) m) (none m); unread = refl };
+      grown = grown_start c.args.kept.now c.args.shares.now (map_six items c.no_entries.result) c.new.result.items none
+          c.new.ensures.items;
+      sent = λ m t. record {
+        sends = sends_start (g.P.Port.log (at c.args.ports.now m))
+            (has_failed_command (at c.args.watches.now m)) (at (map_six items c.no_entries.result) m) (none m);
+        unread =
+            refl;
+      };
       did = λ t. did_start (g.O.OperatorPort.log c.args.operator.now) c.new.result.items c.new.ensures.items;
-      scheduled = scheduled_start c.args.plan.now c.args.kept.now c.args.watches.now (g.O.OperatorPort.tells c.args.operator.now) (g.O.OperatorPort.log c.args.operator.now);
+      scheduled = scheduled_start c.args.plan.now c.args.kept.now c.args.watches.now
+          (g.O.OperatorPort.tells c.args.operator.now) (g.O.OperatorPort.log c.args.operator.now);
     }
 
 pub loop-step-preserved : goal.loop-step-preserved
@@ -38,7 +45,9 @@ loop-step-preserved g c =
       grown = step.grown c.args.kept.now c.args.shares.now was.grown;
       sent = step.sent c.args.ports.now c.args.watches.now was.sent;
       did = λ t. step.did (g.O.OperatorPort.log c.args.operator.now) t (was.did (c.take_step-taken.ensures.still t));
-      scheduled = rw (take_more c.args.steps.now i c.step-item.result below, sym c.step-item.is) (step.scheduled (take i c.args.steps.now) c.args.kept.now c.args.watches.now (g.O.OperatorPort.log c.args.operator.now) was.scheduled);
+      scheduled = rw (take_more c.args.steps.now i c.step-item.result below, sym c.step-item.is)
+          (step.scheduled (take i c.args.steps.now) c.args.kept.now c.args.watches.now
+          (g.O.OperatorPort.log c.args.operator.now) was.scheduled);
     }
 
 pub returns-in-Err-clause-stopped : goal.returns-in-Err-clause-stopped
@@ -62,8 +71,14 @@ returns-in-Err-clause-stopped g c =
       grown = rw (same.0, same.1) was.grown;
       sent = rw (same.2, same.3) was.sent;
       scheduled =
-          scheduled_stopped c.args.plan.now (take i c.args.steps.now) c.loop-step.ran.refused c.args.kept.now c.loop-step.kept c.take_step-taken.new.kept c.args.watches.now c.loop-step.watches c.take_step-taken.new.watches
-          (tells operator) (tells c.take_step-taken.new.operator) (log c.args.operator.now) (log operator) (log c.take_step-taken.new.operator) (act_at c.step-item.result) same.0 same.2 c.take_step-taken.ensures.still c.in-Err.ensures.acted was.scheduled;
+          scheduled_stopped c.args.plan.now (take i c.args.steps.now) c.loop-step.ran.refused c.args.kept.now
+          c.loop-step.kept c.take_step-taken.new.kept c.args.watches.now c.loop-step.watches
+          c.take_step-taken.new.watches
+          (tells operator) (tells c.take_step-taken.new.operator) (log c.args.operator.now) (log operator)
+          (log c.take_step-taken.new.operator) (act_at c.step-item.result) same.0 same.2
+          c.take_step-taken.ensures.still c.in-Err.ensures.acted was.scheduled;
       stops = rw same.0 c.in-Err.ensures.stops;
-      did = λ t. did_more (log c.args.operator.now) (log operator) (log c.take_step-taken.new.operator) c.loop-step.ran.operator.items (act_at c.step-item.result) (c.in-Err.ensures.acted t) (was.did (c.take_step-taken.ensures.still t));
+      did = λ t. did_more (log c.args.operator.now) (log operator) (log c.take_step-taken.new.operator)
+          c.loop-step.ran.operator.items (act_at c.step-item.result) (c.in-Err.ensures.acted t)
+          (was.did (c.take_step-taken.ensures.still t));
     }

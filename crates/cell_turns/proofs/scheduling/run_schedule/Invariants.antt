@@ -12,8 +12,13 @@ invariant-loop-step g l =
       machines : (m : Machine) → machine_of_watch (at l.watches m) ≡ m;
       few : l.ran.refused ≤ l.step-index;
       still : g.O.OperatorPort.tells l.operator ≡ true → g.O.OperatorPort.tells l.initial.operator ≡ true;
-      grown : Grown l.initial.kept l.kept l.initial.shares l.shares (map_six (λ v. v.items) l.ran.machines) l.ran.operator.items;
-      sent : AllSent g.P.Port.tells g.P.Port.log l.initial.ports l.ports l.initial.watches l.watches (map_six (λ v. v.items) l.ran.machines);
-      did : g.O.OperatorPort.tells l.operator ≡ true → Did (g.O.OperatorPort.log l.initial.operator) (g.O.OperatorPort.log l.operator) l.ran.operator.items;
-      scheduled : Scheduled l.plan (take l.step-index l.steps) l.ran.refused l.initial.kept l.kept l.initial.watches l.watches (g.O.OperatorPort.tells l.operator) (g.O.OperatorPort.log l.initial.operator) (g.O.OperatorPort.log l.operator);
+      grown : Grown l.initial.kept l.kept l.initial.shares l.shares (map_six (λ v. v.items) l.ran.machines)
+          l.ran.operator.items;
+      sent : AllSent g.P.Port.tells g.P.Port.log l.initial.ports l.ports l.initial.watches l.watches
+          (map_six (λ v. v.items) l.ran.machines);
+      did : g.O.OperatorPort.tells l.operator ≡ true
+          → Did (g.O.OperatorPort.log l.initial.operator) (g.O.OperatorPort.log l.operator) l.ran.operator.items;
+      scheduled : Scheduled l.plan (take l.step-index l.steps) l.ran.refused l.initial.kept l.kept l.initial.watches
+          l.watches (g.O.OperatorPort.tells l.operator) (g.O.OperatorPort.log l.initial.operator)
+          (g.O.OperatorPort.log l.operator);
     }

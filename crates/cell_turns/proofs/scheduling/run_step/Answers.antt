@@ -16,7 +16,8 @@ returns-clause-grown g c =
     let ran = c.clear.new.self in
     let none = λ (m : Machine). sym (map_at items ran.machines m) ∙ c.clear.ensures.machines m in
     c.in_default.ensures.grown c.args.kept.now c.args.shares.now
-    (grown_start c.args.kept.now c.args.shares.now (map_six items ran.machines) ran.operator.items none c.clear.ensures.operator)
+    (grown_start c.args.kept.now c.args.shares.now (map_six items ran.machines) ran.operator.items none
+    c.clear.ensures.operator)
 
 pub returns-clause-sent : goal.returns-clause-sent
 returns-clause-sent g c =
@@ -24,7 +25,11 @@ returns-clause-sent g c =
     let ran = c.clear.new.self in
     let none = λ (m : Machine). sym (map_at items ran.machines m) ∙ c.clear.ensures.machines m in
     c.in_default.ensures.sent c.args.ports.now c.args.watches.now
-    (λ m t. record { sends = sends_start (g.P.Port.log (at c.args.ports.now m)) (has_failed_command (at c.args.watches.now m)) (at (map_six items ran.machines) m) (none m); unread = refl })
+    (λ m t. record {
+      sends = sends_start (g.P.Port.log (at c.args.ports.now m))
+          (has_failed_command (at c.args.watches.now m)) (at (map_six items ran.machines) m) (none m);
+      unread = refl;
+    })
 
 pub returns-clause-did : goal.returns-clause-did
 returns-clause-did g c = λ t.
@@ -35,7 +40,8 @@ pub returns-clause-scheduled : goal.returns-clause-scheduled
 returns-clause-scheduled g c =
     let operator = c.args.operator.now in
     c.in_default.ensures.scheduled [] c.args.kept.now c.args.watches.now (g.O.OperatorPort.log operator)
-    (rw c.clear.ensures.refused (scheduled_start c.args.plan.now c.args.kept.now c.args.watches.now (g.O.OperatorPort.tells operator) (g.O.OperatorPort.log operator)))
+    (rw c.clear.ensures.refused (scheduled_start c.args.plan.now c.args.kept.now c.args.watches.now
+    (g.O.OperatorPort.tells operator) (g.O.OperatorPort.log operator)))
 
 pub returns-in-Err-clause-stopped : goal.returns-in-Err-clause-stopped
 returns-in-Err-clause-stopped g c =
@@ -54,12 +60,23 @@ returns-in-Err-clause-stopped g c =
       refused = 0;
       machines = map_six items ran.machines;
       operator = ran.operator.items;
-      grown = rw (same.0, same.1) (grown_start c.args.kept.now c.args.shares.now (map_six items ran.machines) ran.operator.items none c.clear.ensures.operator);
-      sent = rw (same.2, same.3) (λ m t. record { sends = sends_start (g.P.Port.log (at c.args.ports.now m)) (has_failed_command (at c.args.watches.now m)) (at (map_six items ran.machines) m) (none m); unread = refl });
+      grown = rw (same.0, same.1) (grown_start c.args.kept.now c.args.shares.now (map_six items ran.machines)
+          ran.operator.items none c.clear.ensures.operator);
+      sent = rw (same.2, same.3) (λ m t. record {
+        sends =
+            sends_start (g.P.Port.log (at c.args.ports.now m)) (has_failed_command (at c.args.watches.now m))
+            (at (map_six items ran.machines) m) (none m);
+        unread = refl;
+      });
       scheduled =
-          scheduled_stopped c.args.plan.now [] 0 c.args.kept.now c.args.kept.now c.take_step-taken.new.kept c.args.watches.now c.args.watches.now c.take_step-taken.new.watches
-          (tells operator) (tells c.take_step-taken.new.operator) (log operator) (log operator) (log c.take_step-taken.new.operator) (act_at c.args.step.now) same.0 same.2 c.take_step-taken.ensures.still c.in-Err.ensures.acted
+          scheduled_stopped c.args.plan.now [] 0 c.args.kept.now c.args.kept.now c.take_step-taken.new.kept
+          c.args.watches.now c.args.watches.now c.take_step-taken.new.watches
+          (tells operator) (tells c.take_step-taken.new.operator) (log operator) (log operator)
+          (log c.take_step-taken.new.operator) (act_at c.args.step.now) same.0 same.2
+          c.take_step-taken.ensures.still c.in-Err.ensures.acted
           (scheduled_start c.args.plan.now c.args.kept.now c.args.watches.now (tells operator) (log operator));
       stops = rw same.0 c.in-Err.ensures.stops;
-      did = λ t. did_more (log operator) (log operator) (log c.take_step-taken.new.operator) ran.operator.items (act_at c.args.step.now) (c.in-Err.ensures.acted t) (did_start (log operator) ran.operator.items c.clear.ensures.operator);
+      did = λ t. did_more (log operator) (log operator) (log c.take_step-taken.new.operator) ran.operator.items
+          (act_at c.args.step.now) (c.in-Err.ensures.acted t)
+          (did_start (log operator) ran.operator.items c.clear.ensures.operator);
     }

@@ -13,19 +13,27 @@ pub returns-in-Err-clause-machines : goal.returns-in-Err-clause-machines
 returns-in-Err-clause-machines g c =
     let watches = c.args.watches.now in
     let watch = c.take_turn.new.watch in
-    all_put (λ n (w : Watch) (u : Watch) (v : Watch). machine_of_watch w ≡ n) c.in-Turn.machine watches watches watches watch watch watch c.requires.machines c.take_turn.ensures.machine
+    all_put (λ n (w : Watch) (u : Watch) (v : Watch). machine_of_watch w ≡ n) c.in-Turn.machine watches watches watches
+    watch watch watch c.requires.machines c.take_turn.ensures.machine
 
 pub returns-in-Ok-clause-machines : goal.returns-in-Ok-clause-machines
 returns-in-Ok-clause-machines g c =
     let watches = c.args.watches.now in
     let watch = c.take_turn.new.watch in
-    all_put (λ n (w : Watch) (u : Watch) (v : Watch). machine_of_watch w ≡ n) c.in-Turn.machine watches watches watches watch watch watch c.requires.machines c.take_turn.ensures.machine
+    all_put (λ n (w : Watch) (u : Watch) (v : Watch). machine_of_watch w ≡ n) c.in-Turn.machine watches watches watches
+    watch watch watch c.requires.machines c.take_turn.ensures.machine
 
 pub returns-in-Err-clause-unchanged : goal.returns-in-Err-clause-unchanged
 returns-in-Err-clause-unchanged g c =
     let same = c.in-Err.ensures.unchanged in
-    let m = c.in-Turn.machine in
-    (same.1, same.2, ap (put c.args.watches.now m) (same.3 ∙ c.pick-watch.ensures.value) ∙ put_at c.args.watches.now m, ap (put c.args.ports.now m) (same.0 ∙ c.pick-port.ensures.value) ∙ put_at c.args.ports.now m)
+    let m = c.in-Turn.machine in (
+      same.1,
+      same.2,
+      ap (put c.args.watches.now m) (same.3 ∙ c.pick-watch.ensures.value)
+          ∙ put_at c.args.watches.now m,
+      ap (put c.args.ports.now m) (same.0 ∙ c.pick-port.ensures.value)
+          ∙ put_at c.args.ports.now m,
+    )
 
 pub returns-in-Ok-clause-grown : goal.returns-in-Ok-clause-grown
 returns-in-Ok-clause-grown g c = λ before h grown.
@@ -33,8 +41,10 @@ returns-in-Ok-clause-grown g c = λ before h grown.
     let machines = c.args.ran.now.machines in
     let items = λ (v : Vec Entry _). v.items in
     rw (map_put items machines m c.take_turn.new.entries)
-    (grown_turn before c.args.kept.now c.take_turn.new.kept h c.args.shares.now c.take_turn.new.shares (map_six items machines) c.args.ran.now.operator.items m
-    c.pick-entries.result.now.items c.take_turn.new.entries.items (ap items c.pick-entries.ensures.value ∙ map_at items machines m) c.in-Ok.ensures.grew grown)
+    (grown_turn before c.args.kept.now c.take_turn.new.kept h c.args.shares.now c.take_turn.new.shares
+    (map_six items machines) c.args.ran.now.operator.items m
+    c.pick-entries.result.now.items c.take_turn.new.entries.items (ap items c.pick-entries.ensures.value
+    ∙ map_at items machines m) c.in-Ok.ensures.grew grown)
 
 pub returns-in-Ok-clause-sent : goal.returns-in-Ok-clause-sent
 returns-in-Ok-clause-sent g c = λ before ws sent.
@@ -45,13 +55,18 @@ returns-in-Ok-clause-sent g c = λ before ws sent.
     let items = λ (v : Vec Entry _). v.items in
     let tells = g.P.Port.tells in
     let log = g.P.Port.log in
-    let Q = λ (n : Machine) (p : g.row.P.Denot) (es : List Entry) (w : Watch). tells p ≡ true → SendsUnread (log (at before n)) (has_failed_command (at ws n)) (log p) es (has_failed_command w) in
-    let was = all_picked Q m ports (map_six items machines) watches c.pick-port.result.now c.pick-entries.result.now.items c.pick-watch.result.now
-    c.pick-port.ensures.value (ap items c.pick-entries.ensures.value ∙ map_at items machines m) c.pick-watch.ensures.value sent in
+    let Q = λ (n : Machine) (p : g.row.P.Denot) (es : List Entry) (w : Watch). tells p ≡ true
+    → SendsUnread (log (at before n)) (has_failed_command (at ws n)) (log p) es (has_failed_command w) in
+    let was = all_picked Q m ports (map_six items machines) watches c.pick-port.result.now
+    c.pick-entries.result.now.items c.pick-watch.result.now
+    c.pick-port.ensures.value (ap items c.pick-entries.ensures.value ∙ map_at items machines m)
+    c.pick-watch.ensures.value sent in
     rw (map_put items machines m c.take_turn.new.entries)
-    (all_put Q m ports (map_six items machines) watches c.take_turn.new.port c.take_turn.new.entries.items c.take_turn.new.watch sent
+    (all_put Q m ports (map_six items machines) watches c.take_turn.new.port c.take_turn.new.entries.items
+    c.take_turn.new.watch sent
     (λ told. record {
-      sends = c.take_turn.ensures.sends told (log (at before m)) (has_failed_command (at ws m)) (was (c.take_turn.ensures.still told)).sends;
+      sends = c.take_turn.ensures.sends told (log (at before m)) (has_failed_command (at ws m))
+          (was (c.take_turn.ensures.still told)).sends;
       unread = c.take_turn.ensures.unread told ∙ (was (c.take_turn.ensures.still told)).unread;
     }))
 
@@ -59,17 +74,23 @@ pub returns-in-Ok-clause-scheduled : goal.returns-in-Ok-clause-scheduled
 returns-in-Ok-clause-scheduled g c = λ steps before ws acts s.
     let operator = c.args.operator.now in
     rw c.in-Turn.is
-    (scheduled_turn c.args.plan.now steps c.args.ran.now.refused _ before c.args.kept.now c.take_turn.new.kept ws c.args.watches.now (g.O.OperatorPort.tells operator) acts (g.O.OperatorPort.log operator)
-    c.in-Turn.machine c.in-Turn.reading c.in-Ok.refused c.pick-watch.result.now c.take_turn.new.watch c.pick-watch.ensures.value c.in-Ok.ensures.turned c.in-Ok.ensures.refused refl s)
+    (scheduled_turn c.args.plan.now steps c.args.ran.now.refused _ before c.args.kept.now c.take_turn.new.kept ws
+    c.args.watches.now (g.O.OperatorPort.tells operator) acts (g.O.OperatorPort.log operator)
+    c.in-Turn.machine c.in-Turn.reading c.in-Ok.refused c.pick-watch.result.now c.take_turn.new.watch
+    c.pick-watch.ensures.value c.in-Ok.ensures.turned c.in-Ok.ensures.refused refl s)
 
 pub returns-in-Ok-hand-clause-did : goal.returns-in-Ok-hand-clause-did
 returns-in-Ok-hand-clause-did g c = λ acts tells did.
-    did_hand acts (g.O.OperatorPort.log c.args.operator.now) (g.O.OperatorPort.log c.hand.new.operator) c.args.ran.now.operator.items c.hand.new.entries.items c.in-Hand.entry c.in-Ok-hand.field-0
+    did_hand acts (g.O.OperatorPort.log c.args.operator.now) (g.O.OperatorPort.log c.hand.new.operator)
+    c.args.ran.now.operator.items c.hand.new.entries.items c.in-Hand.entry c.in-Ok-hand.field-0
     (c.in-Ok-hand.ensures.told tells) c.in-Ok-hand.ensures.entries did
 
 pub returns-in-Ok-hand-clause-scheduled : goal.returns-in-Ok-hand-clause-scheduled
 returns-in-Ok-hand-clause-scheduled g c = λ steps before ws acts s.
     let operator = c.args.operator.now in
     rw c.in-Hand.is
-    (scheduled_hand c.args.plan.now steps c.args.ran.now.refused before c.args.kept.now c.hand.new.kept ws c.args.watches.now (g.O.OperatorPort.tells operator) (g.O.OperatorPort.tells c.hand.new.operator) acts (g.O.OperatorPort.log operator) (g.O.OperatorPort.log c.hand.new.operator)
-    c.in-Hand.entry c.in-Ok-hand.field-0 c.in-Ok-hand.ensures.handed c.in-Ok-hand.ensures.kept c.hand.ensures.still c.in-Ok-hand.ensures.told s)
+    (scheduled_hand c.args.plan.now steps c.args.ran.now.refused before c.args.kept.now c.hand.new.kept ws
+    c.args.watches.now (g.O.OperatorPort.tells operator) (g.O.OperatorPort.tells c.hand.new.operator) acts
+    (g.O.OperatorPort.log operator) (g.O.OperatorPort.log c.hand.new.operator)
+    c.in-Hand.entry c.in-Ok-hand.field-0 c.in-Ok-hand.ensures.handed c.in-Ok-hand.ensures.kept c.hand.ensures.still
+    c.in-Ok-hand.ensures.told s)

@@ -11,7 +11,11 @@ abbrev pub invariant-loop : goal.invariant-loop
 invariant-loop g l =
     record {
       still : g.O.OperatorPort.tells l.operator ≡ true → g.O.OperatorPort.tells l.initial.operator ≡ true;
-      serves : (start : Held) → Serves actor.Operator start l.initial.bookings.entries.items l.initial.bookings.shares → Serves actor.Operator start l.bookings.entries.items l.bookings.shares;
-      follows : (lines : List Line) → Followed g.R.Run.limits lines l.initial.bookings.entries.items l.initial.script → Followed g.R.Run.limits lines l.bookings.entries.items l.script;
-      did : g.O.OperatorPort.tells l.operator ≡ true → (before : ActLog) → DidHands before (g.O.OperatorPort.log l.initial.operator) l.initial.bookings.entries.items → DidHands before (g.O.OperatorPort.log l.operator) l.bookings.entries.items;
+      serves : (start : Held) → Serves actor.Operator start l.initial.bookings.entries.items l.initial.bookings.shares
+          → Serves actor.Operator start l.bookings.entries.items l.bookings.shares;
+      follows : (lines : List Line) → Followed g.R.Run.limits lines l.initial.bookings.entries.items l.initial.script
+          → Followed g.R.Run.limits lines l.bookings.entries.items l.script;
+      did : g.O.OperatorPort.tells l.operator ≡ true → (before : ActLog)
+          → DidHands before (g.O.OperatorPort.log l.initial.operator) l.initial.bookings.entries.items
+          → DidHands before (g.O.OperatorPort.log l.operator) l.bookings.entries.items;
     }

@@ -3,4 +3,8 @@ use Rattle.cell_turns.specs.Schedules.{entries_of}
 use Rattle.cell_workers.proofs.running.agrees.Given as goal
 
 abbrev pub invariant-loop-place : goal.invariant-loop-place
-invariant-loop-place l = record { within : l.k ≤ length l.entries; same : take l.k l.entries ≡ entries_of l.actor (take l.place l.journal.entries) }
+invariant-loop-place l = record {
+  within : l.k ≤ length l.entries;
+  same : take l.k l.entries
+      ≡ entries_of l.actor (take l.place l.journal.entries);
+}

@@ -6,8 +6,10 @@ use Rattle.cellctl.proofs.asked.stranger.Goals as goal
 
 pub loop-word-preserved : goal.loop-word-preserved
 loop-word-preserved c =
-    All-more (λ w. names_machine w.now ≡ true) c.args.words.now c.loop-word.word-index (record { ref_ptr = (0, 0); now = [] }) c.loop-word-test.true
+    All-more (λ w. names_machine w.now ≡ true) c.args.words.now c.loop-word.word-index
+    (record { ref_ptr = (0, 0); now = [] }) c.loop-word-test.true
     c.loop-word.invariant (sym c.names_machine.ensures ∙ c.if-not-names_machine.false)
 
 pub returns-clause-none : goal.returns-clause-none
-returns-clause-none c = subst AreMachines (take_all c.loop-word.word-index c.args.words.now (omega (arith, c.loop-word-test.false))) c.loop-word.invariant
+returns-clause-none c = subst AreMachines
+    (take_all c.loop-word.word-index c.args.words.now (omega (arith, c.loop-word-test.false))) c.loop-word.invariant

@@ -7,14 +7,32 @@ pub returns-in_default : goal.returns-in_default
 returns-in_default g c =
     inr (
       inl c.in_default.ensures.wrong,
-      (2, c.in_ok-wrong.ensures.status, (refl, refl, codes "PLATES is a whole number from 0 to 15", c.in_ok-wrong.ensures.line)),
+      (
+        2,
+        c.in_ok-wrong.ensures.status,
+        (
+          refl,
+          refl,
+          codes "PLATES is a whole number from 0 to 15",
+          c.in_ok-wrong.ensures.line,
+        ),
+      ),
     )
 
 pub returns-in_default-limit_of : goal.returns-in_default-limit_of
 returns-in_default-limit_of g c =
     inr (
       inr (inl c.in_default-limit_of.ensures.wrong),
-      (2, c.in_ok-wrong-2.ensures.status, (refl, refl, codes "STATES is a whole number from 1 to 4294967295", c.in_ok-wrong-2.ensures.line)),
+      (
+        2,
+        c.in_ok-wrong-2.ensures.status,
+        (
+          refl,
+          refl,
+          codes "STATES is a whole number from 1 to 4294967295",
+          c.in_ok-wrong-2.ensures.line,
+        ),
+      ),
     )
 
 pub returns-in-Some-stranger : goal.returns-in-Some-stranger

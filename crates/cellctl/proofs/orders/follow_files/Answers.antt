@@ -20,6 +20,10 @@ returns g c =
       settings,
       faults,
       operator,
-      as-answered c.follow_texts_kept-told.result c.with_ending.result.written (TellsFollowed journal settings faults operator alone old new) (TellsPartFollowed journal settings faults operator alone old new) c.with_ending.ensures.ok c.with_ending.ensures.err
-          (IfOk-weaker c.follow_texts_kept-told.result _ _ (λ told keeps. (kept_of told.1, keeps)) c.follow_texts_kept-told.ensures.whole) c.follow_texts_kept-told.ensures.part,
+      as-answered c.follow_texts_kept-told.result c.with_ending.result.written
+          (TellsFollowed journal settings faults operator alone old new)
+          (TellsPartFollowed journal settings faults operator alone old new) c.with_ending.ensures.ok
+          c.with_ending.ensures.err
+          (IfOk-weaker c.follow_texts_kept-told.result _ _ (λ told keeps. (kept_of told.1, keeps))
+          c.follow_texts_kept-told.ensures.whole) c.follow_texts_kept-told.ensures.part,
     ))

@@ -17,6 +17,10 @@ returns g c =
       settings,
       faults,
       operator,
-      as-answered c.run_texts_kept-ran.result c.with_ending.result.written (TellsRun settings faults operator c.args.threads running.journal old new) (TellsPart settings faults operator c.args.threads running.journal old new) c.with_ending.ensures.ok c.with_ending.ensures.err
-          (IfOk-weaker c.run_texts_kept-ran.result _ _ (λ told keeps. (kept_of told.1, keeps)) c.run_texts_kept-ran.ensures.whole) c.run_texts_kept-ran.ensures.part,
+      as-answered c.run_texts_kept-ran.result c.with_ending.result.written
+          (TellsRun settings faults operator c.args.threads running.journal old new)
+          (TellsPart settings faults operator c.args.threads running.journal old new) c.with_ending.ensures.ok
+          c.with_ending.ensures.err
+          (IfOk-weaker c.run_texts_kept-ran.result _ _ (λ told keeps. (kept_of told.1, keeps))
+          c.run_texts_kept-ran.ensures.whole) c.run_texts_kept-ran.ensures.part,
     ))

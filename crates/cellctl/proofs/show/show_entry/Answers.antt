@@ -6,17 +6,24 @@ use Rattle.cellctl.proofs.show.show_entry.Goals as goal
 
 pub returns-in_default : goal.returns-in_default
 returns-in_default g c =
-    shown-of c.show_text.result _ _ (λ s shows. inl (None, rw c.in_default.is refl, shows)) (c.show_text.ensures None refl)
+    shown-of c.show_text.result _ _ (λ s shows. inl (None, rw c.in_default.is refl, shows))
+    (c.show_text.ensures None refl)
 
 pub returns-in_default-read_count : goal.returns-in_default-read_count
 returns-in_default-read_count g c =
     let word = escaped c.in-Some.word.now in
     inr (
-      (refl, refl, codes "ENTRY is a whole number, and not '" ++ (word ++ codes "'"), rw (append_assoc word (codes "'") (10 ∷ [])) c.in_ok-writeln.ensures.bytes),
+      (
+        refl,
+        refl,
+        codes "ENTRY is a whole number, and not '" ++ (word ++ codes "'"),
+        rw (append_assoc word (codes "'") (10 ∷ [])) c.in_ok-writeln.ensures.bytes,
+      ),
       search rules,
     )
 
 pub returns : goal.returns
 returns g c =
-    shown-for c.show_text-2.result c.in-Some.word.now c.in-Some-read_count.count _ _ c.in-Some-read_count.ensures.number c.show_text-2.ensures
+    shown-for c.show_text-2.result c.in-Some.word.now c.in-Some-read_count.count _ _ c.in-Some-read_count.ensures.number
+    c.show_text-2.ensures
     (λ n s is shows. inl (Some n, rw c.in-Some.is (n, refl, is), shows))

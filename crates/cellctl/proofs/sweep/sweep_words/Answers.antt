@@ -13,5 +13,14 @@ pub returns-in_default : goal.returns-in_default
 returns-in_default g c =
     inr (
       inr c.in_default.ensures.wrong,
-      (2, c.in_ok-wrong.ensures.status, (refl, refl, codes "N is a whole number from 1 to 1000000", c.in_ok-wrong.ensures.line)),
+      (
+        2,
+        c.in_ok-wrong.ensures.status,
+        (
+          refl,
+          refl,
+          codes "N is a whole number from 1 to 1000000",
+          c.in_ok-wrong.ensures.line,
+        ),
+      ),
     )

@@ -8,6 +8,7 @@ abbrev pub invariant-writes : goal.invariant-writes
 invariant-writes g l = record {
   bound : l.taken ≤ length l.bytes;
   writer : IsSameWriter l.fn.self l.self;
-  bytes : Appends (bytes_held g.W.Write.contents l.fn.self) (bytes_held g.W.Write.contents l.self) (take l.taken l.bytes);
+  bytes : Appends (bytes_held g.W.Write.contents l.fn.self) (bytes_held g.W.Write.contents l.self)
+      (take l.taken l.bytes);
   same : has_refused l.self ≡ has_refused l.fn.self;
 }

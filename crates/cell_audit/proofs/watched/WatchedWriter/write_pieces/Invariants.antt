@@ -8,6 +8,7 @@ use Rattle.cell_audit.proofs.watched.WatchedWriter.write_pieces.Given as goal
 abbrev pub invariant-loop-piece : goal.invariant-loop-piece
 invariant-loop-piece g l = record {
   writer : IsSameWriter l.fn.self l.self;
-  bytes : Appends (bytes_held g.W.Write.contents l.fn.self) (bytes_held g.W.Write.contents l.self) (concat (map (λ p. p.now) (take l.piece-index l.pieces)));
+  bytes : Appends (bytes_held g.W.Write.contents l.fn.self) (bytes_held g.W.Write.contents l.self)
+      (concat (map (λ p. p.now) (take l.piece-index l.pieces)));
   same : has_refused l.self ≡ has_refused l.fn.self;
 }

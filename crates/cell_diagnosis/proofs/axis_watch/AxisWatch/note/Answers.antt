@@ -5,7 +5,8 @@ use Rattle.cell_diagnosis.proofs.axis_watch.AxisWatch.note.Goals as goal
 
 pub returns-clause-verdict : goal.returns-clause-verdict
 returns-clause-verdict c L f =
-    verdict_note c.args.self.now L _ _ _ _ c.facts_of-next.ensures c.rule-ruling.ensures.value c.then_verdict-self.ensures c.rule-ruling.ensures.leave c.rule-ruling.ensures.limit f
+    verdict_note c.args.self.now L _ _ _ _ c.facts_of-next.ensures c.rule-ruling.ensures.value
+    c.then_verdict-self.ensures c.rule-ruling.ensures.leave c.rule-ruling.ensures.limit f
 
 pub returns-clause-fits : goal.returns-clause-fits
 returns-clause-fits c L f = record {

@@ -5,7 +5,9 @@ use Rattle.cell_measures.proofs.clock.Clock.ends.Goals as goal
 pub returns-in-Some-clause-early : goal.returns-in-Some-clause-early
 returns-in-Some-clause-early c =
     let small : c.from-lasts.result < 65536 = omega arith in
-    λ past n k most. motion_early c.args.self.now past c.args.entry.now c.in-Some.motion.axis _ _ _ _ n k (c.begins-begun.ensures past k) c.axis_number.ensures.value small c.later.ensures most
+    λ past n k most. motion_early c.args.self.now past c.args.entry.now c.in-Some.motion.axis _ _ _ _ n k
+    (c.begins-begun.ensures past k) c.axis_number.ensures.value small c.later.ensures most
 
 pub returns-in-None-clause-early : goal.returns-in-None-clause-early
-returns-in-None-clause-early c = λ past n k most. begun_early past c.args.entry.now _ n (c.begins-begun.ensures past k) most
+returns-in-None-clause-early c = λ past n k most. begun_early past c.args.entry.now _ n (c.begins-begun.ensures past k)
+    most

@@ -4,4 +4,5 @@ use Rattle.cell_measures.specs.Clocks.{greatest, zone_time}
 use Rattle.cell_measures.proofs.clock.Clock.zones_end.Given as goal
 
 abbrev pub invariant-loop-zone : goal.invariant-loop-zone
-invariant-loop-zone l = max l.end (greatest (zone_time l.self.zones l.entry) (drop l.zone-index all_zone)) ≡ greatest (zone_time l.self.zones l.entry) all_zone
+invariant-loop-zone l = max l.end (greatest (zone_time l.self.zones l.entry) (drop l.zone-index all_zone))
+    ≡ greatest (zone_time l.self.zones l.entry) all_zone

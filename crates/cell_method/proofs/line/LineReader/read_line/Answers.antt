@@ -5,13 +5,15 @@ use Rattle.cell_method.proofs.LineFacts.{one-longer, taken-same}
 use Rattle.cell_method.proofs.line.LineReader.read_line.Goals as goal
 
 pub returns-in-Some-eq10-clause-line : goal.returns-in-Some-eq10-clause-line
-returns-in-Some-eq10-clause-line g c = let (line, h, taken, count) = c.loop-count.invariant in (line, h, Consumes-trans _ _ _ _ _ taken (search rules))
+returns-in-Some-eq10-clause-line g c = let (line, h, taken, count) =
+    c.loop-count.invariant in (line, h, Consumes-trans _ _ _ _ _ taken (search rules))
 
 pub loop-count-preserved : goal.loop-count-preserved
 loop-count-preserved g c =
     let (line, h, taken, count) = c.loop-count.invariant in
     let b = c.in-Some.byte in
-    let one : Consumes (g.R.Read.remaining c.loop-count.self.source) (g.R.Read.remaining c.take_byte.new.source) (b ∷ []) = search rules in (
+    let one : Consumes (g.R.Read.remaining c.loop-count.self.source) (g.R.Read.remaining c.take_byte.new.source)
+    (b ∷ []) = search rules in (
       line ++ b ∷ [],
       c.keep.ensures.holds line h (search (rules, tests)),
       taken-same _ _ _ _ (ap g.R.Read.remaining c.keep.ensures.source) (Consumes-trans _ _ _ _ _ taken one),

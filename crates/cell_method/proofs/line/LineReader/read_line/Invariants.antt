@@ -5,4 +5,5 @@ use Rattle.cell_method.proofs.line.LineReader.read_line.Given as goal
 
 -- the bytes of the line so far, which are counted
 abbrev pub invariant-loop-count : goal.invariant-loop-count
-invariant-loop-count g l = (line : List ℕ) × Holds l.self line × Consumes (g.R.Read.remaining l.fn.self.source) (g.R.Read.remaining l.self.source) line × (length line ≡ l._count)
+invariant-loop-count g l = (line : List ℕ) × Holds l.self line
+    × Consumes (g.R.Read.remaining l.fn.self.source) (g.R.Read.remaining l.self.source) line × (length line ≡ l._count)

@@ -7,4 +7,5 @@ use Rattle.cell_page.proofs.rows.FlagsDisplay.fmt.Given as goal
 -- the first flags are written
 abbrev pub invariant-loop-holds : goal.invariant-loop-holds
 invariant-loop-holds g l =
-    IsPlainFormatter l.initial.f → HasWritten g.W.Write.write_str_gives l.initial.f (flat_map flag (take l.holds-index l.holds-items)) l.f
+    IsPlainFormatter l.initial.f → HasWritten g.W.Write.write_str_gives l.initial.f
+    (flat_map flag (take l.holds-index l.holds-items)) l.f

@@ -7,4 +7,5 @@ use Rattle.cell_page.proofs.rows.ForgedDisplay.fmt.Given as goal
 -- the marks of the first plates are written
 abbrev pub invariant-loop-shown : goal.invariant-loop-shown
 invariant-loop-shown g l =
-    IsPlainFormatter l.initial.f → HasWritten g.W.Write.write_str_gives l.initial.f (flat_map plate_mark (take l.shown-index l.shown-items)) l.f
+    IsPlainFormatter l.initial.f → HasWritten g.W.Write.write_str_gives l.initial.f
+    (flat_map plate_mark (take l.shown-index l.shown-items)) l.f

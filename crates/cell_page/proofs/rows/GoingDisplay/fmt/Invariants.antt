@@ -7,4 +7,5 @@ use Rattle.cell_page.proofs.rows.GoingDisplay.fmt.Given as goal
 -- the letters of where the first axes are going are written
 abbrev pub invariant-loop-axis : goal.invariant-loop-axis
 invariant-loop-axis g l =
-    IsPlainFormatter l.initial.f → HasWritten g.W.Write.write_str_gives l.initial.f (flat_map going_letter (take l.axis-index l.axis-items)) l.f
+    IsPlainFormatter l.initial.f → HasWritten g.W.Write.write_str_gives l.initial.f
+    (flat_map going_letter (take l.axis-index l.axis-items)) l.f

@@ -7,4 +7,5 @@ use Rattle.cell_page.proofs.rows.HoldersDisplay.fmt.Given as goal
 -- the letters of the first zones' holders are written
 abbrev pub invariant-loop-holder : goal.invariant-loop-holder
 invariant-loop-holder g l =
-    IsPlainFormatter l.initial.f → HasWritten g.W.Write.write_str_gives l.initial.f (flat_map holder_letter (take l.holder-index l.holder-items)) l.f
+    IsPlainFormatter l.initial.f → HasWritten g.W.Write.write_str_gives l.initial.f
+    (flat_map holder_letter (take l.holder-index l.holder-items)) l.f

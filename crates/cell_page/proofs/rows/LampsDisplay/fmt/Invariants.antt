@@ -7,4 +7,5 @@ use Rattle.cell_page.proofs.rows.LampsDisplay.fmt.Given as goal
 -- the letters of the first lights are written
 abbrev pub invariant-loop-colour : goal.invariant-loop-colour
 invariant-loop-colour g l =
-    IsPlainFormatter l.initial.f → HasWritten g.W.Write.write_str_gives l.initial.f (flat_map lamp_letter (take l.colour-index l.colour-items)) l.f
+    IsPlainFormatter l.initial.f → HasWritten g.W.Write.write_str_gives l.initial.f
+    (flat_map lamp_letter (take l.colour-index l.colour-items)) l.f

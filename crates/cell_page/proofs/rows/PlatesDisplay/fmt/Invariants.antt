@@ -6,4 +6,5 @@ use Rattle.cell_page.proofs.rows.PlatesDisplay.fmt.Given as goal
 -- the first numbers are written
 abbrev pub invariant-loop-place : goal.invariant-loop-place
 invariant-loop-place g l =
-    IsPlainFormatter l.initial.f → HasWritten g.W.Write.write_str_gives l.initial.f (with_commas (map plate_number (take l.place l.shown-items))) l.f
+    IsPlainFormatter l.initial.f → HasWritten g.W.Write.write_str_gives l.initial.f
+    (with_commas (map plate_number (take l.place l.shown-items))) l.f

@@ -7,5 +7,6 @@ use Rattle.cell_page.proofs.rows.RecordDisplay.fmt.Goals as goal
 
 pub loop-place-preserved : goal.loop-place-preserved
 loop-place-preserved g c = λ plain.
-    has_written_of_eq _ _ _ _ _ (one_more text_of c.spell-fields.result c.loop-place.place (field.Word (record { ref_ptr = (0, 0); now = [] })) _ c.comma.result.now (omega arith) refl c.comma.ensures)
+    has_written_of_eq _ _ _ _ _ (one_more text_of c.spell-fields.result c.loop-place.place
+    (field.Word (record { ref_ptr = (0, 0); now = [] })) _ c.comma.result.now (omega arith) refl c.comma.ensures)
     (has_written_append _ _ _ _ _ _ (c.loop-place.invariant plain) (search rules))

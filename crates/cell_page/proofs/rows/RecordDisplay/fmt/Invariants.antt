@@ -7,4 +7,5 @@ use Rattle.cell_page.proofs.rows.RecordDisplay.fmt.Given as goal
 -- the first fields are written
 abbrev pub invariant-loop-place : goal.invariant-loop-place
 invariant-loop-place g l =
-    IsPlainFormatter l.initial.f → HasWritten g.W.Write.write_str_gives l.initial.f (with_commas (map text_of (take l.place l.field-items))) l.f
+    IsPlainFormatter l.initial.f → HasWritten g.W.Write.write_str_gives l.initial.f
+    (with_commas (map text_of (take l.place l.field-items))) l.f

@@ -10,5 +10,6 @@ returns-clause-writes g c = λ plain ok.
     let f = c.args.self.now.facts in
     let first = c.write.ensures.writes plain (search rules) in
     let second = c.write-2.ensures.writes first.plain ok in
-    has_written_of_eq _ _ _ _ _ (row_pieces (with_commas (place_cells f)) (with_commas (machine_cells f)) (with_commas (count_cells f)) (with_commas (entry_cells c.args.self.now.last)))
+    has_written_of_eq _ _ _ _ _ (row_pieces (with_commas (place_cells f)) (with_commas (machine_cells f))
+    (with_commas (count_cells f)) (with_commas (entry_cells c.args.self.now.last)))
     (has_written_append _ _ _ _ _ _ first second)

@@ -2,4 +2,5 @@ use Rattle.cell_rows.specs.Sights.{InSight, KeepsRows, rows_ahead}
 use Rattle.cell_rows.proofs.ahead.ReadAhead.advance.Given as goal
 
 abbrev pub invariant-loop : goal.invariant-loop
-invariant-loop g l = InSight l.self × KeepsRows (rows_ahead g.R.Read.remaining l.fn.self) (rows_ahead g.R.Read.remaining l.self)
+invariant-loop g l = InSight l.self × KeepsRows (rows_ahead g.R.Read.remaining l.fn.self)
+    (rows_ahead g.R.Read.remaining l.self)

@@ -5,5 +5,6 @@ use Rattle.cell_turns.proofs.turns.decide.decide.Goals as goal
 
 pub returns : goal.returns
 returns c =
-    subst (λ (m : Machine). c.ruling_by.result ≡ ruling_by c.args.book.now.entries m c.args.watch.now.memory c.args.found.now) (sym c.requires)
+    subst (λ (m : Machine). c.ruling_by.result ≡ ruling_by c.args.book.now.entries m c.args.watch.now.memory
+    c.args.found.now) (sym c.requires)
     c.ruling_by.ensures

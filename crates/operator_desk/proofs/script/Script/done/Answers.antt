@@ -4,4 +4,5 @@ use Rattle.operator_desk.proofs.Left.{left-next}
 use Rattle.operator_desk.proofs.script.Script.done.Goals as goal
 
 pub returns-then-self-len : goal.returns-then-self-len
-returns-then-self-len c = rw add-one (left-next c.self.inside.position c.self.inside.lines.items ∙ ap left_after c.self.view_is)
+returns-then-self-len c = rw add-one (left-next c.self.inside.position c.self.inside.lines.items
+    ∙ ap left_after c.self.view_is)

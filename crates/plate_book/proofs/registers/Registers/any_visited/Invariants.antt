@@ -5,4 +5,5 @@ use Rattle.plate_book.specs.Rules.First.{first_true, any_visited, visited}
 use Rattle.plate_book.proofs.registers.Registers.any_visited.Given as goal
 
 abbrev pub invariant-loop-zone : goal.invariant-loop-zone
-invariant-loop-zone l = first_true (map (visited (recorded l.self) l.machine) (drop l.zone-index all_zone)) ≡ first_true (any_visited (recorded l.self) l.machine)
+invariant-loop-zone l = first_true (map (visited (recorded l.self) l.machine) (drop l.zone-index all_zone))
+    ≡ first_true (any_visited (recorded l.self) l.machine)

@@ -4,4 +4,5 @@ use Rattle.plate_book.specs.Rules.First.{first_true, all_resting}
 use Rattle.plate_book.proofs.registers.Registers.not_all_resting.Given as goal
 
 abbrev pub invariant-loop-rest : goal.invariant-loop-rest
-invariant-loop-rest l = first_true (all_resting (recorded l.self) (drop l.rest-index l.rests)) ≡ first_true (all_resting (recorded l.self) l.rests)
+invariant-loop-rest l = first_true (all_resting (recorded l.self) (drop l.rest-index l.rests))
+    ≡ first_true (all_resting (recorded l.self) l.rests)
