@@ -2,7 +2,7 @@
 # Looks whether the documents are true where a script can tell: each command in a block of the kind `console` is run, and
 # prints what stands there; each excerpt of code stands in its file; each link leads somewhere; each crate is in the map and
 # has its README of at most 40 lines; the documents name the kit that KIT names; the index of docs/PROVED.md is what the sources
-# make; the manual page is what the help texts make, and the completion has each command and option.
+# make; the manual page and the completion are what the help texts make, and bash offers what the completion has.
 # Usage: checks/docs.sh     Build the program first: ./cellctl --prove does. CELLCTL names another one.
 set -u
 here=$(cd "$(dirname "$0")/.." && pwd) || exit 1
@@ -153,37 +153,22 @@ look_at_proved() {
     checks/proved.py > "$work/proved" || { wrong "docs/PROVED.md isn't what checks/proved.py makes:"; cat "$work/proved"; }
 }
 
-# The words of a part of a help text: its commands, or its long options.
-words_of() {
-    "$cellctl" $2 --help | awk -v part="$1" '
-        /^[^ ]/ { on = ($0 == part ":") ; next }
-        on && part == "Commands" && NF { print $1 }
-        on && part == "Options" && /^ +-/ && match($0, /--[a-z]+/) { print substr($0, RSTART, RLENGTH) }'
-}
-
-# What the completion offers where the words begin so.
+# Whether the completion offers a word after others, of which the last one begins as $last.
 offers() {
-    bash -c 'source docs/cellctl.bash; COMP_WORDS=("$@" ""); COMP_WORDS[$#]=${last-}; COMP_CWORD=$#; _cellctl; echo "${COMPREPLY[@]}"' \
-        completion "$@"
+    local word=$1
+    shift
+    bash -c 'source docs/cellctl.bash; COMP_WORDS=("$@" ""); COMP_WORDS[$#]=${last-}; COMP_CWORD=$#; _cellctl; printf "%s\n" "${COMPREPLY[@]}"' \
+        completion "$@" | grep -qx -- "$word" || wrong "docs/cellctl.bash doesn't offer $word after: $*"
 }
 
-# The manual page is made anew, and the completion is asked for each command and option.
+# The manual page and the completion are made anew, and bash is asked what it offers.
 look_at_words() {
-    local command option
-    CELLCTL=$cellctl checks/man.sh > "$work/page"
-    cmp -s "$work/page" docs/cellctl.1 || wrong "docs/cellctl.1 isn't what checks/man.sh prints"
-    for command in $(words_of Commands ''); do
-        [ "$command" = help ] || grep -qx "\.SS cellctl $command" docs/cellctl.1 || wrong "docs/cellctl.1 lacks $command"
-        case " $(offers cellctl) " in *" $command "*) ;; *) wrong "docs/cellctl.bash lacks $command" ;; esac
-        [ "$command" = help ] && continue
-        for option in $(words_of Options "$command"); do
-            grep -qF -- "$(echo "$option" | sed 's/-/\\-/g')" docs/cellctl.1 || wrong "docs/cellctl.1 lacks $option"
-            case " $(last=- offers cellctl "$command") " in
-                *" $option "*) ;;
-                *) wrong "docs/cellctl.bash lacks $option of $command" ;;
-            esac
-        done
-    done
+    CELLCTL=$cellctl checks/man.sh | cmp -s - docs/cellctl.1 || wrong "docs/cellctl.1 isn't what checks/man.sh prints"
+    CELLCTL=$cellctl checks/completion.sh | cmp -s - docs/cellctl.bash || wrong "docs/cellctl.bash isn't what checks/completion.sh prints"
+    last=ex offers explore cellctl
+    last=- offers --svg cellctl show
+    last=p offers press2 cellctl explore --fail
+    last= offers sweep cellctl help
 }
 
 run_commands

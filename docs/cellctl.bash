@@ -1,5 +1,5 @@
-# Completion of cellctl's words for bash. Source this file, or lay it under the name cellctl into a folder of
-# bash-completion's, as ~/.local/share/bash-completion/completions.
+# Made by checks/completion.sh of the program's help texts: completion of cellctl's words for bash. Source this file, or lay it under
+# the name cellctl into a folder of bash-completion's, as ~/.local/share/bash-completion/completions.
 _cellctl() {
     local word=${COMP_WORDS[COMP_CWORD]} before=${COMP_WORDS[COMP_CWORD - 1]} words=
     COMPREPLY=()
@@ -7,19 +7,21 @@ _cellctl() {
         words='audit migrate show explain measure check sim sweep explore drive run help --help --version'
     else
         case "${COMP_WORDS[1]} $before" in
-            'explain --settings' | 'explain --faults' | 'explain --operator' | 'show --file' | 'show -f' | 'sim --follow' | *' --times' | 'show --beside' | 'sweep --kinds' | 'sweep --motions' | 'explore --limit') return ;;
             'explore --fail') mapfile -t COMPREPLY < <(compgen -W 'feed table robot press1 press2 deposit' -- "$word"); return ;;
+            'show --times' | 'show --beside' | 'show --file' | 'show -f' | 'explain --settings' | 'explain --faults' | 'explain --operator' | 'measure --times' | 'sim --times' | 'sim --follow' | 'sweep --kinds' | 'sweep --motions' | 'explore --limit' | 'drive --times' | 'run --times') return ;;
         esac
         case ${COMP_WORDS[1]} in
+            audit) words='--help' ;;
+            migrate) words='--help' ;;
             show) words='--svg --html --unicode --times --beside --file --help' ;;
             explain) words='--settings --faults --operator --help' ;;
             measure) words='--times --csv --help' ;;
+            check) words='--help' ;;
             sim) words='--journal --explain --times --follow --measures --help' ;;
-            drive) words='--raw --journal --explain --times --help' ;;
-            run) words='--journal --explain --times --measures --help' ;;
             sweep) words='--kinds --motions --service --csv --help' ;;
             explore) words='--fail --repair --limit --journal --help' ;;
-            audit | migrate | check) words='--help' ;;
+            drive) words='--raw --journal --explain --times --help' ;;
+            run) words='--journal --explain --times --measures --help' ;;
             help) words='audit migrate show explain measure check sim sweep explore drive run' ;;
         esac
         # Elsewhere a file may stand, which bash completes itself.
