@@ -3,7 +3,7 @@
  * realloc, counted from 1, and with REFUSE_ONWARD=1 also to all later ones. 0 refuses none.
  *
  * With REFUSE_WHOLE=1 the calls of the whole program count. Else those count that lie between the begin and the end of a marked
- * call; the marks are the allocations of module `marks` of cell_samples, by their sizes.
+ * call; the marks are the allocations of module `marks` of test_samples, by their sizes.
  *
  * With REFUSE_THREAD=n the program's call number n of pthread_create, counted from 1, is refused.
  *

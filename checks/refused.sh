@@ -112,11 +112,11 @@ refuse_threads() {
 refuse_calls() {
     local crate
     {
-        list_tests refused_tests '::' 0
-        list_tests worker_tests 'refusals::' 0
-        list_tests command_tests 'refused::' 1
+        list_tests test_refused '::' 0
+        list_tests test_workers 'refusals::' 0
+        list_tests test_commands 'refused::' 1
     } > "$folder/tests"
-    for crate in refused_tests worker_tests command_tests; do
+    for crate in test_refused test_workers test_commands; do
         if ! grep -q "^$crate " "$folder/tests"; then
             wrong=$((wrong + 1))
             echo "$crate: no test to which memory could be refused"

@@ -1,0 +1,203 @@
+//! Journals, books, records and ledgers.
+ghost use Rattle.std.specs.Prelude.{◌≡◌, ◌<◌};
+ghost use Rattle.cell_ledger.specs.New.{AreBlank};
+
+use crate::same::check_same;
+use cell_journal::{Journal, JournalError};
+use cell_ledger::{Blanks, Kept, Run};
+use test_samples::{ONE_PLATE, begun, book_all, call_begins, call_ends, entry_of, plate};
+use cell_types::{Machine, Place, PlateId, Station, Totals};
+use plate_book::{Book, OpenError, Records, Refusal};
+use std::alloc::Global;
+use std::marker::Brand;
+use std::process::Abort;
+
+#[test]
+fn journal_with_limit(rt: HostRuntime) {
+    let alloc = rt.alloc();
+    call_begins(alloc);
+    let answer = Journal::with_limit(alloc, 1000);
+    call_ends(alloc, answer.is_err());
+    match answer {
+        Ok(journal) => check_same(&rt, &"entries", &journal.len(), &0),
+        Err(why) => check_same(&rt, &"why", &why, &JournalError::OutOfMemory),
+    }
+}
+
+#[test]
+fn book_new(rt: HostRuntime) {
+    let alloc = rt.alloc();
+    call_begins(alloc);
+    let answer = Book::new(alloc, 1000, 1000);
+    call_ends(alloc, answer.is_err());
+    match answer {
+        Ok(book) => check_same(&rt, &"entries", &book.journal().len(), &0),
+        Err(why) => check_same(&rt, &"why", &why, &OpenError::OutOfMemory),
+    }
+}
+
+#[test]
+fn records_new(rt: HostRuntime) {
+    let alloc = rt.alloc();
+    call_begins(alloc);
+    let answer = Records::new(alloc, 1000, 1000);
+    call_ends(alloc, answer.is_err());
+    match answer {
+        Ok(records) => check_same(&rt, &"entries", &records.totals().entries, &0),
+        Err(why) => check_same(&rt, &"why", &why, &OpenError::OutOfMemory),
+    }
+}
+
+// After the first seven entries of one plate, these leave it on a table that has failed.
+const FAILED_TABLE: [&str; 2] = ["yielded,feed,z1,", "declared,table,operator_stop,"];
+
+// So many entries, of one plate that was admitted.
+fn totals(entries: u32, quarantined: u32) -> Totals {
+    Totals {
+        entries,
+        admitted: 1,
+        forged: 0,
+        quarantined,
+        delivered: 0,
+        reinstated: 0,
+    }
+}
+
+// A book of nine entries, in which the first plate can be cleared from the table.
+fn book_to_clear(rt: &impl Abort, alloc: Global) -> Book {
+    let mut book = begun(alloc, 100, 10, 7).expect(rt, "a book");
+    assert!(rt;
+        book_all(&mut book, &FAILED_TABLE).is_ok(),
+        "both are allowed"
+    );
+    book
+}
+
+// The record of the entry that clears it.
+const CLEARED: &str = "quarantined,1,table,";
+
+// Nothing was cleared: the book tells of its nine entries.
+fn check_as_it_was(rt: &impl Abort, book: &Book, first: PlateId) {
+    let journal = book.journal();
+    check_same(rt, &"entries", &journal.len(), &9);
+    check_same(rt, &"entry 8", &journal.get(8), &entry_of(FAILED_TABLE[1]));
+    check_same(rt, &"totals", &book.totals(), &totals(9, 0));
+    check_same(rt, &"place", &book.place(first), &Place::At(Station::Table));
+    check_same(rt, &"table", &book.plate_at(Station::Table), &Some(first));
+    assert!(rt; book.failed(Machine::Table) && book.quarantine().is_empty());
+}
+
+// The plate was cleared.
+fn check_cleared(rt: &impl Abort, book: &Book, first: PlateId) {
+    check_same(rt, &"entries", &book.journal().len(), &10);
+    check_same(rt, &"totals", &book.totals(), &totals(10, 1));
+    check_same(rt, &"place", &book.place(first), &Place::Quarantine);
+    assert!(rt; book.plate_at(Station::Table).is_none());
+    let station = book.quarantine().get(&first).copied();
+    check_same(rt, &"quarantine", &station, &Some(Station::Table));
+}
+
+#[test]
+fn book_apply(rt: HostRuntime) {
+    let alloc = rt.alloc();
+    let mut book = book_to_clear(&rt, alloc);
+    let first = plate(1).expect(&rt, "a plate");
+    let entry = entry_of(CLEARED).expect(&rt, "a record");
+    call_begins(alloc);
+    let answer = book.apply(entry);
+    call_ends(alloc, answer.is_err());
+    if let Err(why) = answer {
+        check_same(&rt, &"why", &why, &Refusal::OutOfMemory);
+        check_as_it_was(&rt, &book, first);
+        assert!(rt; book_all(&mut book, &[CLEARED]).is_ok(), "it is allowed");
+    }
+    check_cleared(&rt, &book, first);
+}
+
+// Clears the plate in a book with ledgers, whose shares count its entries.
+fn clear_kept<R: Run>(rt: &impl Abort, alloc: Global, book: Book, blanks: Blanks)
+    requires parts { 0 < R.parts }
+    requires limits { book.limits ≡ R.limits }
+    requires ledgers { AreBlank R.Run blanks }
+{
+    let (mut kept, mut shares) = Kept::<R>::new(book, blanks);
+    let first = plate(1).expect(rt, "a plate");
+    let entry = entry_of(CLEARED).expect(rt, "a record");
+    call_begins(alloc);
+    let answer = kept.apply(&mut shares, entry);
+    call_ends(alloc, answer.is_err());
+    if let Err(why) = answer {
+        check_same(rt, &"why", &why, &Refusal::OutOfMemory);
+        check_as_it_was(rt, kept.book(), first);
+        check_same(rt, &"counts", &shares.counts(), &totals(9, 0));
+        let entry = entry_of(CLEARED).expect(rt, "a record");
+        let again = kept.apply(&mut shares, entry);
+        check_same(rt, &"again", &again, &Ok(()));
+    }
+    check_cleared(rt, kept.book(), first);
+    check_same(rt, &"counts", &shares.counts(), &totals(10, 1));
+}
+
+#[test]
+fn kept_apply(rt: HostRuntime) {
+    let (alloc, blanks) = (rt.alloc(), Blanks::new(1));
+    let book = book_to_clear(&rt, alloc);
+    clear_kept::<Brand>(&rt, alloc, book, blanks);
+}
+
+// Records of the same nine entries.
+fn records_to_clear(rt: &impl Abort, alloc: Global) -> Records {
+    let Ok(mut records) = Records::new(alloc, 100, 10) else {
+        panic!(rt; "the limits are in range, and there is memory");
+    };
+    for record in ONE_PLATE.iter().take(7).chain(FAILED_TABLE.iter()) {
+        let answer = records.apply(entry_of(record).expect(rt, record));
+        check_same(rt, record, &answer, &Ok(()));
+    }
+    records
+}
+
+// Nothing was cleared: the records tell of their nine entries.
+fn check_records_as_they_were(rt: &impl Abort, records: &Records, first: PlateId) {
+    check_same(rt, &"totals", &records.totals(), &totals(9, 0));
+    check_same(
+        rt,
+        &"place",
+        &records.place(first),
+        &Place::At(Station::Table),
+    );
+    check_same(
+        rt,
+        &"table",
+        &records.plate_at(Station::Table),
+        &Some(first),
+    );
+    assert!(rt; records.failed(Machine::Table) && records.quarantine().is_empty());
+}
+
+// The plate was cleared.
+fn check_records_cleared(rt: &impl Abort, records: &Records, first: PlateId) {
+    check_same(rt, &"totals", &records.totals(), &totals(10, 1));
+    check_same(rt, &"place", &records.place(first), &Place::Quarantine);
+    let station = records.quarantine().get(&first).copied();
+    check_same(rt, &"quarantine", &station, &Some(Station::Table));
+}
+
+#[test]
+fn records_apply(rt: HostRuntime) {
+    let alloc = rt.alloc();
+    let mut records = records_to_clear(&rt, alloc);
+    let first = plate(1).expect(&rt, "a plate");
+    let entry = entry_of(CLEARED).expect(&rt, "a record");
+    call_begins(alloc);
+    let answer = records.apply(entry);
+    call_ends(alloc, answer.is_err());
+    if let Err(why) = answer {
+        check_same(&rt, &"why", &why, &Refusal::OutOfMemory);
+        check_records_as_they_were(&rt, &records, first);
+        let entry = entry_of(CLEARED).expect(&rt, "a record");
+        let again = records.apply(entry);
+        check_same(&rt, &"again", &again, &Ok(()));
+    }
+    check_records_cleared(&rt, &records, first);
+}

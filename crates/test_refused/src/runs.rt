@@ -1,0 +1,319 @@
+//! Whole runs by their texts, in rounds on one thread and on threads.
+use crate::same::check_same;
+use cell_audit::{AuditError, audit};
+use cell_endings::write_ending;
+use cell_journal::Journal;
+use cell_lines::WriteFault;
+use cell_measures::Durations;
+use cell_runs::{KeptRun, Left, follow_texts, run_texts_kept};
+use test_samples::{CLEARED_PRESS, STUCK_PRESS, call_begins, call_ends};
+use cell_types::Totals;
+use std::alloc::Global;
+use std::io::ErrorKind;
+use std::process::Abort;
+use std::sync::Wait;
+use std::test::Fail;
+use std::thread::Threads;
+
+// Room for all that a run writes, so that the writer asks for no memory.
+const ROOM: usize = 100_000;
+
+// The texts of a run: its settings, its faults and the operator's script.
+type Texts = [&'static str; 3];
+
+// In rounds the only plate is cleared from the feed belt, which is repaired. This takes few rounds, each of which takes
+// memory for its lists.
+const SHORT: Texts = [
+    "plates = 1",
+    "\"press_two\",1,no_motion,\n",
+    "admitted,1,stop,feed\nfailed,feed,clear,feed_in\n\"failed\",feed,repair,feed\n",
+];
+
+// On threads one of six plates stays in the second press, and is cleared.
+const LONG: Texts = ["plates = 6", STUCK_PRESS, CLEARED_PRESS];
+
+// One plate is carried through the cell.
+const PLAIN: Texts = ["plates = 1", "", ""];
+
+// What a run writes, and its status. Where the run is marked, memory may be refused to it.
+fn run<R: AllocGlobal + Abort + Threads + Wait + Sync>(
+    rt: &R,
+    texts: Texts,
+    threads: bool,
+    journal: bool,
+    marked: bool,
+) -> Result<(Vec<u8>, Result<u8, WriteFault>), Fail> {
+    let alloc = rt.alloc();
+    let [settings, faults, operator] = texts;
+    let mut written = Vec::with_capacity(alloc, ROOM)?;
+    if marked {
+        call_begins(alloc);
+    }
+    let answer = cell_runs::run_texts(
+        rt,
+        settings.as_bytes(),
+        faults.as_bytes(),
+        operator.as_bytes(),
+        threads,
+        journal,
+        &mut written,
+    );
+    if marked {
+        call_ends(alloc, answer == Ok(4));
+    }
+    Ok((written, answer))
+}
+
+// Whether these are the five lines of a run that ended for want of memory.
+fn tells_memory(written: &[u8]) -> bool {
+    let ends = written.iter().filter(|byte| **byte == b'\n').count();
+    written.starts_with(b"memory\nadmitted ") && written.ends_with(b"\n") && ends == 5
+}
+
+// The lines of a run, which are these where it has memory.
+fn check_lines<R: AllocGlobal + Abort + Threads + Wait + Sync>(
+    rt: &R,
+    texts: Texts,
+    threads: bool,
+    due: &[u8],
+) -> Result<(), Fail> {
+    let (written, answer) = run(rt, texts, threads, false, true)?;
+    let lines = written.as_slice();
+    if answer == Ok(4) {
+        assert!(rt; lines.is_empty() || tells_memory(lines));
+    } else {
+        check_same(rt, &"the answer", &answer, &Ok(0));
+        check_same(rt, &"the lines", &lines, &due);
+    }
+    Ok(())
+}
+
+#[test]
+fn run_texts_in_rounds(rt: HostRuntime) -> Result<(), Fail> {
+    let due = b"finished\nadmitted 1\nforged 0\nquarantined 1\ndelivered 0\n";
+    check_lines(&rt, SHORT, false, due)
+}
+
+#[test]
+fn run_texts_on_threads(rt: HostRuntime) -> Result<(), Fail> {
+    let due = b"finished\nadmitted 6\nforged 5\nquarantined 1\ndelivered 5\n";
+    check_lines(&rt, LONG, true, due)
+}
+
+// The journal of a run in rounds is the same each time.
+#[test]
+fn run_texts_in_rounds_with_journal(rt: HostRuntime) -> Result<(), Fail> {
+    let (due, status) = run(&rt, SHORT, false, true, false)?;
+    check_same(&rt, &"usually", &status, &Ok(0));
+    let (written, answer) = run(&rt, SHORT, false, true, true)?;
+    let (text, due) = (written.as_slice(), due.as_slice());
+    if answer == Ok(4) {
+        assert!(rt; due.starts_with(text));
+    } else {
+        check_same(&rt, &"the answer", &answer, &Ok(0));
+        check_same(&rt, &"the journal", &text, &due);
+    }
+    Ok(())
+}
+
+// The audit of a whole journal of that plate.
+fn check_audited(rt: &impl Abort, audited: Result<(u8, Totals), AuditError>) {
+    match audited {
+        Ok((number, totals)) => {
+            check_same(rt, &"the profile", &number, &2);
+            let Totals {
+                admitted,
+                forged,
+                quarantined,
+                delivered,
+                ..
+            } = totals;
+            let counts = [admitted, forged, quarantined, delivered];
+            check_same(rt, &"the totals", &counts, &[1, 1, 0, 1]);
+        }
+        Err(why) => panic!(rt; "the journal is legal: {why:?}"),
+    }
+}
+
+// That of a run on threads isn't. No entry of it is refused, and a whole one has the plate's counts.
+#[test]
+fn run_texts_on_threads_with_journal(rt: HostRuntime) -> Result<(), Fail> {
+    let (written, answer) = run(&rt, PLAIN, true, true, true)?;
+    let audited = audit(rt.alloc(), written.as_slice());
+    if answer == Ok(4) {
+        assert!(rt; matches!(audited, Ok(_) | Err(AuditError::Unreadable(_))));
+    } else {
+        check_same(&rt, &"the answer", &answer, &Ok(0));
+        check_audited(&rt, audited);
+    }
+    Ok(())
+}
+
+// A run in rounds with its journal, which is kept. Where it is marked, memory may be refused to it.
+fn keep<R: AllocGlobal + Abort + Threads + Wait + Sync>(
+    rt: &R,
+    texts: Texts,
+    marked: bool,
+) -> Result<(Vec<u8>, u8, Option<KeptRun>), Fail> {
+    let alloc = rt.alloc();
+    let [settings, faults, operator] = texts;
+    let [settings, faults, operator] = [
+        settings.as_bytes(),
+        faults.as_bytes(),
+        operator.as_bytes(),
+    ];
+    let mut written = Vec::with_capacity(alloc, ROOM)?;
+    if marked {
+        call_begins(alloc);
+    }
+    let answer = run_texts_kept(
+        rt,
+        settings,
+        faults,
+        operator,
+        &Durations::ONE,
+        false,
+        false,
+        &mut written,
+    );
+    if marked {
+        call_ends(alloc, matches!(&answer, Ok((4, _))));
+    }
+    match answer {
+        Ok((status, Left::Run(run))) => Ok((written, status, Some(run))),
+        Ok((status, _)) => Ok((written, status, None)),
+        Err(WriteFault) => panic!(rt; "there is room for all that is written"),
+    }
+}
+
+// Whether a journal's entries are the first of another's.
+fn begins(journal: &Journal, whole: &Journal) -> bool {
+    let mut same = journal.len() <= whole.len();
+    for place in 0..journal.len() {
+        same = same && journal.get(place) == whole.get(place);
+    }
+    same
+}
+
+// The length of a journal that was kept, whose entries are the first of another's.
+fn check_kept(rt: &impl Abort, kept: &Option<KeptRun>, whole: &Journal) -> Option<u32> {
+    match kept {
+        Some(run) => {
+            assert!(rt; begins(&run.journal, whole));
+            Some(run.journal.len())
+        }
+        None => None,
+    }
+}
+
+// Where memory is wanting, a journal that is kept is a first part of the one that is due.
+#[test]
+fn run_texts_kept_in_rounds(rt: HostRuntime) -> Result<(), Fail> {
+    let (due, status, whole) = keep(&rt, SHORT, false)?;
+    let whole = whole.expect(&rt, "a run").journal;
+    check_same(&rt, &"usually", &status, &0);
+    let (written, status, journal) = keep(&rt, SHORT, true)?;
+    let length = check_kept(&rt, &journal, &whole);
+    let lines = written.as_slice();
+    if status == 4 {
+        assert!(rt; lines.is_empty() || tells_memory(lines));
+    } else {
+        check_same(&rt, &"the status", &status, &0);
+        check_same(&rt, &"the lines", &lines, &due.as_slice());
+        check_same(&rt, &"the journal", &length, &Some(whole.len()));
+    }
+    Ok(())
+}
+
+// The journal of that plate's run is followed.
+#[test]
+fn follow_texts_of_a_run(rt: HostRuntime) -> Result<(), Fail> {
+    let (journal, status) = run(&rt, SHORT, false, true, false)?;
+    check_same(&rt, &"usually", &status, &Ok(0));
+    let alloc = rt.alloc();
+    let [settings, faults, operator] = SHORT;
+    let [settings, faults, operator] = [
+        settings.as_bytes(),
+        faults.as_bytes(),
+        operator.as_bytes(),
+    ];
+    let followed = journal.as_slice();
+    let mut written = Vec::with_capacity(alloc, ROOM)?;
+    call_begins(alloc);
+    let answer = follow_texts(
+        &rt,
+        followed,
+        settings,
+        faults,
+        operator,
+        false,
+        &mut written,
+    );
+    call_ends(alloc, answer == Ok(4));
+    let lines = written.as_slice();
+    if answer == Ok(4) {
+        assert!(rt; lines.is_empty() || tells_memory(lines));
+    } else {
+        let due: &[u8] = b"followed\nadmitted 1\nforged 0\nquarantined 1\ndelivered 0\n";
+        check_same(&rt, &"the answer", &answer, &Ok(0));
+        check_same(&rt, &"the lines", &lines, &due);
+    }
+    Ok(())
+}
+
+// The plate stays on the feed belt, which fails, since the operator waits for more plates, and no plate sets the second
+// press in motion.
+const STALLED: Texts = [
+    "plates = 1",
+    "\"press_two\",1,no_motion,\n",
+    "admitted,1,stop,feed\n\"admitted\",2,repair,feed\n",
+];
+
+// What is said of the end of a run, and whether memory was wanting.
+fn ending(
+    rt: &impl Abort,
+    alloc: Global,
+    run: &KeptRun,
+    marked: bool,
+) -> Result<(Vec<u8>, bool), Fail> {
+    let [_, faults, operator] = STALLED;
+    let mut written = Vec::with_capacity(alloc, ROOM)?;
+    if marked {
+        call_begins(alloc);
+    }
+    let answer = write_ending(
+        alloc,
+        &run.journal,
+        run.end,
+        &run.plan,
+        faults.as_bytes(),
+        operator.as_bytes(),
+        &mut written,
+    );
+    if marked {
+        call_ends(alloc, answer.is_err());
+    }
+    if let Err(why) = &answer {
+        assert!(rt; why.kind() == ErrorKind::OutOfMemory);
+    }
+    Ok((written, answer.is_err()))
+}
+
+#[test]
+fn write_ending_of_a_stalled_run(rt: HostRuntime) -> Result<(), Fail> {
+    let alloc = rt.alloc();
+    let (_, status, run) = keep(&rt, STALLED, false)?;
+    let run = run.expect(&rt, "a run");
+    check_same(&rt, &"the status", &status, &1);
+    let (due, wanted) = ending(&rt, alloc, &run, false)?;
+    assert!(rt; !wanted);
+    let ends = due.iter().filter(|byte| **byte == b'\n').count();
+    check_same(&rt, &"how many lines", &ends, &4);
+    let (written, wanted) = ending(&rt, alloc, &run, true)?;
+    if wanted {
+        assert!(rt; due.as_slice().starts_with(written.as_slice()));
+    } else {
+        check_same(&rt, &"what is said", &written.as_slice(), &due.as_slice());
+    }
+    Ok(())
+}

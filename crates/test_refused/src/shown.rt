@@ -1,0 +1,138 @@
+//! Journals that are read for more than their audit, and shown.
+use crate::same::check_same;
+use crate::texts::{PLAIN, PROFILE_1, QUOTED, clearing};
+use cell_audit::{AuditError, Reading};
+use cell_measures::Durations;
+use test_samples::{begun, call_begins, call_ends};
+use cell_show::{Form, ShowError, show_beside, show_journal};
+use plate_book::Book;
+use std::alloc::Global;
+use std::process::Abort;
+use std::test::Fail;
+
+// Room for all that is drawn, so that the writer asks for no memory.
+const ROOM: usize = 1_000_000;
+
+// A journal of ten entries, or fewer where memory was wanting, begins as another book. It has the totals that are due.
+fn check_reading(rt: &impl Abort, reading: &Reading, first: &Book, wanted: bool) {
+    let journal = reading.book.journal();
+    assert!(rt; journal.len() == 10 || wanted && journal.len() < 10);
+    for place in 0..journal.len().min(7) {
+        check_same(rt, &place, &journal.get(place), &first.journal().get(place));
+    }
+    match &reading.answer {
+        Ok((number, totals)) => {
+            let told = [*number as u32, totals.entries, totals.quarantined];
+            check_same(rt, &"what was read", &told, &[1, 10, 1]);
+        }
+        Err(why) => check_same(rt, &"why", why, &AuditError::OutOfMemory),
+    }
+}
+
+#[test]
+fn read_journal(rt: HostRuntime) -> Result<(), Fail> {
+    let alloc = rt.alloc();
+    let text = clearing(alloc, PROFILE_1, QUOTED)?;
+    let first = begun(alloc, 100, 10, 7).expect(&rt, "a book");
+    call_begins(alloc);
+    let answer = cell_audit::read_journal(alloc, text.as_slice());
+    let wanted = match &answer {
+        Ok(reading) => matches!(reading.answer, Err(AuditError::OutOfMemory)),
+        Err(_) => true,
+    };
+    call_ends(alloc, wanted);
+    if let Ok(reading) = &answer {
+        check_reading(&rt, reading, &first, wanted);
+    }
+    Ok(())
+}
+
+// What is written where a journal is shown, and the answer. Where the call is marked, memory may be refused to it.
+fn show(alloc: Global, form: Form, marked: bool) -> Result<(Vec<u8>, Result<u8, ShowError>), Fail> {
+    let text = clearing(alloc, PROFILE_1, QUOTED)?;
+    let mut written = Vec::with_capacity(alloc, ROOM)?;
+    if marked {
+        call_begins(alloc);
+    }
+    let answer = show_journal(alloc, text.as_slice(), form, None, &mut written);
+    if marked {
+        call_ends(alloc, answer == Ok(4));
+    }
+    Ok((written, answer))
+}
+
+// A journal is shown, or nothing is written, where memory was refused.
+fn check_show<R: AllocGlobal + Abort>(rt: &R, form: Form) -> Result<(), Fail> {
+    let (due, status) = show(rt.alloc(), form, false)?;
+    check_same(rt, &"usually", &status, &Ok(0));
+    let (written, answer) = show(rt.alloc(), form, true)?;
+    if answer == Ok(4) {
+        assert!(rt; written.is_empty());
+    } else {
+        check_same(rt, &"the answer", &answer, &Ok(0));
+        check_same(rt, &"what was shown", &written.as_slice(), &due.as_slice());
+    }
+    Ok(())
+}
+
+#[test]
+fn show_journal_as_text(rt: HostRuntime) -> Result<(), Fail> {
+    check_show(&rt, Form::Text)
+}
+
+#[test]
+fn show_journal_as_picture(rt: HostRuntime) -> Result<(), Fail> {
+    check_show(&rt, Form::Picture)
+}
+
+#[test]
+fn show_journal_as_page(rt: HostRuntime) -> Result<(), Fail> {
+    check_show(&rt, Form::Page)
+}
+
+#[test]
+fn show_journal_as_chart(rt: HostRuntime) -> Result<(), Fail> {
+    check_show(&rt, Form::Chart(Durations::ONE))
+}
+
+#[test]
+fn show_journal_as_page_with_chart(rt: HostRuntime) -> Result<(), Fail> {
+    check_show(&rt, Form::TimedPage(Durations::ONE))
+}
+
+// What is written where a journal is shown beside another text, and the answer. Where the call is marked, memory may be
+// refused to it.
+fn beside(alloc: Global, marked: bool) -> Result<(Vec<u8>, Result<u8, ShowError>), Fail> {
+    let text = clearing(alloc, PROFILE_1, QUOTED)?;
+    let other = clearing(alloc, PROFILE_1, PLAIN)?;
+    let mut written = Vec::with_capacity(alloc, ROOM)?;
+    if marked {
+        call_begins(alloc);
+    }
+    let answer = show_beside(
+        alloc,
+        text.as_slice(),
+        other.as_slice(),
+        Form::Page,
+        None,
+        &mut written,
+    );
+    if marked {
+        call_ends(alloc, answer == Ok(4));
+    }
+    Ok((written, answer))
+}
+
+#[test]
+fn show_journal_beside_another(rt: HostRuntime) -> Result<(), Fail> {
+    let (due, status) = beside(rt.alloc(), false)?;
+    check_same(&rt, &"usually", &status, &Ok(0));
+    let (written, answer) = beside(rt.alloc(), true)?;
+    if answer == Ok(4) {
+        assert!(rt; written.is_empty());
+    } else {
+        check_same(&rt, &"the answer", &answer, &Ok(0));
+        check_same(&rt, &"what was shown", &written.as_slice(), &due.as_slice());
+    }
+    Ok(())
+}

@@ -1,0 +1,95 @@
+//! Each motion of a run with each fault.
+use crate::rounds::{check_told, due_of, run_in_world};
+use test_samples::entries_of;
+use cell_types::texts::axis_word;
+use cell_types::{AXES, Entry};
+use cell_workers::End;
+use std::alloc::AllocError;
+use std::process::Abort;
+use std::sync::Wait;
+use std::thread::Threads;
+
+const TEN: &[u8] = b"plates = 10";
+
+// How many motions each axis began.
+fn motions_of(entries: &[Entry]) -> [u32; 9] {
+    let mut motions = [0u32; 9];
+    for entry in entries {
+        if let Entry::Started { axis, .. } = *entry {
+            motions[axis as usize] = motions[axis as usize].saturating_add(1);
+        }
+    }
+    motions
+}
+
+// A run of ten plates with a line of faults. It finishes or stalls and prints that, its journal's text is legal with
+// the totals of its book, and no machines meet.
+fn check_line<R: AllocGlobal + Abort + Threads + Wait + Sync>(
+    rt: &R,
+    line: &str,
+) -> Result<(), AllocError> {
+    let outcome = run_in_world(rt, [TEN, line.as_bytes(), b""], line);
+    assert!(rt;
+        outcome.end == End::Finished || outcome.end == End::Stalled,
+        "{line}"
+    );
+    let due = due_of(rt.alloc(), &outcome)?;
+    let case = format!(in rt.alloc(); "plates = 10|{line}|{due}")?;
+    check_told(rt, case.as_str(), outcome.book.totals());
+    Ok(())
+}
+
+// Runs of ten plates, each with this fault in another motion. Each finishes or stalls, its journal is legal, and no
+// machines meet.
+fn check_fault<R: AllocGlobal + Abort + Threads + Wait + Sync>(
+    rt: &R,
+    fault: &str,
+) -> Result<(), AllocError> {
+    let whole = run_in_world(rt, [TEN, b"", b""], "plates = 10");
+    assert!(rt; whole.end == End::Finished, "without {fault}");
+    let motions = motions_of(&entries_of(rt.alloc(), whole.book.journal())?);
+    for axis in AXES {
+        let word = axis_word(axis);
+        assert!(rt; motions[axis as usize] > 0, "{word}");
+        for motion in 0..motions[axis as usize] {
+            let line = format!(in rt.alloc(); "{word},{},{fault}\n", u64::from(motion) + 1)?;
+            check_line(rt, line.as_str())?;
+        }
+    }
+    Ok(())
+}
+
+#[test]
+fn an_axis_that_does_not_move_harms_nothing(rt: HostRuntime) -> Result<(), AllocError> {
+    check_fault(&rt, "no_motion,")
+}
+
+#[test]
+fn a_switch_that_stays_harms_nothing(rt: HostRuntime) -> Result<(), AllocError> {
+    check_fault(&rt, "keeps_old,")
+}
+
+#[test]
+fn switches_that_are_all_shown_harm_nothing(rt: HostRuntime) -> Result<(), AllocError> {
+    check_fault(&rt, "both,")
+}
+
+#[test]
+fn a_slow_axis_harms_nothing(rt: HostRuntime) -> Result<(), AllocError> {
+    check_fault(&rt, "slow,30")
+}
+
+#[test]
+fn a_lost_plate_harms_nothing(rt: HostRuntime) -> Result<(), AllocError> {
+    check_fault(&rt, "lose_plate,")
+}
+
+#[test]
+fn missing_readings_harm_nothing(rt: HostRuntime) -> Result<(), AllocError> {
+    check_fault(&rt, "silent,3")
+}
+
+#[test]
+fn a_refused_command_harms_nothing(rt: HostRuntime) -> Result<(), AllocError> {
+    check_fault(&rt, "refuse_command,")
+}

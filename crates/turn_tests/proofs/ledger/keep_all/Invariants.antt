@@ -1,5 +1,0 @@
-use Rattle.std.proofs.Common.{◌≡◌}
-use Rattle.turn_tests.proofs.ledger.keep_all.Given as goal
-
-abbrev pub invariant-loop-record : goal.invariant-loop-record
-invariant-loop-record g l = l.shares.parts ≡ l.initial.shares.parts
