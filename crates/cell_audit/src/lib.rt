@@ -15,6 +15,6 @@ pub use error::{AuditError, MigrateError};
 pub use judge::{audit, audit_rows, audit_text};
 pub use migration::{migrate, migrate_watched};
 pub use profile::Profile;
-pub use read::{Reading, read_journal, read_rows};
+pub use read::{Audited, read_journal, read_rows};
 pub use watched::{WatchedWriter, WriteFault};
 pub use write::{WriteError, write_journal, write_journal_watched};

@@ -4,7 +4,7 @@ use crate::measures::Measures;
 use crate::report::{explain_broken, write_end, write_world};
 use crate::texts::{Told, status_of, write_told};
 use crate::wish::{Wish, wish_of};
-use cell_method::{DriveError, End, LineReader, MAX_LINES, ReadingLine};
+use cell_method::{DriveError, DriveEnd, LineReader, MAX_LINES, ReadingLine};
 use cell_rows::{TellsFault, read_script};
 use cell_sim::{FaultScript, SimOperator, SimPort, World, sim_ports};
 use cell_turns::{OperatorPort, Plan, Port, Ports};
@@ -33,7 +33,7 @@ pub(crate) fn raw_script(alloc: Global, operator: &[u8]) -> Result<Vec<Line>, Sc
 // How a round of lines closed.
 enum Close {
     Done,
-    End(End),
+    End(DriveEnd),
 }
 
 // What a run by commands has from round to round.
@@ -88,18 +88,18 @@ fn take_lines<R: Wait, I: TellsFault, W: Write>(
 ) -> Result<Close, DriveError> {
     for _ in 0..MAX_LINES {
         if !lines.advance()? {
-            return Ok(Close::End(End::Quit));
+            return Ok(Close::End(DriveEnd::Quit));
         }
         let answer = match wish_of(lines) {
             Wish::Done => return Ok(Close::Done),
-            Wish::Quit => return Ok(Close::End(End::Quit)),
+            Wish::Quit => return Ok(Close::End(DriveEnd::Quit)),
             Wish::Send(command) => send(run, command),
             Wish::Nothing => "unreadable,,,\n",
         };
         write!(writer, "{answer}")?;
         writer.flush()?;
     }
-    Ok(Close::End(End::TooManyLines))
+    Ok(Close::End(DriveEnd::TooManyLines))
 }
 
 // Whether a line's trigger holds in the world. There are no booked failures.
@@ -162,7 +162,7 @@ fn take_round<R: Wait, I: TellsFault, W: Write>(
     number: u32,
     lines: &mut LineReader<I>,
     writer: &mut W,
-) -> Result<Option<End>, DriveError> {
+) -> Result<Option<DriveEnd>, DriveError> {
     open(run, number, writer)?;
     run.measures.open(number, &run.world.lock(run.rt));
     match take_lines(run, lines, writer)? {
@@ -173,7 +173,7 @@ fn take_round<R: Wait, I: TellsFault, W: Write>(
     let mut world = run.world.lock(run.rt);
     world.end_round();
     if is_finished(&world) {
-        Ok(Some(End::Finished))
+        Ok(Some(DriveEnd::Finished))
     } else {
         Ok(None)
     }
@@ -185,13 +185,13 @@ fn take_rounds<R: Wait, I: TellsFault, W: Write>(
     plan: &Plan,
     lines: &mut LineReader<I>,
     writer: &mut W,
-) -> Result<End, DriveError> {
+) -> Result<DriveEnd, DriveError> {
     for round in 0..plan.turns {
         if let Some(end) = take_round(run, round + 1, lines, writer)? {
             return Ok(end);
         }
     }
-    Ok(End::TurnLimit)
+    Ok(DriveEnd::TurnLimit)
 }
 
 // What was counted in the world.
@@ -207,7 +207,7 @@ fn totals_of(world: &World) -> Totals {
 }
 
 // What is told of a run that ended so.
-fn told_of<R: Wait>(alloc: Global, run: &mut Run<'_, R>, end: End) -> io::Result<Vec<u8>> {
+fn told_of<R: Wait>(alloc: Global, run: &mut Run<'_, R>, end: DriveEnd) -> io::Result<Vec<u8>> {
     let mut text = Vec::new(alloc);
     let world = run.world.lock(run.rt);
     write_end(&mut text, end, totals_of(&world))?;
@@ -244,7 +244,7 @@ pub(crate) fn drive_commands<R: AllocGlobal + Wait, I: TellsFault, W: Write, E: 
     };
     let ended = take_rounds(&mut run, plan, lines, writer)?;
     let end = if run.measures.lacks_memory() {
-        End::Memory
+        DriveEnd::Memory
     } else {
         ended
     };

@@ -11,7 +11,7 @@ use crate::report::{
 use crate::texts::{Told, begin, status_of, write_told};
 use cell_audit::write_journal;
 use cell_measures::Durations;
-use cell_method::{DriveError, End, LineReader, drive};
+use cell_method::{DriveError, DriveEnd, LineReader, drive};
 use cell_rows::TellsFault;
 use cell_runs::Inputs;
 use cell_sim::{SimOperator, World, sim_ports};
@@ -23,13 +23,13 @@ use std::io::Write;
 use std::sync::{Mutex, Wait};
 
 // How a run ended, or the error of a device by which it broke off. Want of memory is an end.
-fn end_of(ran: Result<End, DriveError>, lacks_memory: bool) -> Result<End, DriveError>
-    ensures { IfOk result (λ end. end ≢ End.Memory → IsOk ran) }
+fn end_of(ran: Result<DriveEnd, DriveError>, lacks_memory: bool) -> Result<DriveEnd, DriveError>
+    ensures { IfOk result (λ end. end ≢ DriveEnd.Memory → IsOk ran) }
 {
     match ran {
-        Ok(_) if lacks_memory => Ok(End::Memory),
+        Ok(_) if lacks_memory => Ok(DriveEnd::Memory),
         Ok(end) => Ok(end),
-        Err(DriveError::OutOfMemory) => Ok(End::Memory),
+        Err(DriveError::OutOfMemory) => Ok(DriveEnd::Memory),
         Err(error) => Err(error),
     }
 }
@@ -38,7 +38,7 @@ fn end_of(ran: Result<End, DriveError>, lacks_memory: bool) -> Result<End, Drive
 fn told_of<R: Wait>(
     alloc: Global,
     rt: &R,
-    end: End,
+    end: DriveEnd,
     book: &Book,
     looker: &mut Looker<'_, R>,
     world: &Mutex<World>,

@@ -8,7 +8,7 @@ use crate::by_entries::drive_entries;
 use cell_audit::{WatchedWriter, WriteFault};
 use cell_lines::status;
 use cell_measures::Durations;
-use cell_method::{DriveError, End, LineReader};
+use cell_method::{DriveError, DriveEnd, LineReader};
 use cell_rows::{TellsFault, Watched};
 use cell_runs::{InputError, Inputs, read_inputs, refuse_input};
 use cell_sim::World;
@@ -38,12 +38,12 @@ pub(crate) struct Told {
 }
 
 /// The status of a run that ended so, and in which all was in order or not.
-pub(crate) fn status_of(end: End, is_in_order: bool) -> u8
-    ensures { end ≡ End.Memory → result ≡ 4 }
+pub(crate) fn status_of(end: DriveEnd, is_in_order: bool) -> u8
+    ensures { end ≡ DriveEnd.Memory → result ≡ 4 }
 {
     match end {
-        End::Memory => status::OUT_OF_MEMORY,
-        End::Finished if is_in_order => status::SUCCESS,
+        DriveEnd::Memory => status::OUT_OF_MEMORY,
+        DriveEnd::Finished if is_in_order => status::SUCCESS,
         _ => status::REFUSED,
     }
 }

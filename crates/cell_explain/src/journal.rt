@@ -19,7 +19,7 @@ use crate::shown::shown;
 use crate::telling::{Since, left_by, told};
 use crate::unread::record_line;
 use crate::wanted::Trouble;
-use cell_audit::{AuditError, Reading, WatchedWriter, WriteFault, audit_text, read_rows};
+use cell_audit::{AuditError, Audited, WatchedWriter, WriteFault, audit_text, read_rows};
 use cell_journal::Journal;
 use cell_lines::{audit_lines, status};
 use cell_rows::{RowReader, TellsFault};
@@ -70,7 +70,7 @@ fn entry_of<R: TellsFault>(rows: &RowReader<R>) -> Option<Entry>
 }
 
 // What is read of a text into a book, and the entry of the record at which that ended, if it is one's.
-fn read_again(alloc: Global, text: &[u8]) -> Result<(Reading, Option<Entry>), AllocError>
+fn read_again(alloc: Global, text: &[u8]) -> Result<(Audited, Option<Entry>), AllocError>
     ensures before { IfOk result (λ read. IsBefore read.0.answer read.0.book.entries) }
     ensures first { IfOk result (λ read. SpellsFirst read.0.book.entries (rows_of text.now)) }
 {

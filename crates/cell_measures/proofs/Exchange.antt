@@ -4,7 +4,7 @@ use Rattle.std.proofs.Common.{arith, length}
 use Rattle.std.specs.Prelude.{◌||◌, max, if◌then◌else◌}
 use Rattle.cell_types.specs.declared.words.Entry.{Entry}
 use Rattle.cell_measures.specs.declared.durations.Durations.{Durations}
-use Rattle.cell_measures.specs.declared.motion.Motion.{Motion}
+use Rattle.cell_measures.specs.declared.motion.Move.{Move}
 use Rattle.cell_measures.specs.Waits.{starts, waits_for}
 use Rattle.cell_measures.specs.Times.{Ended, begins, duration, ends, ends_motion, latest, motion_of, times_after}
 use Rattle.cell_measures.specs.Exchange.{depends, is_start_of, IsExchange}
@@ -22,7 +22,7 @@ or_second false b h = h
 skip : (p : Entry → Bool) (d : Ended) (past : List Ended) → p d.entry ≡ false → latest p (d ∷ past) ≡ latest p past
 skip p d past e = ap (λ (b : Bool). if b then max d.at (latest p past) else latest p past) e
 
-motion_skip : (ds : Durations) (past : List Ended) (d : Ended) (o : Option Motion) (begun : ℕ)
+motion_skip : (ds : Durations) (past : List Ended) (d : Ended) (o : Option Move) (begun : ℕ)
     → is_start_of o d.entry ≡ false → ends_motion ds (d ∷ past) o begun ≡ ends_motion ds past o begun
 motion_skip ds past d None begun e = refl
 motion_skip ds past d (Some m) begun e = ap (λ (n : ℕ). max begun (n + duration ds m)) (skip (starts m.axis) d past e)
@@ -51,7 +51,7 @@ alike_more : (d : Ended) (P Q : List Ended) → ((p : Entry → Bool) → latest
     → latest p (d ∷ P) ≡ latest p (d ∷ Q)
 alike_more d P Q h p = ap (λ (n : ℕ). if p d.entry then max d.at n else n) (h p)
 
-motion_alike : (ds : Durations) (P Q : List Ended) (o : Option Motion) (begun : ℕ) → ((p : Entry → Bool)
+motion_alike : (ds : Durations) (P Q : List Ended) (o : Option Move) (begun : ℕ) → ((p : Entry → Bool)
     → latest p P ≡ latest p Q) → ends_motion ds P o begun ≡ ends_motion ds Q o begun
 motion_alike ds P Q None begun h = refl
 motion_alike ds P Q (Some m) begun h = ap (λ (n : ℕ). max begun (n + duration ds m)) (h (starts m.axis))

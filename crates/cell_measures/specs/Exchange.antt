@@ -1,12 +1,12 @@
 -- Entries that depend on nothing of each other, and lists in which two neighbours are exchanged
 use Rattle.std.specs.Prelude.{ℕ, ◌≡◌, ◌||◌, ◌++◌, ◌∷◌, Bool, false, Option, Some, None, List, length}
 use Rattle.cell_types.specs.declared.words.Entry.{Entry}
-use Rattle.cell_measures.specs.declared.motion.Motion.{Motion}
+use Rattle.cell_measures.specs.declared.motion.Move.{Move}
 use Rattle.cell_measures.specs.Waits.{starts, waits_for}
 use Rattle.cell_measures.specs.Times.{motion_of}
 
 -- whether an entry starts a motion
-abbrev pub is_start_of : Option Motion → Entry → Bool
+abbrev pub is_start_of : Option Move → Entry → Bool
 is_start_of (Some m) d = starts m.axis d
 is_start_of None d = false
 

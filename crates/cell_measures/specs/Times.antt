@@ -9,19 +9,19 @@ use Rattle.cell_types.specs.declared.words.Entry.TheVariants.{Arrived, Conveyed,
 use Rattle.cell_types.specs.declared.cell.BeltMotion.{BeltMotion}
 use Rattle.cell_types.specs.Same.{axis_number, pose_number}
 use Rattle.cell_types.specs.Cell.{motion_to, press_axis}
-use Rattle.cell_measures.specs.declared.motion.Motion.{Motion}
+use Rattle.cell_measures.specs.declared.motion.Move.{Move}
 use Rattle.cell_measures.specs.declared.durations.Durations.{Durations}
 use Rattle.cell_measures.specs.Waits.{waits_for, starts}
 
 -- the motion that an entry ends
-abbrev pub motion_of : Entry → Option Motion
+abbrev pub motion_of : Entry → Option Move
 motion_of (Arrived a p) = Some (record { axis = a; to = p })
 motion_of (Conveyed a k dest) = option_map (λ (m : BeltMotion). record { axis = a; to = m.to }) (motion_to a dest)
 motion_of (Forged m k) = option_map (λ (a : Axis). record { axis = a; to = pose.Top }) (press_axis m)
 motion_of _ = None
 
 -- how long a motion takes
-abbrev pub duration : Durations → Motion → ℕ
+abbrev pub duration : Durations → Move → ℕ
 duration ds m = slice_index (slice_index_or ds.rows (axis_number m.axis) []) (pose_number m.to)
 
 -- an entry, with the time at which it ended
@@ -39,7 +39,7 @@ abbrev pub begins : List Ended → Entry → ℕ
 begins past e = latest (waits_for e) past
 
 -- the end of a motion is as much later than its start as the motion takes
-abbrev pub ends_motion : Durations → List Ended → Option Motion → ℕ → ℕ
+abbrev pub ends_motion : Durations → List Ended → Option Move → ℕ → ℕ
 ends_motion ds past None begun = begun
 ends_motion ds past (Some m) begun = max begun (latest (starts m.axis) past + duration ds m)
 

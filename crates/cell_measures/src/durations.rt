@@ -2,10 +2,10 @@
 ghost use Rattle.std.specs.Prelude.{◌≡◌, ◌&&◌, ◌<◌, if◌then◌else◌, slice_index};
 ghost use Rattle.cell_types.specs.declared.words.Pose.{Pose};
 ghost use Rattle.cell_types.specs.Same.{pose_number, same_axis, same_pose};
-ghost use Rattle.cell_measures.specs.declared.motion.Motion.{Motion};
+ghost use Rattle.cell_measures.specs.declared.motion.Move.{Move};
 ghost use Rattle.cell_measures.specs.Times.{duration};
 
-use crate::motion::Motion;
+use crate::motion::Move;
 use cell_types::{Axis, Pose, axis_number};
 
 /// How long each motion takes, in whole units of time.
@@ -37,7 +37,7 @@ impl Durations {
     pub const ONE: Durations = Durations { rows: [[1; 18]; 9] };
 
     /// How long a motion takes.
-    pub fn of(&self, motion: Motion) -> u16
+    pub fn of(&self, motion: Move) -> u16
         ensures { result ≡ duration self.now motion }
     {
         self.rows[axis_number(motion.axis)][pose_number(motion.to)]
@@ -45,14 +45,14 @@ impl Durations {
 
     /// Sets how long each motion of an axis takes.
     pub fn set_axis(&mut self, axis: Axis, time: u16)
-        ensures { (m : Motion) → duration self.new m ≡ (if same_axis axis m.axis then time else duration self.old m) }
+        ensures { (m : Move) → duration self.new m ≡ (if same_axis axis m.axis then time else duration self.old m) }
     {
         self.rows[axis_number(axis)] = [time; 18];
     }
 
     /// Sets how long a motion takes.
     pub fn set(&mut self, axis: Axis, to: Pose, time: u16)
-        ensures { (m : Motion) → duration self.new m
+        ensures { (m : Move) → duration self.new m
             ≡ (if same_axis axis m.axis && same_pose to m.to then time else duration self.old m) }
     {
         let place = axis_number(axis);

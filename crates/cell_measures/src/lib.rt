@@ -17,7 +17,7 @@ mod waits;
 
 pub use durations::Durations;
 pub use measures::{Held, Measures, Spent, Spread};
-pub use motion::{Motion, motion_of};
+pub use motion::{Move, motion_of};
 pub use read::{TimesError, read_durations};
 pub use rows::{Number, Row, rows_of};
 pub use table::{Measured, csv_of, lines_of, table_of};

@@ -23,4 +23,4 @@ pub use line::{LineReader, ReadFault};
 pub use onlooker::Onlooker;
 pub use reading_line::ReadingLine;
 pub use reply::Reply;
-pub use rounds::{End, drive};
+pub use rounds::{DriveEnd, drive};

@@ -24,7 +24,7 @@ use std::io::Write;
 
 /// How a run ended.
 #[derive(Clone, Copy, Debug, PartialEq, Eq)]
-pub enum End {
+pub enum DriveEnd {
     /// As many plates were admitted as the plan has, and no station has one.
     Finished,
     /// There were as many rounds as the plan allows.
@@ -64,11 +64,11 @@ fn open_round<W: Write>(writer: &mut W, number: u32) -> Result<(), DriveError>
 }
 
 // The end that a round leaves the run at, if it does.
-fn end_at(book: &Book, plan: &Plan) -> Option<End> {
+fn end_at(book: &Book, plan: &Plan) -> Option<DriveEnd> {
     if book.totals().admitted == plan.plates && book.on_stations().is_empty() {
-        Some(End::Finished)
+        Some(DriveEnd::Finished)
     } else if book.journal().len() >= plan.journal_limit {
-        Some(End::Full)
+        Some(DriveEnd::Full)
     } else {
         None
     }
@@ -85,7 +85,7 @@ fn take_round<R: TellsFault, W: Write, P: Port, O: OperatorPort, L: Onlooker>(
     plan: &Plan,
     writer: &mut W,
     onlooker: &mut L,
-) -> Result<Option<End>, DriveError>
+) -> Result<Option<DriveEnd>, DriveError>
     ensures goes { IfOk result (λ _. (s : Stand) (rounds : ℕ) → rounds + 1 ≡ number
         → Fits P.tells P.log book.old.entries ports.old s → FitsDesk desk.old.script desk.old.lost rounds s
         → Goes P.tells P.log book.old.limits s (lines_left R.remaining lines.old) (lines_left R.remaining lines.new)
@@ -101,8 +101,8 @@ fn take_round<R: TellsFault, W: Write, P: Port, O: OperatorPort, L: Onlooker>(
     onlooker.opened(number);
     match take_lines(lines, book, ports, writer, onlooker)? {
         Close::Done => {}
-        Close::Quit => return Ok(Some(End::Quit)),
-        Close::Long => return Ok(Some(End::TooManyLines)),
+        Close::Quit => return Ok(Some(DriveEnd::Quit)),
+        Close::Long => return Ok(Some(DriveEnd::TooManyLines)),
     }
     operate(desk, hands, book, writer, onlooker)?;
     onlooker.closed();
@@ -119,7 +119,7 @@ fn take_rounds<R: TellsFault, W: Write, P: Port, O: OperatorPort, L: Onlooker>(
     plan: &Plan,
     writer: &mut W,
     onlooker: &mut L,
-) -> Result<End, DriveError>
+) -> Result<DriveEnd, DriveError>
     requires { desk.old.lost ≡ false }
     ensures run { IfOk result (λ _. Driven P.tells P.log book.old.limits
         (start P.log book.old.entries ports.old desk.old.script) (lines_left R.remaining lines.old)
@@ -145,7 +145,7 @@ fn take_rounds<R: TellsFault, W: Write, P: Port, O: OperatorPort, L: Onlooker>(
             return Ok(end);
         }
     }
-    Ok(End::TurnLimit)
+    Ok(DriveEnd::TurnLimit)
 }
 
 /// Lets a method drive a cell over these ports, in rounds, by entries.
@@ -158,7 +158,7 @@ pub fn drive<R: TellsFault, W: Write, P: Port, O: OperatorPort, L: Onlooker>(
     plan: &Plan,
     writer: &mut W,
     onlooker: &mut L,
-) -> Result<End, DriveError>
+) -> Result<DriveEnd, DriveError>
     // Events lead from the start to the journal, to what the ports were asked and to what was written.
     ensures run { IfOk result (λ _. Driven P.tells P.log book.old.limits (start P.log book.old.entries ports.old script)
         (lines_left R.remaining lines.old) (lines_left R.remaining lines.new) book.new.entries ports.new

@@ -20,7 +20,7 @@ pub fn xy(x: u32, y: u32) -> Spot {
 
 /// A rectangle, by its upper left corner.
 #[derive(Clone, Copy)]
-pub struct Room {
+pub struct Rectangle {
     pub corner: Spot,
     pub width: u32,
     pub height: u32,
@@ -108,11 +108,11 @@ pub fn ink_circle<W: Write>(
 }
 
 /// Draws a rectangle.
-pub fn ink_room<W: Write>(out: &mut W, room: Room, fill: &str, outline: Outline) -> io::Result<()> {
+pub fn ink_rectangle<W: Write>(out: &mut W, rectangle: Rectangle, fill: &str, outline: Outline) -> io::Result<()> {
     writeln!(
         out,
         "<rect x=\"{}\" y=\"{}\" width=\"{}\" height=\"{}\" rx=\"4\" fill=\"{fill}\" {outline}/>",
-        room.corner.x, room.corner.y, room.width, room.height
+        rectangle.corner.x, rectangle.corner.y, rectangle.width, rectangle.height
     )
 }
 

@@ -1,7 +1,7 @@
 //! The belts, the table, the presses and the zones of a drawing.
 use crate::Facts;
 use crate::ink::{
-    Outline, Room, Spot, Way, ink_bold, ink_circle, ink_line, ink_place, ink_room, ink_text, xy,
+    Outline, Rectangle, Spot, Way, ink_bold, ink_circle, ink_line, ink_place, ink_rectangle, ink_text, xy,
 };
 use crate::parts::{axis_at, is_asked, is_failed, lamp_at, plate_at};
 use cell_sentences::{colour_name, machine_name};
@@ -72,13 +72,13 @@ fn draw_flow<W: Write>(out: &mut W, axis: AxisState, from: Spot, to: Spot) -> io
 
 /// Draws the feed belt, its light and its plates.
 pub fn draw_feed<W: Write>(out: &mut W, facts: &Facts) -> io::Result<()> {
-    let room = Room {
+    let rectangle = Rectangle {
         corner: xy(20, 222),
         width: 180,
         height: 56,
     };
     let axis = axis_at(facts, Axis::FeedBelt);
-    ink_room(out, room, BELT, outline_of(facts, Machine::Feed))?;
+    ink_rectangle(out, rectangle, BELT, outline_of(facts, Machine::Feed))?;
     draw_flow(out, axis, xy(84, 250), xy(136, 250))?;
     ink_place(out, xy(52, 250), plate_at(facts, Station::FeedIn))?;
     ink_place(out, xy(168, 250), plate_at(facts, Station::FeedEnd))?;
@@ -89,13 +89,13 @@ pub fn draw_feed<W: Write>(out: &mut W, facts: &Facts) -> io::Result<()> {
 
 /// Draws the deposit belt, its light and its plates.
 pub fn draw_deposit<W: Write>(out: &mut W, facts: &Facts) -> io::Result<()> {
-    let room = Room {
+    let rectangle = Rectangle {
         corner: xy(518, 222),
         width: 180,
         height: 56,
     };
     let axis = axis_at(facts, Axis::DepositBelt);
-    ink_room(out, room, BELT, outline_of(facts, Machine::Deposit))?;
+    ink_rectangle(out, rectangle, BELT, outline_of(facts, Machine::Deposit))?;
     draw_flow(out, axis, xy(582, 250), xy(634, 250))?;
     ink_place(out, xy(550, 250), plate_at(facts, Station::DepIn))?;
     ink_place(out, xy(666, 250), plate_at(facts, Station::DepEnd))?;
@@ -132,12 +132,12 @@ pub fn draw_presses<W: Write>(out: &mut W, facts: &Facts) -> io::Result<()> {
 
 fn draw_press<W: Write>(out: &mut W, facts: &Facts, press: Press, y: u32) -> io::Result<()> {
     let state = axis_at(facts, press.axis);
-    let room = Room {
+    let rectangle = Rectangle {
         corner: xy(358, y.saturating_sub(42)),
         width: 84,
         height: 84,
     };
-    ink_room(out, room, STEEL, outline_of(facts, press.machine))?;
+    ink_rectangle(out, rectangle, STEEL, outline_of(facts, press.machine))?;
     ink_place(out, xy(400, y), plate_at(facts, press.station))?;
     draw_height(out, state, y)?;
     draw_name(out, facts, press.machine, xy(484, y.saturating_sub(4)))?;

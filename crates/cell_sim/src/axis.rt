@@ -2,7 +2,7 @@
 ghost use Rattle.std.specs.Prelude.{◌≡◌};
 ghost use Rattle.cell_types.specs.Cell.{home};
 
-use crate::motion::{Motion, Path, Phase};
+use crate::motion::{Moving, Path, Phase};
 use crate::switches::switch_bit;
 use cell_types::{Axis, AxisState, Pose, home};
 
@@ -11,7 +11,7 @@ use cell_types::{Axis, AxisState, Pose, home};
 #[derive(Clone, Copy, Debug)]
 pub(crate) struct AxisInWorld {
     pub pose: Pose,
-    pub motion: Option<Motion>,
+    pub motion: Option<Moving>,
     /// How many commands to move it came, those that failed included. At `u32::MAX` the count stays.
     pub commands: u32,
 }

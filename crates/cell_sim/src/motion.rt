@@ -34,7 +34,7 @@ pub(crate) enum Phase {
 
 /// A motion of an axis, which goes on until another begins, the axis is put at home or, for a belt, it is turned off.
 #[derive(Clone, Copy, Debug, PartialEq, Eq)]
-pub(crate) struct Motion {
+pub(crate) struct Moving {
     pub path: Path,
     pub fault: Option<Fault>,
     pub phase: Phase,
@@ -47,14 +47,14 @@ pub(crate) struct Motion {
     pub stopped: bool,
 }
 
-impl Motion {
+impl Moving {
     /// A motion that begins. Its duration is how many readings show nothing between its two ends, one at least.
-    pub(crate) fn begin(path: Path, fault: Option<Fault>, duration: u16) -> Motion {
+    pub(crate) fn begin(path: Path, fault: Option<Fault>, duration: u16) -> Moving {
         let missing = match fault {
             Some(Fault::Silent(readings)) => readings,
             _ => 0,
         };
-        Motion {
+        Moving {
             path,
             fault,
             phase: Phase::Begun,

@@ -17,7 +17,7 @@ mod watching;
 
 use crate::axis::AxisInWorld;
 use crate::fault::Fault;
-use crate::motion::{Motion, Path, Phase};
+use crate::motion::{Moving, Path, Phase};
 use crate::script::FaultScript;
 use crate::watch::{SafetyRule, Watch};
 use cell_diagnosis::Reading;
@@ -169,7 +169,7 @@ impl World {
         self.axes[axis_number(axis)]
     }
 
-    fn set_motion(&mut self, axis: Axis, motion: Option<Motion>) {
+    fn set_motion(&mut self, axis: Axis, motion: Option<Moving>) {
         self.axes[axis_number(axis)].motion = motion;
     }
 
@@ -255,8 +255,8 @@ impl World {
         }
         self.look_at_start(axis, to);
         if let Some(path) = self.path(axis, to) {
-            let duration = self.durations.of(cell_measures::Motion { axis, to });
-            self.set_motion(axis, Some(Motion::begin(path, fault, duration)));
+            let duration = self.durations.of(cell_measures::Move { axis, to });
+            self.set_motion(axis, Some(Moving::begin(path, fault, duration)));
         }
         Ok(())
     }
@@ -355,7 +355,7 @@ impl World {
 
     fn stop_motion(&mut self, axis: Axis) {
         if let Some(motion) = self.axis(axis).motion {
-            let stopped = Motion {
+            let stopped = Moving {
                 stopped: true,
                 ..motion
             };
@@ -462,7 +462,7 @@ impl World {
         if motion.missing == 0 {
             return false;
         }
-        let skipped = Motion {
+        let skipped = Moving {
             missing: motion.missing - 1,
             ..motion
         };
@@ -491,7 +491,7 @@ impl World {
             return;
         };
         let phase = motion.next_phase();
-        self.set_motion(axis, Some(Motion { phase, ..motion }));
+        self.set_motion(axis, Some(Moving { phase, ..motion }));
         match (motion.phase, phase) {
             (Phase::Seen, Phase::Between(_)) => self.leave(axis, motion.fault),
             (Phase::Between(_), Phase::Arrived) => {

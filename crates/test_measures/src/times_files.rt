@@ -1,11 +1,11 @@
 //! Files of times.
-use cell_measures::{Durations, Motion, read_durations};
+use cell_measures::{Durations, Move, read_durations};
 use cell_types::{Axis, Pose};
 use std::process::Abort;
 
 fn time_of<R: AllocGlobal + Abort>(rt: &R, text: &str, axis: Axis, to: Pose) -> u16 {
     match read_durations(rt.alloc(), text.as_bytes()) {
-        Ok(durations) => durations.of(Motion { axis, to }),
+        Ok(durations) => durations.of(Move { axis, to }),
         Err(_) => panic!(rt; "the text is refused"),
     }
 }

@@ -1,7 +1,7 @@
 //! Journals that are read for more than their audit, and shown.
 use crate::same::check_same;
 use crate::texts::{PLAIN, PROFILE_1, QUOTED, clearing};
-use cell_audit::{AuditError, Reading};
+use cell_audit::{AuditError, Audited};
 use cell_measures::Durations;
 use test_samples::{begun, call_begins, call_ends};
 use cell_show::{Form, ShowError, show_beside, show_journal};
@@ -14,7 +14,7 @@ use std::test::Fail;
 const ROOM: usize = 1_000_000;
 
 // A journal of ten entries, or fewer where memory was wanting, begins as another book. It has the totals that are due.
-fn check_reading(rt: &impl Abort, reading: &Reading, first: &Book, wanted: bool) {
+fn check_reading(rt: &impl Abort, reading: &Audited, first: &Book, wanted: bool) {
     let journal = reading.book.journal();
     assert!(rt; journal.len() == 10 || wanted && journal.len() < 10);
     for place in 0..journal.len().min(7) {
