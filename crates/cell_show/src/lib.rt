@@ -2,6 +2,7 @@
 #![tactic(auto)]
 
 mod beside;
+pub mod chart;
 mod error;
 mod show;
 

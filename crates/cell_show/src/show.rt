@@ -8,8 +8,8 @@ ghost use Rattle.cell_show.specs.Shown.{TellsStatus, AsksPast, TellsEntries, Has
 ghost use Rattle.cell_show.specs.Shown.{IsRefused, ShowsPage};
 
 use crate::ShowError;
+use crate::chart::{ChartError, draw_chart};
 use cell_audit::{AuditError, read_rows};
-use cell_chart::{ChartError, draw_chart};
 use cell_lines::status;
 use cell_measures::Durations;
 use cell_page::write_page;

@@ -1,7 +1,7 @@
 //! Journals on an axis of time.
 use crate::states::{FAILED_PRESS, booked};
 use cell_audit::AuditError;
-use cell_chart::{ChartError, draw_chart};
+use cell_show::chart::{ChartError, draw_chart};
 use cell_measures::Durations;
 use cell_types::{Axis, Belt, Colour, Entry, Pose};
 use plate_book::Book;

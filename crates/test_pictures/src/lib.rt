@@ -1,4 +1,4 @@
-//! The tests of `cell_picture`, `cell_chart`, `cell_page` and `cell_show`: the pictures of some states, whole, the
+//! The tests of `cell_picture`, `cell_page` and `cell_show`: the pictures of some states, whole, the
 //! charts and the page of a short journal, what is shown for journals' texts, and what readers and writers that fail
 //! leave of it.
 #![tactic(auto)]

@@ -1,7 +1,7 @@
 //! What an entry begins and ends in the lanes of a chart.
-use crate::bar::{What, draw_bar};
-use crate::lanes::{Lane, Lanes};
-use crate::scale::Scale;
+use crate::chart::bar::{What, draw_bar};
+use crate::chart::lanes::{Lane, Lanes};
+use crate::chart::scale::Scale;
 use cell_types::{
     Entry, Machine, PlateId, Station, ZONES, axes_of, motion_to, press_axis, station_of_arm,
 };

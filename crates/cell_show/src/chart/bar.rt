@@ -1,6 +1,6 @@
 //! The bars of a chart, in SVG's elements.
-use crate::lanes::{Lane, Open};
-use crate::scale::Scale;
+use crate::chart::lanes::{Lane, Open};
+use crate::chart::scale::Scale;
 use cell_sentences::{cause_name, machine_name};
 use cell_types::texts::{machine_word, pose_word};
 use cell_types::{Cause, Machine, PlateId, Pose};

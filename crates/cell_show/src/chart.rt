@@ -1,10 +1,18 @@
-//! The chart as one SVG file.
+//! A journal on an axis of time, as one SVG file: who moves when, who holds which zone, which plate stands where, and
+//! which machine is failed.
 ghost use Rattle.std.specs.Prelude.{◌≡◌, ◌≢◌, ◌<◌, ◌↔◌, Err, IfErr, length};
 
-use crate::error::ChartError;
-use crate::follow::{Drawing, end, follow};
-use crate::lanes::{Lane, Lanes, bottom};
-use crate::scale::Scale;
+mod bar;
+mod error;
+mod follow;
+mod lanes;
+mod scale;
+
+pub use error::ChartError;
+
+use crate::chart::follow::{Drawing, end, follow};
+use crate::chart::lanes::{Lane, Lanes, bottom};
+use crate::chart::scale::Scale;
 use cell_audit::AuditError;
 use cell_journal::Journal;
 use cell_measures::{Durations, times_of};

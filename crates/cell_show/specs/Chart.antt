@@ -1,7 +1,7 @@
 -- What an error of a chart is called
 use Rattle.std.specs.Prelude.{ℕ, List, codes}
-use Rattle.cell_chart.specs.declared.error.ChartError.{ChartError}
-use Rattle.cell_chart.specs.declared.error.ChartError.TheVariants as error
+use Rattle.cell_show.specs.declared.chart.error.ChartError.{ChartError}
+use Rattle.cell_show.specs.declared.chart.error.ChartError.TheVariants as error
 
 -- an error as it is told
 abbrev pub error_text : ChartError → List ℕ

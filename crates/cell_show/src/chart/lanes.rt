@@ -1,5 +1,5 @@
 //! The lanes of a chart, and what goes on in each.
-use crate::bar::What;
+use crate::chart::bar::What;
 use cell_types::{
     Axis, Machine, Station, Zone, axis_number, machine_number, station_number, zone_number,
 };

@@ -18,7 +18,7 @@ pub enum ChartError {
 
 impl fmt::Display for ChartError {
     ghost use Rattle.std.specs.Prelude.{Some};
-    ghost use Rattle.cell_chart.specs.Chart.{error_text};
+    ghost use Rattle.cell_show.specs.Chart.{error_text};
 
     ghost output = { λ why. Some (error_text why) };
 
@@ -35,7 +35,7 @@ impl Error for ChartError {}
 
 impl From<AllocError> for ChartError {
     ghost use Rattle.std.specs.Prelude.{◌≡◌};
-    ghost use Rattle.cell_chart.specs.declared.error.ChartError.TheVariants as error;
+    ghost use Rattle.cell_show.specs.declared.chart.error.ChartError.TheVariants as error;
 
     ghost from_gives = { λ _ e. e ≡ error.OutOfMemory };
 
