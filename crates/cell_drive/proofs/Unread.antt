@@ -8,6 +8,7 @@ nothing-before : (known : Option (List ℕ)) → prepend_known [] known ≡ know
 nothing-before None = refl
 nothing-before (Some bytes) = refl
 
+-- an empty buffer holds nothing back of what its source has left
 pub unread : {T A : Type 0} (remaining : T → Option (List ℕ)) (r : BufReader T A) (source : T) → reader_inner r ≡ source
     → reader_buffer r ≡ [] → reader_capacity r ≡ 8192 → reader_remaining remaining r ≡ remaining source
 unread remaining r source inner empty capacity = rw (capacity, empty, inner) (nothing-before (remaining source))

@@ -13,6 +13,7 @@ use Rattle.plate_book.specs.Rules.Legal.{legal, legal_from}
 use Rattle.cell_turns.specs.declared.plan.Plan.{Plan}
 use Rattle.cell_endings.specs.Endings.{greatest, limits_of}
 
+-- a limit that isn't reached isn't reached where it is greater
 room : (a b n : ℕ) → a ≤ b → nat_le a n ≡ false → nat_le b n ≡ false
 room a b n less h = grind (arith, nat_tests)
 
@@ -23,6 +24,7 @@ passes : (x y : Bool) (r : Refusal) (p q : Option Refusal) → (x ≡ false → 
 passes true y r p q head rest h = cc h
 passes false y r p q head rest h = rw (head refl) (rest h)
 
+-- a journal is legal entry by entry, so its first entry and the rest may be widened one by one
 both : (a b p q : Bool) → (a ≡ true → p ≡ true) → (b ≡ true → q ≡ true) → (a && b) ≡ true → (p && q) ≡ true
 both true b p q f g h = rw (f refl) (g h)
 both false b p q f g h = cc h
@@ -52,6 +54,7 @@ still_allowed l m c (Declared n cause) more plates h =
     wider (l.entries + 6) (m.entries + 6) c.entries JournalFull _ _ places (λ t. t) h
 still_allowed l m c _ more plates h = longer l m c _ more h
 
+-- each entry is judged after the same ones as before, and only the limits have changed
 still_legal : (l m : BookLimits) (done es : List Entry) → l.entries ≤ m.entries → l.plates ≤ m.plates
     → legal_from l done es ≡ true → legal_from m done es ≡ true
 still_legal l m done [] more plates h = refl

@@ -37,12 +37,14 @@ pub tells : {E : Type 0} (r : Result ℕ E) (old new : Option (List ℕ)) (statu
 tells (Ok s) old new status saying says (written, is) p = (saying, subst (λ n. says n saying) (sym is) p, written)
 tells (Err e) old new status saying says written p = tt
 
+-- where memory is refused, want of memory is an answer that any settings may get
 pub settings-end : (text : List ℕ) (status : ℕ) (saying : List ℕ) → SaysSettings text status saying
     → EndsAsCheck text status
 settings-end text status saying (answer, due, inl (second, says, is, ends)) = (answer, due, ends)
 settings-end text status saying (answer, due, inr (ends, none)) =
     (Err settings.OutOfMemory, record { due = λ _. tt; bytes = λ _. tt }, ends)
 
+-- the reading of lines has errors of its own, each of which is an error of the script under the same name
 pub faults-end : (text : List ℕ) (status : ℕ) (name saying : List ℕ) → SaysScript name next_fault text status saying
     → EndsAsFaults text status
 faults-end text status name saying (Ok lines, gives, inl (says, ends)) =
@@ -54,6 +56,7 @@ faults-end text status name saying (Err line.TooManyLines, gives, inl (says, end
 faults-end text status name saying (Err line.OutOfMemory, gives, inl (says, ends)) = (Err fault.OutOfMemory, tt, ends)
 faults-end text status name saying (answer, gives, inr (ends, none)) = (Err fault.OutOfMemory, tt, ends)
 
+-- the same of the operator's script
 pub operator-end : (text : List ℕ) (status : ℕ) (name saying : List ℕ) → SaysScript name line_of text status saying
     → EndsAsScript text status
 operator-end text status name saying (Ok lines, gives, inl (says, ends)) =
@@ -107,6 +110,7 @@ journal-legal text totals status saying (inr due) (answer, (right, only), is, en
   | inr fault ↦ (answer, (right, only), fault-says text answer saying fault is, ends)
 ]
 
+-- any text may get an answer on memory, and of that one nothing has to be said
 pub journal-nothing : (text : List ℕ) (status : ℕ) (saying : List ℕ) → SaysNothing status saying
     → SaysJournal text status saying
 journal-nothing text status saying (four, none) =

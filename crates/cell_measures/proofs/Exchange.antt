@@ -22,11 +22,13 @@ or_second false b h = h
 skip : (p : Entry → Bool) (d : Ended) (past : List Ended) → p d.entry ≡ false → latest p (d ∷ past) ≡ latest p past
 skip p d past e = ap (λ (b : Bool). if b then max d.at (latest p past) else latest p past) e
 
+-- the end of a motion looks only at when its own axis set out
 motion_skip : (ds : Durations) (past : List Ended) (d : Ended) (o : Option Move) (begun : ℕ)
     → is_start_of o d.entry ≡ false → ends_motion ds (d ∷ past) o begun ≡ ends_motion ds past o begun
 motion_skip ds past d None begun e = refl
 motion_skip ds past d (Some m) begun e = ap (λ (n : ℕ). max begun (n + duration ds m)) (skip (starts m.axis) d past e)
 
+-- when an entry ends is read from those on which it depends, and from no others
 ends_skip : (ds : Durations) (past : List Ended) (d : Ended) (e : Entry) → depends e d.entry ≡ false
     → ends ds (d ∷ past) e ≡ ends ds past e
 ends_skip ds past d e h =
@@ -44,6 +46,7 @@ swap_step true false x y l = refl
 swap_step false true x y l = refl
 swap_step false false x y l = refl
 
+-- the latest of some ends is the same in whatever order they came
 alike_swap : (x y : Ended) (P : List Ended) → (p : Entry → Bool) → latest p (x ∷ y ∷ P) ≡ latest p (y ∷ x ∷ P)
 alike_swap x y P p = swap_step (p x.entry) (p y.entry) x.at y.at (latest p P)
 
@@ -56,11 +59,13 @@ motion_alike : (ds : Durations) (P Q : List Ended) (o : Option Move) (begun : �
 motion_alike ds P Q None begun h = refl
 motion_alike ds P Q (Some m) begun h = ap (λ (n : ℕ). max begun (n + duration ds m)) (h (starts m.axis))
 
+-- an entry looks at the past by nothing but the latest ends under some test
 ends_alike : (ds : Durations) (P Q : List Ended) (e : Entry) → ((p : Entry → Bool) → latest p P ≡ latest p Q)
     → ends ds P e ≡ ends ds Q e
 ends_alike ds P Q e h = ap (λ (n : ℕ). ends_motion ds P (motion_of e) n) (h (waits_for e))
     ∙ motion_alike ds P Q (motion_of e) (begins Q e) h
 
+-- pasts that are alike stay so as the same entries are added, so all later times agree
 times_alike : (ds : Durations) (P Q : List Ended) (es : List Entry) → ((p : Entry → Bool) → latest p P ≡ latest p Q)
     → times_after ds P es ≡ times_after ds Q es
 times_alike ds P Q [] h = refl
@@ -79,6 +84,7 @@ two_times ds P a b es h =
     (record { entry = b; at = t } ∷ record { entry = a; at = ends ds P a } ∷ P) es)
     (ends_skip ds P (record { entry = a; at = ends ds P a }) b h)
 
+-- neighbours that depend on nothing of each other end at the same times in either order, and so do all behind
 pub exchanged : (ds : Durations) (P : List Ended) (J K : List Entry) (a b : Entry) → depends a b ≡ false
     → depends b a ≡ false
     → IsExchange (length J) (times_after ds P (J ++ a ∷ b ∷ K)) (times_after ds P (J ++ b ∷ a ∷ K))

@@ -14,6 +14,7 @@ use Rattle.cell_measures.specs.Waits.{frees, is_of, machine_of, names_that, plat
 use Rattle.cell_measures.specs.Times.{Ended, begins, latest}
 use Rattle.cell_measures.specs.Clocks.{Keeps, greatest, plate_time, zone_time}
 
+-- an entry that passes either test counts once, and the greater end stands for both
 or_step : (b c : Bool) (t x y : ℕ)
     → (if (b || c) then max t (max x y) else max x y) ≡ max (if b then max t x else x) (if c then max t y else y)
 or_step true true t x y = omega arith
@@ -21,21 +22,25 @@ or_step true false t x y = omega arith
 or_step false true t x y = omega arith
 or_step false false t x y = refl
 
+-- so a clock can keep one time for each machine, plate and zone, and take the greatest of those it needs
 pub latest_or : (p q : Entry → Bool) (past : List Ended)
     → latest (λ d. p d || q d) past ≡ max (latest p past) (latest q past)
 latest_or p q [] = refl
 latest_or p q (d ∷ past) = ap (λ (n : ℕ). if (p d.entry || q d.entry) then max d.at n else n) (latest_or p q past)
     ∙ or_step (p d.entry) (q d.entry) d.at (latest p past) (latest q past)
 
+-- where an entry names no plate or wants no zone, the clock's time for that is 0
 pub latest_never : (past : List Ended) → latest (λ d. false) past ≡ 0
 latest_never [] = refl
 latest_never (d ∷ past) = latest_never past
 
+-- a zone that an entry doesn't want has no say in when it begins
 pub latest_and : (b : Bool) (p : Entry → Bool) (past : List Ended)
     → latest (λ d. b && p d) past ≡ (if b then latest p past else 0)
 latest_and true p past = refl
 latest_and false p past = latest_never past
 
+-- the zones' times, taken one by one, cover every entry that frees a zone that is wanted
 pub latest_any : (w : Zone → Bool) (g : Zone → Entry → Bool) (past : List Ended) (zs : List Zone)
     → greatest (λ z. if w z then latest (g z) past else 0) zs ≡ latest (λ d. list_any (λ z. w z && g z d) zs) past
 latest_any w g past [] = sym (latest_never past)
@@ -66,6 +71,7 @@ zones_law c past e k =
     ≡ (λ z. if wants z e then latest (frees z) past else 0) = λ i. λ z. if wants z e then k.zones z i else 0 in
     ap (λ (f : Zone → ℕ). greatest f all_zone) path ∙ latest_any (λ z. wants z e) frees past all_zone
 
+-- what an entry waits for is of its machine, names its plate or frees a zone it wants; the clock keeps these apart
 pub begins_law : (c : Clock) (past : List Ended) (e : Entry) (i plate zones both all : ℕ) → Keeps c past
     → i ≡ machine_number (machine_of e) → plate ≡ plate_time c.plates.items (plate_of e)
     → zones ≡ greatest (zone_time c.zones e) all_zone → both ≡ max plate zones
@@ -95,6 +101,7 @@ motion_early c past e a begun i lasts end n k eb ei small ee most =
     let s' : slice_index c.axes i ≤ n = rw start s in
     omega (arith, b', s', small, ee)
 
+-- an entry that ends no motion ends as it begins, so it is no later than those before it
 pub begun_early : (past : List Ended) (e : Entry) (begun n : ℕ) → begun ≡ begins past e → ((p : Entry → Bool)
     → latest p past ≤ n) → begun ≤ n + 65535
 begun_early past e begun n eb most =

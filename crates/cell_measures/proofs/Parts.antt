@@ -30,10 +30,12 @@ part_first ds J c done k e = record {
   left = ap (λ (l : List ℕ). l ++ times_after ds [] J) e;
 }
 
+-- with each entry the latest end grows by the longest motion at most
 later_early : (b : Bool) (t l n : ℕ) → t ≤ n + 65535 → l ≤ n → (if b then max t l else l) ≤ n + 65535
 later_early true t l n h g = omega (arith, h, g)
 later_early false t l n h g = omega (arith, h, g)
 
+-- the bound on the ends goes along with them, as it shows that the next end still has room in its type
 pub part_more : (ds : Durations) (J : List Entry) (c next : Clock) (done more : List ℕ) (i : ℕ) (e : Entry) (t : ℕ)
     → IsPart ds J c done i → slice_get J i ≡ Some e → ((past : List Ended) → Keeps c past → t ≡ ends ds past e)
     → ((past : List Ended) (n : ℕ) → Keeps c past → ((p : Entry → Bool) → latest p past ≤ n) → t ≤ n + 65535)
@@ -68,6 +70,7 @@ part_last ds J c done i part h =
     ∙ ap (λ (l : List Entry). done ++ times_after ds part.past l) (sym (drop_of_length-le J h))
     ∙ part.left
 
+-- journals are so short, and motions too, that no end comes near the greatest number
 pub part_small : (ds : Durations) (J : List Entry) (c : Clock) (done : List ℕ) (i : ℕ) → IsPart ds J c done i
     → i < 2 ^ 32 → (a : Axis) → slice_index c.axes (axis_number a) < 2 ^ 63
 part_small ds J c done i part h a =

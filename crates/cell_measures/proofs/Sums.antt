@@ -36,6 +36,7 @@ more_count p es i e n m l at was is =
     let one : count_by p (e ∷ []) ≡ one_of p e = omega arith in
     omega (arith, step, here, one, was, is)
 
+-- entries and their ends are gone through side by side, as there is an end for each entry
 pub counts_more : (t next : Tally) (J : List Entry) (ends : List ℕ) (i : ℕ) (e : Entry) (end : ℕ)
     → Counts t (take i J) (take i ends) → i < length J → i < length ends → slice_get J i ≡ Some e
     → end ≡ get_or ends i end
@@ -63,6 +64,7 @@ last_stays n [] behind x y = let same : max (max n x) y ≡ max (max n y) x =
     omega arith in ap (λ (m : ℕ). fold max m behind) same
 last_stays n (t ∷ before) behind x y = last_stays (max n t) before behind x y
 
+-- so when a journal ends doesn't depend on the order of such neighbours
 pub exchanged_last : (place : ℕ) (xs ys : List ℕ) → IsExchange place xs ys → last_of xs ≡ last_of ys
 exchanged_last place xs ys e = ap (λ (l : List ℕ). last_of l) e.first ∙ last_stays 0 e.before e.behind e.one e.other
     ∙ sym (ap (λ (l : List ℕ). last_of l) e.second)

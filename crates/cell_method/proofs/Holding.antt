@@ -12,6 +12,7 @@ within-more : (line : List ℕ) (b : ℕ) → list_all is_within line ≡ true �
     → list_all is_within (line ++ b ∷ []) ≡ true
 within-more line b h w = list_all-append is_within line (b ∷ []) ∙ rw (h, w) refl
 
+-- there is room left, so all bytes so far are held, and this one too
 pub kept-more : (items after : List ℕ) (long : Bool) (line : List ℕ) (b : ℕ) → HoldsLine items long line
     → is_within b ≡ true → length items < 84 → after ≡ items ++ b ∷ [] → HoldsLine after long (line ++ b ∷ [])
 kept-more items after long line b h w short grown =
@@ -25,6 +26,7 @@ kept-more items after long line b h w short grown =
       within = within-more line b h.within w;
     }
 
+-- no room is left, so the line is long, and its first bytes stay those that are held
 pub kept-full : (items : List ℕ) (long : Bool) (line : List ℕ) (b : ℕ) → HoldsLine items long line → is_within b ≡ true
     → length items ≡ 84 → HoldsLine items true (line ++ b ∷ [])
 kept-full items long line b h w full =
@@ -62,6 +64,7 @@ fields-sizes field (b ∷ rest) =
       | false ↦ omega (arith, fields-sizes (field ++ b ∷ []) rest, length-append field (b ∷ []))
     ]
 
+-- there are four fields of at most twenty bytes each, and one byte for the end of each
 fits-sizes : (fields : List (List ℕ)) → fits fields ≡ true → sizes fields + length fields ≤ 84
 unfolding sizes
 fits-sizes [] h = omega arith

@@ -19,6 +19,7 @@ KeepsLines None new = ⊤
 KeepsLines (Some xs) None = ⊥
 KeepsLines (Some xs) (Some ys) = ys ≡ xs
 
+-- a byte within a line is no line feed
 within-first : (b : ℕ) (line : List ℕ) → list_all is_within (b ∷ line) ≡ true
     → ((b == 10) ≡ false) × (list_all is_within line ≡ true)
 within-first b line = elim (b == 10) as (λ v. ((if v then false else true) && list_all is_within line) ≡ true
@@ -72,6 +73,7 @@ first-line old new line true w (taken, done) =
 first-line old new line false w taken = ap lines_of (taken ∙ append_assoc line (10 ∷ []) new)
     ∙ lines-ended [] line new w
 
+-- the line isn't blank, so it is the first of those that are left
 pub line-found : (old new : Option (List ℕ)) (line : List ℕ) (ended : Bool) (record_now : Option Row)
     → list_all is_within line ≡ true → EndsLine old new line ended
     → is_blank line ≡ false → record_now ≡ record_of (without_return line)
@@ -83,6 +85,7 @@ line-found (Some old) (Some new) line ended r w ends full is =
     first-line old new line ended w ends ∙ ap (λ xs. xs ++ lines_of new) (given-record line full)
     ∙ ap (λ x. x ∷ lines_of new) (sym is)
 
+-- a blank line gives none, so those that are left are the same
 pub line-passed : (all old new : Option (List ℕ)) (line : List ℕ) → list_all is_within line ≡ true
     → EndsLine old new line false → is_blank line ≡ true
     → KeepsLines (option_map lines_of all) (option_map lines_of old)
@@ -93,6 +96,7 @@ line-passed (Some all) (Some old) None line w ends blank kept = absurd ends
 line-passed (Some all) (Some old) (Some new) line w ends blank kept =
     sym (first-line old new line false w ends ∙ ap (λ xs. xs ++ lines_of new) (given-nothing line blank)) ∙ kept
 
+-- the text ended with a blank line, which gives none
 pub none-left : (all old new : Option (List ℕ)) (line : List ℕ) (record_now : Option Row)
     → list_all is_within line ≡ true → EndsLine old new line true → is_blank line ≡ true
     → KeepsLines (option_map lines_of all) (option_map lines_of old)
@@ -107,6 +111,7 @@ none-left (Some all) (Some old) (Some new) line r w ends blank kept =
       left,
     )
 
+-- only blank lines were passed, so the line is the first of the earlier ones too
 pub taken-after : (all old new : Option (List (Option Row))) (record_now : Option Row) → KeepsLines all old
     → TakesLine old new record_now true → TakesLine all new record_now true
 taken-after None old new r kept takes = tt
@@ -168,6 +173,7 @@ endless-after : (a b c : Option (List ℕ)) (count : ℕ) → ReadsSome a b coun
 endless-after a b c count r (text, taken, many) =
     (r.text ++ text, Consumes-trans a b c _ _ r.taken taken, omega (arith, many, length-append r.text text))
 
+-- a text longer than any count can tell is taken to be endless
 pub endless-read : (a b : Option (List ℕ)) (count : ℕ) → 2 ^ 64 - 1 ≤ count → ReadsSome a b count → IsEndless a b
 endless-read a b count much r = (r.text, r.taken, omega (arith, much, r.many))
 

@@ -27,6 +27,7 @@ none : (any : Bool) (byte i : ℕ) → shown_after any byte i [] ≡ []
 unfolding shown_after
 none any byte i = refl
 
+-- the word moves from what is left to what is written, with the sign before it
 pub word-shown : {X : Type 0} (f : X → List ℕ) (ws : List X) (any : Bool) (byte i : ℕ) (d : X) (text sign all : List ℕ)
     → i < length ws → bit byte i ≡ true → sign ≡ sign_after any
     → text ++ shown_after any byte i (drop i (map f ws)) ≡ all
@@ -46,6 +47,7 @@ word-hidden f ws any byte i d text all within is so_far =
     ap (λ xs. text ++ xs) (sym (no any byte i (f (get_or ws i d)) (drop (i + 1) (map f ws)) is))
     ∙ ap (λ xs. text ++ shown_after any byte i xs) (sym (next-word f ws i d within)) ∙ so_far
 
+-- no word is left, so all is written
 pub words-done : {X : Type 0} (f : X → List ℕ) (ws : List X) (any : Bool) (byte i : ℕ) (text all : List ℕ)
     → length ws ≤ i → text ++ shown_after any byte i (drop i (map f ws)) ≡ all → text ≡ all
 words-done f ws any byte i text all past so_far =

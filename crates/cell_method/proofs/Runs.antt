@@ -70,6 +70,7 @@ rows-more [] ys = refl
 rows-more (x ∷ xs) ys = ap (λ rows. row_of x ++ rows) (rows-more xs ys)
     ∙ sym (append_assoc (row_of x) (rows_of xs) (rows_of ys))
 
+-- where the lines aren't known, nothing is claimed of them
 reads-more : (a b c : Option (List (Option Row))) (xs ys : List (Option Row)) → Reads a xs b → Reads b ys c
     → Reads a (xs ++ ys) c
 reads-more None b c xs ys h k = tt
@@ -157,6 +158,7 @@ operator-rest l false failed s = action-rest (next_of s.lines (history l s.journ
 
 -- ---- what one line does
 
+-- the stand has this journal, so the book refuses there too
 pub answers-refused : {P : Type 0} (tells : P → Bool) (log : P → Log) (l : BookLimits) (J K : List Entry)
     (ports : Six P) (m : Machine) (e : Entry) (why : Refusal) (failed : Bool)
     → first_of l J e ≡ Some why → K ≡ J → AnswersBy tells log (λ s. after_judging (first_of l s.journal e) m e failed s)
@@ -167,6 +169,7 @@ answers-refused tells log l J K ports m e why failed is same = λ s fits.
     × ((after_judging w m e failed s).text ≡ s.text ++ line_of (reply.Refused why))) (sym now)
     (record { journal = same ∙ fits.journal; logs = fits.logs }, refl)
 
+-- only one machine's port was used, and its log is known only where it tells
 pub answers-booked : {P : Type 0} (tells : P → Bool) (log : P → Log) (l : BookLimits) (J K : List Entry) (ports : Six P)
     (m : Machine) (e : Entry) (failed : Bool) (port port' : P) (n : ℕ)
     → first_of l J e ≡ None → K ≡ J ++ e ∷ [] → port ≡ at ports m → (tells port' ≡ true → tells port ≡ true)
@@ -196,6 +199,7 @@ pub answers-same : {P : Type 0} (tells : P → Bool) (log : P → Log) (f g : St
 answers-same tells log f g J K ports ports' r same h =
     λ s fits. subst (λ t. Fits tells log K ports' t × (t.text ≡ s.text ++ line_of r)) (same s) (h s fits)
 
+-- a line that can't be read is answered and does nothing else
 pub answers-unread : {P : Type 0} (tells : P → Bool) (log : P → Log) (J : List Entry) (ports : Six P)
     → AnswersBy tells log (λ s. saying s (line_of reply.Unreadable)) J ports J ports reply.Unreadable
 answers-unread tells log J ports = λ s fits. (record { journal = fits.journal; logs = fits.logs }, refl)
@@ -206,6 +210,7 @@ pub machines-entry : (l : BookLimits) (e : Entry) (m : Machine) (failed : Bool) 
     ≡ after_ask l (ask.Book e) failed s
 machines-entry l e m failed s is = ap (λ a. after_entry l a e failed s) (sym is)
 
+-- what is the operator's can't be booked by a line, and is answered as if it couldn't be read
 pub operators-entry : (l : BookLimits) (e : Entry) (failed : Bool) (s : Stand) → actor_of e ≡ actor.Operator
     → saying s (line_of reply.Unreadable) ≡ after_ask l (ask.Book e) failed s
 operators-entry l e failed s is = ap (λ a. after_entry l a e failed s) (sym is)
@@ -246,6 +251,7 @@ goes-then tells log l s a b c J K ports ports' script script' lost lost' n n' w 
   text = λ z h. next.text z (first.text z h);
 }
 
+-- that a line was read, done and answered is one event
 pub goes-line : {P : Type 0} (tells : P → Bool) (log : P → Log) (l : BookLimits) (s : Stand)
     (a b c : Option (List (Option Row))) (J K : List Entry) (ports ports' : Six P) (script : List Line) (lost : Bool)
     (n : ℕ) (w x y : Option (List ℕ)) (row : Option Row) (asks : Ask) (failed : Bool) (r : Reply)
@@ -283,6 +289,7 @@ goes-close tells log l s a b c J ports script lost n w x row asks goes takes is 
       text = goes.text;
     }
 
+-- that the lines are over is no event
 leads-end : (l : BookLimits) (s : Stand) (a b : Option (List (Option Row))) (row : Option Row) → TakesLine a b row false
     → Leads l s s a b
 unfolding after_events rows_of
@@ -326,6 +333,7 @@ goes-shown tells log l s a b J ports script lost n w x y m r port port' goes pic
       text = λ z h. Appends-trans z x y t.text (reading_line m r) (goes.text z h) written;
     }
 
+-- the line names the round by its number, which counts this one
 pub goes-opened : {P : Type 0} (tells : P → Bool) (log : P → Log) (l : BookLimits) (s : Stand)
     (a b : Option (List (Option Row))) (J : List Entry) (ports : Six P) (script : List Line) (lost : Bool) (n k : ℕ)
     (w x y : Option (List ℕ))
@@ -343,6 +351,7 @@ goes-opened tells log l s a b J ports script lost n k w x y goes next written =
           (subst (λ i. Appends x y (round_line i)) number written);
     }
 
+-- the operator's turn may change the journal and his desk, but asks no machine
 pub goes-operated : {P : Type 0} (tells : P → Bool) (log : P → Log) (l l' : BookLimits) (s : Stand)
     (a b : Option (List (Option Row))) (J K : List Entry) (ports : Six P) (script script' : List Line)
     (lost lost' : Bool) (n : ℕ) (w x y : Option (List ℕ)) (failed : Bool)
@@ -363,6 +372,7 @@ goes-operated tells log l l' s a b J K ports script script' lost lost' n w x y f
       text = λ z h. did.text z (goes.text z h);
     }
 
+-- of a run that broke off the text isn't told, so that part is left out
 pub broke-here : {P : Type 0} (tells : P → Bool) (log : P → Log) (l : BookLimits) (s : Stand)
     (a b : Option (List (Option Row))) (J : List Entry) (ports : Six P) (script : List Line) (lost : Bool) (n : ℕ)
     (w x : Option (List ℕ))
@@ -404,6 +414,7 @@ broke-line tells log l s a b c J K ports ports' script lost n w x row asks faile
       fits = (answers t goes.fits).0;
     }
 
+-- nothing was told at the start, so the run's text is all that was written
 pub driven : {P : Type 0} (tells : P → Bool) (log : P → Log) (l : BookLimits) (s : Stand)
     (a b : Option (List (Option Row))) (J : List Entry) (ports : Six P) (script : List Line) (lost : Bool) (n : ℕ)
     (w x : Option (List ℕ))

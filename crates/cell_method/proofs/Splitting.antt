@@ -16,6 +16,7 @@ pub fields-comma : (field : List ℕ) (b : ℕ) (rest : List ℕ) → b ≡ 44
 unfolding fields_after
 fields-comma field b rest is = let e : (b == 44) ≡ true = eq-eqb b 44 is in rw e refl
 
+-- the byte goes over from the rest to the first field, and the fields stay the same
 pub fields-at : (text : List ℕ) (i : ℕ) → i < length text → get_or text i 0 ≢ 44
     → fields_after (take i text) (drop i text) ≡ fields_after (take (i + 1) text) (drop (i + 1) text)
 fields-at text i within other =

@@ -9,6 +9,7 @@ abbrev pub comma_at : ℕ → List ℕ
 comma_at zero = []
 comma_at (suc i) = 44 ∷ []
 
+-- a cell brings along the comma before it, and only the first has none
 joined : {X : Type 0} (text : X → List ℕ) (xs : List X) (i : ℕ) (d : X) → i < length xs
     → with_commas (map text (take (suc i) xs)) ≡ with_commas (map text (take i xs))
     ++ (comma_at i ++ text (get_or xs i d))

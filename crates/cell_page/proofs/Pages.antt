@@ -14,6 +14,7 @@ use Rattle.cell_page.specs.Refused.{refused_line}
 use Rattle.cell_page.specs.Page.{AppendsSome, ShowsChart, WritesPage, answer_line, chart_section, chart_start}
 use Rattle.cell_page.specs.Page.{last_text, no_scripts_text, row_of, rows_text, rows_upto}
 
+-- the first entries of a journal keep their places
 get-taken : (J : List Entry) (i : ℕ) → slice_get (take (suc i) J) i ≡ slice_get J i
 get-taken [] i = refl
 get-taken (e ∷ J) zero = refl
@@ -67,6 +68,7 @@ some_more a b c text before wrote = record {
 pub some_after : (a b c : Option (List ℕ)) → AppendsSome a b → AppendsSome b c → AppendsSome a c
 some_after a b c before after = some_more a b c after.text before after.whole
 
+-- where the last write fails nothing is said of the text
 pub some_on : {X E : Type 0} (r : Result X E) (a b c : Option (List ℕ)) → AppendsSome a b → OnOk r (AppendsSome b c)
     → OnOk r (AppendsSome a c)
 some_on (Ok x) a b c before after = some_after a b c before after

@@ -8,6 +8,7 @@ abbrev pub InOrder : {A : Type 0} → (A → ℕ) → ℕ → List A → Type 0
 InOrder number i [] = Unit {0}
 InOrder number i (a ∷ rest) = (number a ≡ i) × (InOrder number (suc i) rest)
 
+-- the words' numbers are their places, so the list and the words can be gone through side by side
 listed_from : {A X : Type 0} (number : A → ℕ) (value : A → X) (xs : List X) (d : X) (i : ℕ) (words : List A)
     → InOrder number i words
     → ((a : A) → get_or xs (number a) d ≡ value a) → length xs ≡ i + length words → drop i xs ≡ map value words

@@ -26,6 +26,7 @@ use Rattle.cell_picture.specs.Shown.{is_forged, shown_at, facts_of}
 use Rattle.cell_picture.specs.Parts.{lamp_shown, plate_shown}
 use Rattle.cell_picture.specs.Seen.{ShowsViews, MarksForged}
 
+-- the plates are listed in the order of the stations' numbers, by which they are looked up
 shown_each : (s : Snapshot) (t : Station) → plate_shown (facts_of s) t ≡ shown_at (state_of s) t
 shown_each s station.FeedIn = refl
 shown_each s station.FeedEnd = refl
@@ -37,6 +38,7 @@ shown_each s station.Press2 = refl
 shown_each s station.DepIn = refl
 shown_each s station.DepEnd = refl
 
+-- a plate's mark has no say in which plate it is
 plate_alone : (o : Option ℕ) (b : Bool) → option_map (λ (p : ShownPlate). p.plate)
     (option_map (λ k. record { plate = k; forged = b }) o) ≡ o
 plate_alone None b = refl
@@ -47,10 +49,12 @@ plate_same : (s : Snapshot) (t : Station) → option_map (λ (p : ShownPlate). p
 plate_same s t = ap (option_map (λ (p : ShownPlate). p.plate)) (shown_each s t)
     ∙ plate_alone ((state_of s).plate t) (is_forged (state_of s).at t)
 
+-- the same of the belts' lights
 lamp_each : (s : Snapshot) (b : Belt) → lamp_shown (facts_of s) b ≡ (state_of s).lamp b
 lamp_each s belt.Feed = refl
 lamp_each s belt.Deposit = refl
 
+-- apart from plates, lights and the quarantine, a picture takes the snapshot's parts as they are
 pub shows_views : (s : Snapshot) (J : List Entry) → SeesViews s J → ShowsViews (facts_of s) J
 unfolding state_of
 shows_views s J v =
@@ -85,10 +89,12 @@ found_passes p (x ∷ xs) k h = go (p x) refl (found_passes p xs k) h
 place_same : (p : Place) (t : Station) → same_place p (place.At t) ≡ true → p ≡ place.At t
 place_same p t e = grind arith
 
+-- the plate of a station is searched for among those placed, so one that is found is there
 plate_there : (J : List Entry) (t : Station) (k : ℕ) → plate_of J t ≡ Some k → place_of J k ≡ place.At t
 unfolding plate_of
 plate_there J t k h = place_same (place_of J k) t (found_passes (is_at J t) (placed J) k h)
 
+-- a press that still has its plate to forge stands in the middle
 pressed : (b : Bool) → (not b ≡ true) ↔ (0 < (if b then 0 else 1))
 pressed true = grind arith
 pressed false = grind arith
@@ -106,6 +112,7 @@ marks J at station.Press2 same = rw (same axis.PressTwo) (pressed (same_pose (at
 marks J at station.DepIn same = grind arith
 marks J at station.DepEnd same = grind arith
 
+-- how often a plate was forged follows from its station and the presses, so a mark needs no history
 pub marks_forged : (s : Snapshot) (J : List Entry) → SeesViews s J → KeptState J → MarksForged (facts_of s) J
 marks_forged s J v kept t p h =
     let its = parts ((state_of s).plate t) (is_forged (state_of s).at t) p (sym (shown_each s t) ∙ h) in

@@ -52,6 +52,7 @@ same_parts f g a b c d e h i j k =
     ∙ ap (λ x. record g { expected = x; quarantine = f.quarantine; totals = f.totals }) i
     ∙ ap (λ x. record g { quarantine = x; totals = f.totals }) j ∙ ap (λ x. record g { totals = x }) k
 
+-- each part is one value, or a list with a place for each word, so nothing else is left in which they could differ
 pub facts_are_told : (f : Facts) (J : List Entry) → IsWhole f → ShowsViews f J → MarksForged f J → f ≡ facts_told J
 unfolding facts_told
 facts_are_told f J whole views marks =

@@ -44,6 +44,7 @@ last_of J None = slice_get_past (J ++ []) (length J) (omega (arith, length-appen
 last_of J (Some e) = slice_get-get_or (J ++ e ∷ []) (length J) e (omega (arith, length-append J (e ∷ [])))
     ∙ ap (λ (x : Entry). Some x) (get_or-append_seam J e [] e)
 
+-- one entry at most was booked, so what stands where the journal ended is that entry or nothing
 pub seen_last : (J J' : List Entry) (b seen : Option Entry) (n : ℕ) → n ≡ length J → J' ≡ J ++ option_to_list b
     → seen ≡ slice_get J' n → seen ≡ b
 seen_last J J' b seen n size grew is = is ∙ ap (λ (K : List Entry). slice_get K n) grew
@@ -63,6 +64,7 @@ pub record OneTurn (l : BookLimits) (p : Plan) (m : Machine) (s t : Now) (seen :
   pub turn : TakesTurn l p m s t
   pub grew : t.journal ≡ s.journal ++ option_to_list seen
 
+-- a single turn books one entry at most, so all that it booked is what is seen
 one_turn : (l l' : BookLimits) (p : Plan) (m : Machine) (x : Step) (before : ℕ) (J J' : List Entry) (ws' : Six Watch)
     (seen : Option Entry) (minds : Six Mind)
     → l' ≡ l → turn_of x ≡ Some m → before ≡ length J → seen ≡ slice_get J' before
@@ -107,6 +109,7 @@ work_books l l' p m x s lines lines' lost lost' n before J J' ws ws' seen same k
     (size ∙ ap (λ (K : List Entry). length K) (sym quiet)) sees (next minds fits) in
     (after, fits', (works_some l p m s (now J minds) (now J' after) n seen some waited few one, kept, still))
 
+-- the same of the journal alone, to which the turns that waited added nothing
 pub work_grown : (l l' : BookLimits) (p : Plan) (m : Machine) (x : Step) (s : Now) (n before : ℕ) (J J' : List Entry)
     (ws ws' : Six Watch) (seen : Option Entry)
     → l' ≡ l → turn_of x ≡ Some m → before ≡ length s.journal → seen ≡ slice_get J' before
@@ -134,6 +137,7 @@ work_waits l l' p m x s n before J J' ws ws' seen same is size sees none (minds,
           (one.grew ∙ ap (λ (o : Option Entry). J ++ option_to_list o) (saw_none seen none) ∙ append-nil J),
     )
 
+-- a machine gets as many turns as the plan has, and then counts as one that books nothing
 pub work_rests : (l : BookLimits) (p : Plan) (m : Machine) (s : Now) (lines lines' : List Line) (lost lost' : Bool)
     (n : ℕ) (J : List Entry) (ws : Six Watch)
     → lines' ≡ lines → lost' ≡ lost → n ≡ p.turns → ReachesNow (Waits l p m s n) J ws
@@ -141,6 +145,7 @@ pub work_rests : (l : BookLimits) (p : Plan) (m : Machine) (s : Now) (lines line
 work_rests l p m s lines lines' lost lost' n J ws kept still all (minds, fits, waited) =
     (minds, fits, (idles (subst (λ (k : ℕ). Waits l p m s k (now J minds)) all waited), kept, still))
 
+-- a turn is tried only while the plan has turns left, and those before it booked nothing
 pub work_halts : (l l' : BookLimits) (p : Plan) (m : Machine) (x : Step) (s : Now) (lines : List Line) (lost : Bool)
     (n : ℕ) (J J' : List Entry) (ws : Six Watch) (e : End)
     → l' ≡ l → turn_of x ≡ Some m → n < p.turns → ReachesNow (Waits l p m s n) J ws
@@ -155,6 +160,7 @@ work_halts l l' p m x s lines lost n J J' ws e same is few (minds, fits, waited)
       (subst (λ (k : BookLimits). Stops k p (turn_of x ∷ []) (now J minds) J' e) same (next minds fits)),
 )
 
+-- all turns so far waited, and none of those books an entry
 pub work_quiet : (l : BookLimits) (p : Plan) (m : Machine) (s : Now) (n : ℕ) (J : List Entry) (ws : Six Watch)
     → ReachesNow (Waits l p m s n) J ws → J ≡ s.journal
 work_quiet l p m s n J ws (minds, fits, waited) = waits_still l p m s (now J minds) n waited
@@ -185,6 +191,7 @@ operates_one l p _ _ (waits {s = s} n) = (None, sym (append-nil s.journal))
 operates_one l p _ _ (books a n b grew) = (Some (entry_of a), grew)
 operates_one l p _ _ (fails {s = s} a n b same) = (None, same ∙ sym (append-nil s.journal))
 
+-- he books one entry at most, so what stands where the journal ended is his
 pub operate_books : (l : BookLimits) (p : Plan) (s : Place) (before : ℕ) (J' : List Entry) (ws' : Six Watch)
     (lines' : List Line) (lost' : Bool) (seen : Option Entry)
     → before ≡ length s.now.journal → seen ≡ slice_get J' before → Reaches (Operates l p s) J' ws' lines' lost'
@@ -222,6 +229,7 @@ follows_more l l' p from journal i e J J' ws ws' lines lines' lost lost' same is
           (place (now J' after) lines' lost')) same acts)),
     )
 
+-- the entry at a place parts a journal into those before it, which were followed, and those behind
 abbrev up_to : (l : BookLimits) (p : Plan) (from t : Place) (journal : List Entry) (i : ℕ) (e : Entry)
     → slice_get journal i ≡ Some e → Follows l p from (take i journal) t → LeadsUpTo l p from journal e t
 up_to l p from t journal i e is led = record {
@@ -234,6 +242,7 @@ up_to l p from t journal i e is led = record {
   follows = led;
 }
 
+-- entries are told by numbers from 1, so the wanted one has the number of those followed and one more
 number_of : (journal : List Entry) (i : ℕ) (e : Entry) → slice_get journal i ≡ Some e
     → i + 1 ≡ length (take i journal) + 1
 number_of journal i e is = omega (
@@ -243,6 +252,7 @@ number_of journal i e is = omega (
       (omega (arith, slice_get_within journal i e is)),
 )
 
+-- a journal that is followed whole has no entry at which the following ends
 ends_at : (l : BookLimits) (p : Plan) (from t : Place) (journal : List Entry) (i : ℕ) (e : Entry) (J : List Entry)
     (how : Followed)
     → slice_get journal i ≡ Some e → Follows l p from (take i journal) t → EndsAt l p t (i + 1) e J how
@@ -257,6 +267,7 @@ ends_at l p from t journal i e J (Parted j wanted booked) is led (number, same, 
 )
 ends_at l p from t journal i e J Memory is led (halts, same) = (e, t, up_to l p from t journal i e is led, halts, same)
 
+-- the book keeps its limits while it is filled, so the end is one within those of the start
 pub follows_ends : (l l' : BookLimits) (p : Plan) (from : Place) (journal : List Entry) (i : ℕ) (e : Entry)
     (J J' : List Entry) (ws : Six Watch) (lines : List Line) (lost : Bool) (how : Followed)
     → l' ≡ l → slice_get journal i ≡ Some e → Reaches (Follows l p from (take i journal)) J ws lines lost
@@ -294,6 +305,7 @@ some_other e wanted other = λ q. other (cc)
 no_some : (wanted : Entry) → None ≢ Some wanted
 no_some wanted = λ q. cc
 
+-- how the following ended tells by itself what of the journal the book has
 pub ends_match : (l : BookLimits) (p : Plan) (script : List Line) (journal J : List Entry) (how : Followed)
     → Ends l p (start script) journal J how → Matches journal J how
 ends_match l p script journal J Whole (t, led, is) = is ∙ follows_grow l p (start script) t journal led
@@ -348,6 +360,7 @@ reached : (l : BookLimits) (p : Plan) (s t : Now) (J : List Entry) → J ≡ t.j
 reached l p s t J is (steps, failed, leads) =
     (steps, 0, failed, t.minds, subst (λ (K : List Entry). Leads l p s steps 0 failed (now K t.minds)) (sym is) leads)
 
+-- what was begun for an entry that wasn't booked left the journal alone, so the schedule can leave it out
 ends_lead : (l : BookLimits) (p : Plan) (s : Place) (journal J : List Entry) (how : Followed) → Ends l p s journal J how
     → Reached l p s.now J
 ends_lead l p s journal J Whole (t, led, is) = reached l p s.now t.now J is (follows_lead l p s t journal led)
@@ -359,5 +372,6 @@ ends_lead l p s journal J (Parted i wanted None) (t, to, number, (same, why)) =
 ends_lead l p s journal J Memory (wanted, t, to, halts, same) =
     reached l p s.now t.now J same (follows_lead l p s t to.same to.follows)
 
+-- so what is shown of all schedules holds where a journal is followed
 pub followed_lead : FollowedAreSchedules
 followed_lead l p script journal J how is = ends_lead l p (start script) journal J how is.ends

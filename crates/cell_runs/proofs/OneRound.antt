@@ -40,15 +40,18 @@ use Rattle.cell_runs.specs.Rounds.Rounds.{none as no_round, more as one_more}
 
 -- a step by hand
 
+-- a schedule grows at its end, so one of a single step is that step behind no others
 one_of : {A : Type 0} (xs : List A) (x y : A) → xs ++ x ∷ [] ≡ y ∷ [] → (xs ≡ []) × (x ≡ y)
 one_of [] x y h = (refl, cc)
 one_of (a ∷ []) x y h = cc
 one_of (a ∷ b ∷ xs) x y h = cc
 
+-- what ends with an element isn't empty, so no kind of step has made an empty schedule
 no_snoc : {A : Type 0} (xs : List A) (x : A) → xs ++ x ∷ [] ≡ [] → ⊥
 no_snoc [] x h = cc
 no_snoc (a ∷ xs) x h = cc
 
+-- every kind of step adds one to the schedule, so an empty one has been through none
 leads_nowhere : (l : BookLimits) (p : Plan) (s t : Now) (zs : List Step) (r f : ℕ) → Leads l p s zs r f t → zs ≡ []
     → s ≡ t
 leads_nowhere l p s _ _ _ _ stays h = refl
@@ -58,6 +61,7 @@ leads_nowhere l p s _ _ r f (one_hand {steps = ys} e b d) h = absurd (no_snoc ys
 leads_nowhere l p s t _ r f (one_spared {steps = ys} e b d) h = absurd (no_snoc ys (Hand e) h)
 leads_nowhere l p s t _ r _ (one_failed {steps = ys} e b d c) h = absurd (no_snoc ys (Hand e) h)
 
+-- the same of refused turns, whose count grows only with a step
 none_refused : (l : BookLimits) (p : Plan) (s t : Now) (zs : List Step) (r f : ℕ) → Leads l p s zs r f t → zs ≡ []
     → r ≡ 0
 none_refused l p s _ _ _ _ stays h = refl
@@ -71,6 +75,7 @@ none_refused l p s t _ r _ (one_failed {steps = ys} e b d c) h = absurd (no_snoc
 not_refused : (r : ℕ) → r ≡ 0 → 0 < r → ⊥
 not_refused r none some = omega (arith, none, some)
 
+-- a single step that isn't a refused turn would have left their count at none
 refused_still : (l : BookLimits) (p : Plan) (s t : Now) (zs : List Step) (r f : ℕ) (x : Step) → Leads l p s zs r f t
     → zs ≡ x ∷ [] → 0 < r → s ≡ t
 refused_still l p s _ _ _ _ x stays h some = refl
@@ -85,6 +90,7 @@ refused_still l p s t _ r f x (one_spared {steps = ys} e b d) h some =
 refused_still l p s t _ r _ x (one_failed {steps = ys} {failed = f} e b d c) h some =
     absurd (not_refused r (none_refused l p s t ys r f b (one_of ys (Hand e) x h).0) some)
 
+-- one who follows a journal relies on it: a refused turn has booked nothing in place of the wanted entry
 pub unchanged_if_refused : (p : Plan) (x : Step) (refused : ℕ) (a b : History) (ws ws' : Six Watch) (told : Bool)
     (acts acts' : ActLog) (minds : Six Mind)
     → 0 < refused → Scheduled p (x ∷ []) refused a b ws ws' told acts acts' → FitAll ws minds → b.entries ≡ a.entries
@@ -99,6 +105,7 @@ before_first x y [] left h = refl
 before_first x y (z ∷ []) left h = cc
 before_first x y (z ∷ w ∷ done) left h = cc
 
+-- of a single step nothing was taken yet when memory was refused
 pub unchanged_if_stopped : (p : Plan) (x y : Step) (done left : List Step) (refused : ℕ) (a b : History)
     (ws ws' : Six Watch) (told : Bool) (acts acts' : ActLog) (minds : Six Mind)
     → x ∷ [] ≡ done ++ y ∷ left → Scheduled p done refused a b ws ws' told acts acts' → FitAll ws minds
@@ -112,6 +119,7 @@ unchanged_if_stopped p x y done left refused a b ws ws' told acts acts' minds is
 abbrev HandsOver : Now → Now → Entry → Type 0
 HandsOver s t e = ((t.journal ≡ s.journal ++ e ∷ []) × (actor_of e ≡ actor.Operator)) ⊎ (t.journal ≡ s.journal)
 
+-- an entry that is spared, or whose act fails, leaves the journal as it was, so there is no third case
 by_hand : (l : BookLimits) (p : Plan) (s t : Now) (zs : List Step) (r f : ℕ) (e : Entry) → Leads l p s zs r f t
     → zs ≡ Hand e ∷ [] → HandsOver s t e
 by_hand l p s _ _ _ _ e stays h = cc
@@ -166,6 +174,7 @@ one_booked l p s t _ r _ x (one_failed {steps = ys} {failed = f} e b d c) h = (
       ∙ sym (append-nil s.journal),
 )
 
+-- so an entry of his that was booked can't be missing from his list
 own_entry : (e : Entry) → actor_of e ≡ actor.Operator → entries_of actor.Operator (e ∷ []) ≡ e ∷ []
 own_entry e h = ap (λ (a : Actor). if same_actor actor.Operator a then e ∷ [] else []) h
 
@@ -213,6 +222,7 @@ breaks_of p steps done left refused a b ws ws' told acts acts' minds is s fits =
       leads = led.leads;
     }
 
+-- the same where all of them were taken
 pub breaks_at_end : (p : Plan) (steps : List Step) (refused : ℕ) (a b : History) (ws ws' : Six Watch) (told : Bool)
     (acts acts' : ActLog) (minds : Six Mind)
     → Scheduled p steps refused a b ws ws' told acts acts' → FitAll ws minds
@@ -247,6 +257,7 @@ breaks_after l p s t xs f r part post whole J is a b = record {
       (leads_join l p s t (now J b.minds) xs b.steps 0 r f b.failed a b.leads);
 }
 
+-- a run is stopped among steps only by a refused turn or by refused memory, so no other end has to be shown
 pub stops_after : (l : BookLimits) (p : Plan) (s t : Now) (xs : List Step) (f : ℕ)
     (part post whole : List (Option Machine)) (J : List Entry) (e : End)
     → map turn_of xs ++ (part ++ post) ≡ whole → Leads l p s xs 0 f t → Stops l p part t J e → Stops l p whole s J e
@@ -258,6 +269,7 @@ stops_after l p s t xs f part post whole J end.Finished is a b = b
 stops_after l p s t xs f part post whole J end.Stalled is a b = b
 stops_after l p s t xs f part post whole J end.TurnLimit is a b = b
 
+-- a run that is stopped among a round's steps hasn't come to rest, so it neither finishes nor stalls
 pub ends_in : (l : BookLimits) (p : Plan) (s : Place) (J : List Entry) (e : End) → Stops l p round_steps s.now J e
     → EndsIn l p s J e
 ends_in l p s J end.Full h = h
@@ -266,6 +278,7 @@ ends_in l p s J end.TurnLimit h = h
 ends_in l p s J end.Finished h = absurd h
 ends_in l p s J end.Stalled h = absurd h
 
+-- the limit on turns is met between rounds, so a round never ends a run that way
 pub ends : (l : BookLimits) (p : Plan) (n : ℕ) (s : Place) (J : List Entry) (e : End) → EndsIn l p s J e
     → Ends l p n s J e
 ends l p n s J end.Full h = h
@@ -333,6 +346,7 @@ vacant [] empty is h = refl
 vacant (x ∷ xs) true is h = absurd (omega (arith, eqb-true (length (x ∷ xs)) 0 (sym is)))
 vacant (x ∷ xs) false is h = cc
 
+-- the program only tests whether the operator's list is empty, and has to know from that what was booked
 pub step_booked : (p : Plan) (a b : History) (h h' : Held) (machines : Six (List Entry)) (his : List Entry) (x : Step)
     (refused : ℕ) (ws ws' : Six Watch) (told : Bool) (acts acts' : ActLog) (empty : Bool) (minds : Six Mind) (e : Entry)
     → Grown a b h h' machines his → Scheduled p (x ∷ []) refused a b ws ws' told acts acts' → FitAll ws minds
@@ -369,6 +383,7 @@ act_books l p J J' minds ws' lines lines' lines'' lost lost' a e booked free nex
           (grew ∙ ap (λ (b : Bool). J ++ (if b then e ∷ [] else [])) did ∙ ap (λ (x : Entry). J ++ x ∷ []) is)),
     )
 
+-- his line isn't done then, and the run gives up on his hands
 pub act_fails : (l : BookLimits) (p : Plan) (J J' : List Entry) (minds : Six Mind) (ws' : Six Watch)
     (lines lines' : List Line) (lost : Bool) (a : Action) (e : Entry) (booked : Bool)
     → lost ≡ false → next_of lines (history l J) ≡ Some a → e ≡ entry_of a → booked ≡ false → lines' ≡ lines
@@ -413,6 +428,7 @@ whole_round l l' p s J J' ws ws' lines lines1 lines' lost lost1 lost' is same st
       },
     )
 
+-- all machines have had their turns, so what is stopped is the last step of the round
 pub stopped_act : (l l' : BookLimits) (p : Plan) (s : Now) (J J' : List Entry) (ws : Six Watch) (e : End)
     → l' ≡ l → TakesTurns l p machines s J ws
     → ((minds : Six Mind) → FitAll ws minds → Stops l' p (None ∷ []) (now J minds) J' e)
@@ -422,6 +438,7 @@ stopped_act l l' p s J J' ws e is (steps, each, (f, led)) next =
     (ap (λ (q : List (Option Machine)). q ++ (None ∷ [])) each) led.leads
     (subst (λ (k : BookLimits). Stops k p (None ∷ []) (now J led.minds) J' e) is (next led.minds led.fits))
 
+-- the steps that a round still had before it include the operator's
 pub stopped_turns : (l : BookLimits) (p : Plan) (s : Now) (J : List Entry) (e : End)
     → Stops l p (turns_of machines) s J e → Stops l p round_steps s J e
 stopped_turns l p s J end.Full (r, pos, b) = (
@@ -484,6 +501,7 @@ operates_grow l p _ _ (waits {s = s} n) = ([], sym (append-nil s.journal))
 operates_grow l p _ _ (books a n b grew) = (entry_of a ∷ [], grew)
 operates_grow l p _ _ (fails {s = s} a n b same) = ([], same ∙ sym (append-nil s.journal))
 
+-- a journal as long as before got nothing from the machines and nothing from the operator
 nothing_more : (a b : List Entry) → length (a ++ b) ≡ 0 → (a ≡ []) × (b ≡ [])
 nothing_more [] [] h = (refl, refl)
 nothing_more [] (y ∷ b) h = absurd (omega (arith, h))
@@ -576,6 +594,7 @@ more_rounds l l' p from n J J' ws ws' lines lines' lost lost' is (minds, fits, l
           (place (now J' after) lines' lost')) is r),
     )
 
+-- the round that ends the run isn't counted among the whole ones before it
 pub ended_in : (l l' : BookLimits) (p : Plan) (from : Place) (n : ℕ) (J J' : List Entry) (ws : Six Watch)
     (lines : List Line) (lost : Bool) (e : End)
     → l' ≡ l → Reaches (Rounds l p from n) J ws lines lost
@@ -589,6 +608,7 @@ ended_in l l' p from n J J' ws lines lost e is (minds, fits, led) next = record 
       (subst (λ (k : BookLimits). EndsIn k p (place (now J minds) lines lost) J' e) is (next minds fits));
 }
 
+-- no round more is begun once there were as many as the plan has
 pub ended_by_turns : (l : BookLimits) (p : Plan) (from : Place) (n : ℕ) (J : List Entry) (ws : Six Watch)
     (lines : List Line) (lost : Bool)
     → n ≡ p.turns → Reaches (Rounds l p from n) J ws lines lost → Ended l p from J end.TurnLimit

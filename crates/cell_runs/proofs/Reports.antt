@@ -12,6 +12,7 @@ use Rattle.operator_desk.specs.declared.line.Line.{Line}
 use Rattle.cell_runs.specs.Rounds.{IsRun}
 use Rattle.cell_runs.specs.Runs.{PartOfRounds, PrintsOrStops, WritesReport, WritesRounds, kept, limits_of, shown}
 
+-- printing doesn't look at the plan, so what the report has to do with it may be told afterwards
 pub report-printed : {E : Type 0} (r : Result ℕ E) (journal : Bool) (e : End) (J : List Entry) (t : Totals)
     (ws : List (List Entry × Totals)) (old new : Option (List ℕ))
     → IfOk r (PrintsOrStops journal e t J old new) → IfOk r (λ status. (plan : Plan) → IsReport (limits_of plan) J t ws
@@ -19,6 +20,7 @@ pub report-printed : {E : Type 0} (r : Result ℕ E) (journal : Bool) (e : End) 
 report-printed (Ok status) journal e J t ws old new printed = λ plan is. inl (e, J, t, ws, is, printed, refl)
 report-printed (Err error) journal e J t ws old new printed = printed
 
+-- the printer has the book's journal and the totals that the book counted, which are those of the run
 pub rounds-printed : {E : Type 0} (r : Result ℕ E) (journal : Bool) (e : End) (J K : List Entry) (t : Totals)
     (old new : Option (List ℕ))
     → K ≡ J → t ≡ count_of J → IfOk r (PrintsOrStops journal e t K old new)
@@ -35,6 +37,7 @@ rounds-printed (Ok status) journal e J K t old new same counts printed = λ plan
     )
 rounds-printed (Err error) journal e J K t old new same counts printed = printed
 
+-- the same where a write was refused on the way
 pub rounds-in-part : (journal : Bool) (e : End) (J K : List Entry) (t : Totals) (old new : Option (List ℕ))
     → K ≡ J → t ≡ count_of J → WritesPart old new (shown journal e t K) → (plan : Plan) (script : List Line)
     → IsRun (limits_of plan) plan script J e → PartOfRounds journal plan script old new

@@ -23,6 +23,7 @@ use Rattle.cell_runs.specs.Rounds.Rounds.{none as no_round, more as one_more}
 abbrev pub Led : BookLimits → Plan → Now → Now → Type 0
 Led l p s t = (steps : List Step) × (failed : ℕ) × Leads l p s steps 0 failed t
 
+-- he takes one step at most: none while he rests or waits, else the one by hand, booked or failed
 pub operates_lead : (l : BookLimits) (p : Plan) (s t : Place) → Operates l p s t → Led l p s.now t.now
 operates_lead l p _ _ rests = ([], 0, stays)
 operates_lead l p _ _ (waits h) = ([], 0, stays)
@@ -46,6 +47,7 @@ abbrev pub Reached : BookLimits → Plan → Now → List Entry → Type 0
 Reached l p s J = (steps : List Step) × (refused : ℕ) × (failed : ℕ) × (minds : Six Mind)
     × Leads l p s steps refused failed (now J minds)
 
+-- only the round that breaks off can have refused a turn, so the count of those is its own
 then_breaks : (l : BookLimits) (p : Plan) (s t : Now) (J : List Entry) (r : ℕ) → Led l p s t
     → Breaks l p round_steps t J r → Reached l p s J
 then_breaks l p s t J r (xs, f, a) b = (
@@ -57,6 +59,7 @@ then_breaks l p s t J r (xs, f, a) b = (
       (leads_join l p s t (now J b.minds) xs b.steps 0 r f b.failed a b.leads),
 )
 
+-- the last round counts too, though it booked nothing
 then_rests : (l : BookLimits) (p : Plan) (s : Now) (t : Place) (J : List Entry) → Led l p s t.now → ComesToRest l p t J
     → Reached l p s J
 then_rests l p s t J a b =
@@ -69,6 +72,7 @@ then_rests l p s t J a b =
           b.journal leads,
     )
 
+-- at the limit on turns no round was begun beside the whole ones
 then_ends : (l : BookLimits) (p : Plan) (s : Now) (n : ℕ) (t : Place) (J : List Entry) (e : End) → Led l p s t.now
     → Ends l p n t J e → Reached l p s J
 then_ends l p s n t J end.Finished a h = then_rests l p s t J a h.0
@@ -84,6 +88,7 @@ then_ends l p s n t J end.TurnLimit (steps, failed, leads) h = (
 then_ends l p s n t J end.Full a h = then_breaks l p s t.now J h.0 a h.2
 then_ends l p s n t J end.Memory a h = then_breaks l p s t.now J h.0 a h.1
 
+-- so what is shown of all schedules holds of runs in rounds
 pub run_leads : RunsAreSchedules
 run_leads l p script J e r =
     let is = r.ended in

@@ -18,6 +18,7 @@ use Rattle.cell_runs.specs.Told.{AreEntries, PartOfFollowed, PartOfRefused, Prin
 use Rattle.cell_runs.specs.Told.{end_of, followed_status, followed_text}
 use Rattle.cell_runs.specs.declared.follow.Followed.{Followed}
 
+-- printing looks at the outcome alone, so by which plan and script it came about may be told afterwards
 pub followed-printed : {E : Type 0} (r : Result ℕ E) (alone : Bool) (how : Followed) (J : List Entry) (text : List ℕ)
     (old new : Option (List ℕ))
     → text ≡ followed_text alone how J → IfOk r (PrintsOrLacks text (followed_status how) old new)
@@ -28,6 +29,7 @@ followed-printed (Ok status) alone how J text old new same printed = λ plan scr
     inl (how, J, is, subst (λ (t : List ℕ). PrintsOrLacks t (followed_status how) old new status) same printed, refl)
 followed-printed (Err e) alone how J text old new same printed = printed
 
+-- the same where a write was refused on the way
 pub followed-in-part : (alone : Bool) (how : Followed) (J : List Entry) (text : List ℕ) (old new : Option (List ℕ))
     → text ≡ followed_text alone how J → WritesPart old new text
     → (plan : Plan) (script : List Line) (journal : List Entry) → IsFollowed (limits_of plan) plan script journal J how
@@ -40,6 +42,7 @@ no_fault : (told : ℕ × Totals) → IsFault (Ok told) → ⊥
 no_fault told (inl h) = cc
 no_fault told (inr h) = cc
 
+-- an answer with counts is no fault of the reader or of memory, so it is the one that is due
 are_entries : (text : List ℕ) (told : ℕ × Totals) (J : List Entry) → IsFault (Ok told) ⊎ Due (rows_of text) (Ok told)
     → IsBefore (Ok told) J → SpellsFirst J (rows_of text) → AreEntries text J
 are_entries text told J (inl fault) before first = absurd (no_fault told fault)
@@ -57,6 +60,7 @@ entries-read text answer told J is due before first =
 abbrev IsRefusal : Result (ℕ × Totals) AuditError → Type 0
 IsRefusal answer = (e : AuditError) × (answer ≡ Err e)
 
+-- a second audit may fail on the reader or on memory instead, and then refuses the text too
 refusal : (answer : Result (ℕ × Totals) AuditError) (why : AuditError) → (answer ≡ Err why) ⊎ IsFault answer
     → IsRefusal answer
 refusal answer why (inl h) = (why, h)
@@ -69,6 +73,7 @@ due_of : (text : List ℕ) (answer : Result (ℕ × Totals) AuditError) (why : A
 due_of text answer why is told (inl h) = absurd (told (subst IsFault is h))
 due_of text answer why is told (inr h) = subst (λ (a : Result (ℕ × Totals) AuditError). Due (rows_of text) a) is h
 
+-- the text is audited again to print its line, and what was due the first time is due again
 pub refused-told : (text : List ℕ) (answer : Result (ℕ × Totals) AuditError) (why : AuditError)
     (old new : Option (List ℕ)) (status : ℕ)
     → answer ≡ Err why → (IsFault (Err why) → ⊥) → IsFault answer ⊎ Due (rows_of text) answer
@@ -80,6 +85,7 @@ refused-told text answer why old new status is told due (again, owed, writes) =
       subst (λ (a : Result (ℕ × Totals) AuditError). WritesAnswer old new a status) same writes,
     )
 
+-- the same where a write was refused on the way
 pub refused-in-part : (text : List ℕ) (answer : Result (ℕ × Totals) AuditError) (why : AuditError)
     (old new : Option (List ℕ))
     → answer ≡ Err why → (IsFault (Err why) → ⊥) → IsFault answer ⊎ Due (rows_of text) answer

@@ -6,6 +6,7 @@ use Rattle.cell_turns.specs.declared.plan.Plan.{Plan}
 use Rattle.cell_settings.specs.declared.error.SettingsError.{SettingsError}
 use Rattle.cell_settings.specs.declared.error.SettingsError.TheVariants as error
 
+-- an error ends the reading, whatever would be read next; want of memory says nothing of the text
 stops_at : {A B : Type 0} (e : SettingsError) (due : Result A SettingsError) (f : A → Result B SettingsError)
     → Gives {X = A} (Err e) due → Gives {X = B} (Err e) (due >>= f)
 stops_at error.NotToml due f h = rw h refl

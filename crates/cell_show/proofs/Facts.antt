@@ -17,6 +17,7 @@ use Rattle.cell_show.specs.declared.error.ShowError.{ShowError}
 use Rattle.cell_show.specs.declared.error.ShowError.TheVariants as shown
 use Rattle.cell_show.specs.declared.show.Form.{Form}
 
+-- any text may get an answer on memory, also one of which nothing is known
 pub wants-memory : (rows : Option (List Row))
     → IfSome rows (λ known. IsFault (Err error.OutOfMemory) ⊎ Due known (Err error.OutOfMemory))
 wants-memory None = tt

@@ -20,6 +20,7 @@ pub cut-ends-of : (r explained : Result ℕ WriteFault) (P : List ℕ → ℕ �
 cut-ends-of (Ok s) explained P x is ended four = (x, cut-ends (Ok s) explained (P x) is ended four)
 cut-ends-of (Err e) explained P x is ended four = tt
 
+-- explaining judges the text again, which ends as the first judging did, or for want of memory
 pub as-ends : (r : Result ℕ WriteFault) (due : ℕ) (P : ℕ → Type 0) → IfOk r (λ s. (s ≡ due) ⊎ (s ≡ 4)) → P due → P 4
     → IfOk r P
 as-ends (Ok s) due P (inl is) ended four = subst P (sym is) ended

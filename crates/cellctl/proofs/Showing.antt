@@ -32,6 +32,7 @@ many-entries : (rows : Option (List Row)) → IfSome rows (HasEntry (Some 429496
 many-entries None has = tt
 many-entries (Some known) (J, good, long) = (J, good, omega (arith, long))
 
+-- that there are too many entries is told without the number that was asked for, so any number will do
 pub too-many : (text : Option (List ℕ)) (n : ℕ) → IfSome (rows_in text) (HasEntry (Some 4294967295))
     → HasNone (Some n) text
 too-many text n has = (error.TooManyEntries, (λ e. cc e), tt, many-entries (rows_in text) has)

@@ -4,6 +4,7 @@ use Rattle.std.specs.Prelude.{IfErr, IfOk, IsErr, MatchResult}
 use Rattle.cell_audit.specs.declared.watched.WriteFault.{WriteFault}
 use Rattle.cell_runs.specs.declared.texts.Left.{Left}
 
+-- what is handed on beside a run's answer leaves that answer as it is
 pub as-answered : (ran : Result (ℕ × Left) WriteFault) (written : Result ℕ WriteFault) (P : ℕ → Type 0) (Q : Type 0)
     → IfOk ran (λ told. written ≡ Ok told.0) → IfErr ran (λ e. written ≡ Err e) → IfOk ran (λ told. P told.0)
     → (IsErr ran → Q) → MatchResult written P (λ _. Q)

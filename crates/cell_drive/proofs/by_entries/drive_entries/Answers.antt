@@ -1,3 +1,4 @@
+-- A run of a low status went well, so all that it had to write was written, part after part
 use Rattle.std.proofs.Common.{ap, arith}
 use Rattle.plate_book.specs.Rules.History.{History}
 use Rattle.cell_turns.specs.Logs.{no_log}

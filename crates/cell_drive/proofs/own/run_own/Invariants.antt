@@ -1,5 +1,7 @@
+-- The run by the program's own method
 use Rattle.cell_drive.proofs.own.run_own.Given as goal
 
+-- the run is the one of the book's limits and of the blanks that are handed to it
 abbrev pub ghosts-run_over : goal.ghosts-run_over
 ghosts-run_over g a = record {
   parts = a.blanks.entries.parts;

@@ -1,3 +1,4 @@
+-- Nothing of the input was read before the method's lines, so all of it is theirs
 use Rattle.std.proofs.Common.{◌∙◌, Ok, ap, option_map, subst}
 use Rattle.std.proofs.lemmas.Result.{IfOk-weaker}
 use Rattle.cell_method.specs.Lines.{lines_of}

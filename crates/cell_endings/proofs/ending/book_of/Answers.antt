@@ -1,3 +1,4 @@
+-- An entry that the book takes is one more that is booked, and none is refused
 use Rattle.std.proofs.Common.{◌∙◌, sym}
 use Rattle.cell_endings.proofs.Booked.{booked-more, of-success}
 use Rattle.cell_endings.proofs.ending.book_of.Goals as goal

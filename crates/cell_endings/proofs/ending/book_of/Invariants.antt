@@ -1,3 +1,4 @@
+-- The loop that books the journal's entries
 use Rattle.std.proofs.Common.{◌≡◌, take}
 use Rattle.cell_endings.specs.Endings.{limits_of}
 use Rattle.cell_endings.proofs.ending.book_of.Given as goal

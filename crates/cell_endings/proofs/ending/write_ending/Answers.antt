@@ -1,3 +1,4 @@
+-- The parts are told one after another, of a book that has the journal and the plan's limits
 use Rattle.cell_sim.specs.Script.{next_fault}
 use Rattle.operator_desk.specs.Lines.{line_of}
 use Rattle.cell_endings.specs.Endings.{script_lines}

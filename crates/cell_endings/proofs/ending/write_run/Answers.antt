@@ -1,3 +1,4 @@
+-- What is told of the run as a whole is three texts, one after another
 use Rattle.cell_endings.proofs.Telling.{told-then}
 use Rattle.cell_endings.proofs.ending.write_run.Goals as goal
 

@@ -1,3 +1,4 @@
+-- What a later entry declares takes the place of what an earlier one did
 use Rattle.std.proofs.Common.{◌∙◌, sym}
 use Rattle.cell_endings.specs.Failures.{declares}
 use Rattle.cell_endings.proofs.Passed.{last-more}

@@ -1,3 +1,4 @@
+-- What is told of a machine comes behind what is told of those before it
 use Rattle.cell_endings.specs.Failures.{failure_of}
 use Rattle.cell_endings.proofs.Telling.{told-more}
 use Rattle.cell_endings.proofs.failures.write_failures.Goals as goal

@@ -1,3 +1,4 @@
+-- The loop that counts each axis's motions
 use Rattle.std.proofs.Common.{◌≡◌, ◌≤◌, take, length, get_or}
 use Rattle.cell_types.specs.Same.{axis_number}
 use Rattle.cell_types.specs.declared.words.Axis.{Axis}

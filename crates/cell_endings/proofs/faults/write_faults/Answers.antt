@@ -1,3 +1,4 @@
+-- What is told of a fault comes behind what is told of those before it
 use Rattle.cell_sim.specs.declared.fault.PlannedFault.{PlannedFault}
 use Rattle.cell_endings.specs.Missed.{motions_of, told_fault}
 use Rattle.cell_endings.proofs.Telling.{told-more}

@@ -1,3 +1,4 @@
+-- The loop over the faults
 use Rattle.std.proofs.Common.{take}
 use Rattle.std.specs.Io.KnownBytes.{Appends}
 use Rattle.cell_endings.specs.Missed.{missed_of}

@@ -1,3 +1,4 @@
+-- The line has the axis's name and the word for how often
 use Rattle.cell_endings.proofs.faults.write_missed.Goals as goal
 
 pub returns : goal.returns

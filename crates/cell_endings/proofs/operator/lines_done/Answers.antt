@@ -1,3 +1,4 @@
+-- Each entry of the operator's did one line of his script
 use Rattle.std.proofs.Common.{◌∙◌, ap, arith, sym}
 use Rattle.cell_types.specs.Entries.{actor_of}
 use Rattle.cell_endings.specs.Waiting.{is_operator}

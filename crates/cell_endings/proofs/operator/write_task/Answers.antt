@@ -1,3 +1,4 @@
+-- Where no plate stands at the station, the line names the station alone
 use Rattle.std.proofs.Common.{sym}
 use Rattle.cell_endings.proofs.operator.write_task.Goals as goal
 

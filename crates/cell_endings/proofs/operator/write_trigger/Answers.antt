@@ -1,3 +1,4 @@
+-- Each trigger has its line, with the number that the book counted or the machine's name
 use Rattle.cell_endings.proofs.operator.write_trigger.Goals as goal
 
 pub returns-in-Admitted : goal.returns-in-Admitted

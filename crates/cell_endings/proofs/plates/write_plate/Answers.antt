@@ -1,3 +1,4 @@
+-- What is told of a plate is whether the entry that would be its next is allowed, or why it isn't
 use Rattle.std.proofs.Common.{◌≡◌, None, Some, sym}
 use Rattle.plate_book.specs.Rules.Legal.{first_of}
 use Rattle.cell_endings.specs.Plates.{next_entry}

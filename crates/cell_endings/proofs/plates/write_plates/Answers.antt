@@ -1,3 +1,4 @@
+-- What is told of a station comes behind what is told of those before it
 use Rattle.cell_endings.specs.Plates.{told_at}
 use Rattle.cell_endings.proofs.Telling.{told-more}
 use Rattle.cell_endings.proofs.plates.write_plates.Goals as goal

@@ -1,3 +1,4 @@
+-- What is written is what is said of the journal's text, with its status
 use Rattle.cell_explain.proofs.Ends.{journal-end, ended, legal-lines, tells}
 use Rattle.cell_explain.specs.Told.{SaysJournal}
 use Rattle.cell_explain.proofs.journal.explain_journal_watched.Goals as goal

@@ -1,3 +1,4 @@
+-- A text is told by the record that the audit's answer names, unless memory is refused for that
 use Rattle.std.proofs.Common.{◌≡◌, string_bytes}
 use Rattle.cell_audit.specs.declared.error.AuditError.TheVariants as error
 use Rattle.cell_explain.specs.Told.{SaysUnreadable}

@@ -1,3 +1,4 @@
+-- Where memory is refused for the lines, that is an answer that any text may get
 use Rattle.std.proofs.Common.{Err, refl, inl, inr}
 use Rattle.cell_audit.specs.declared.error.AuditError.TheVariants as error
 use Rattle.cell_explain.proofs.journal.say_legal.Goals as goal

@@ -1,3 +1,4 @@
+-- Record 0 is the profile's, and its line tells of that
 use Rattle.std.proofs.Common.{string_bytes}
 use Rattle.cell_explain.proofs.Parts.{first-line}
 use Rattle.cell_explain.proofs.journal.unreadable_line.Goals as goal

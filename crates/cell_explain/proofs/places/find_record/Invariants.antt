@@ -1,3 +1,4 @@
+-- The loop that goes through the bytes of a text
 use Rattle.std.proofs.Common.{◌≤◌, IfSome}
 use Rattle.cell_explain.proofs.places.find_record.Given as goal
 

@@ -1,3 +1,4 @@
+-- A record that is found is a part of its text
 use Rattle.cell_explain.proofs.Parts.{stands}
 use Rattle.cell_explain.proofs.places.record_of.Goals as goal
 

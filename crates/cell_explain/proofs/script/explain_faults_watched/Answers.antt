@@ -1,3 +1,4 @@
+-- What is written is what is said of the script of faults, with its status
 use Rattle.cell_explain.proofs.Ends.{faults-end, ended, tells}
 use Rattle.std.specs.Prelude.{codes}
 use Rattle.cell_sim.specs.Script.{next_fault}

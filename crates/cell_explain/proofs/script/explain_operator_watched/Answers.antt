@@ -1,3 +1,4 @@
+-- What is written is what is said of the operator's script, with its status
 use Rattle.cell_explain.proofs.Ends.{operator-end, ended, tells}
 use Rattle.std.specs.Prelude.{codes}
 use Rattle.operator_desk.specs.Lines.{line_of}

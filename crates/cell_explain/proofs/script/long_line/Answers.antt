@@ -1,3 +1,4 @@
+-- The line that is named is the one where the first record too many begins
 use Rattle.std.proofs.Common.{string_bytes}
 use Rattle.cell_explain.proofs.Parts.{some-line}
 use Rattle.cell_explain.proofs.script.long_line.Goals as goal

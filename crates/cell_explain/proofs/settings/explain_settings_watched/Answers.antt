@@ -1,3 +1,4 @@
+-- What is written is what is said of the settings, with its status
 use Rattle.cell_explain.proofs.Ends.{settings-end, ended, tells}
 use Rattle.cell_explain.specs.Settings.{SaysSettings}
 use Rattle.cell_explain.proofs.settings.explain_settings_watched.Goals as goal

@@ -1,3 +1,4 @@
+-- The loop over the lines of settings
 use denote.Text.{Utf8}
 use denote.Shadow.{shadow}
 use Rattle.cell_explain.proofs.settings.line_of.Given as goal

@@ -1,3 +1,4 @@
+-- The loop over the bytes that are shown
 use Rattle.std.proofs.Common.{◌≡◌, map, string_bytes, take}
 use Rattle.cell_explain.specs.Sayings.{shown_byte}
 use Rattle.cell_explain.proofs.shown.shown_bytes.Given as goal

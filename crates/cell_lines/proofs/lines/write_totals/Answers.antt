@@ -1,3 +1,4 @@
+-- The pieces that are written are the lines of the totals, so a part of them is a part of these lines
 use Rattle.std.proofs.Common.{◌∙◌, subst}
 use Rattle.std.specs.Prelude.{OnOk}
 use Rattle.std.specs.Io.KnownBytes.{Appends}

@@ -1,3 +1,4 @@
+-- A list of copies of 0 has 0 at each place, also behind its end
 use Rattle.cell_measures.proofs.Latest.{zero_at, zeros_long}
 use Rattle.cell_measures.proofs.clock.zeros.Goals as goal
 

@@ -1,3 +1,4 @@
+-- The times of a whole journal are those after no entries
 use Rattle.std.proofs.Common.{[]}
 use Rattle.cell_measures.proofs.Exchange.{exchanged}
 use Rattle.cell_measures.proofs.Sums.{exchanged_last}

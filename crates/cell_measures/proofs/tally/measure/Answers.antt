@@ -1,3 +1,4 @@
+-- There is an end for each entry, so both go on by one
 use Rattle.std.proofs.Common.{◌<◌, arith, length}
 use Rattle.cell_measures.proofs.Sums.{counts_more}
 use Rattle.cell_measures.proofs.tally.measure.Goals as goal

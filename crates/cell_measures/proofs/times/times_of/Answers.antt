@@ -1,3 +1,4 @@
+-- The clock keeps what has ended so far, and no end is too great for its type, as journals are short
 use Rattle.std.proofs.Common.{arith, ◌≡◌, ◌<◌}
 use Rattle.std.specs.Prelude.{◌^◌}
 use Rattle.cell_measures.proofs.Parts.{part_first, part_more, part_last, part_small}

@@ -2,6 +2,7 @@ use Rattle.std.proofs.Common.{rules, false, ap}
 use Rattle.cell_method.proofs.Runs.{answers-booked, answers-refused}
 use Rattle.cell_method.proofs.booking.book.Goals as goal
 
+-- a refused entry has no command, so none can fail
 pub returns-in-Err-clause-answers : goal.returns-in-Err-clause-answers
 returns-in-Err-clause-answers g c = (
   false,

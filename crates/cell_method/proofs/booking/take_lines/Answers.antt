@@ -24,6 +24,7 @@ returns-then-not-branch-clause-goes g c = λ s fits.
     (subst (TakesLine (lines_left g.R.Read.remaining c.loop.lines) (lines_left g.R.Read.remaining c.advance.new.self)
     (current c.advance.new.self)) found c.in_ok-advance.ensures.line)
 
+-- such a line asks for nothing, so the run stands where it stood; so does the next one
 pub returns-in-Done-clause-goes : goal.returns-in-Done-clause-goes
 returns-in-Done-clause-goes g c = λ s fits.
     let found : c.in_ok-advance.field-0 ≡ true = search rules in
@@ -40,6 +41,7 @@ returns-in-Quit-clause-goes g c = λ s fits.
     (current c.advance.new.self)) found c.in_ok-advance.ensures.line)
     c.in-Quit.ensures (λ t. refl)
 
+-- what the line asked for was done, but its answer wasn't written
 pub returns-in_err-tell-clause-broke : goal.returns-in_err-tell-clause-broke
 returns-in_err-tell-clause-broke g c =
     let found : c.in_ok-advance.field-0 ≡ true = search rules in

@@ -2,6 +2,7 @@ use Rattle.std.proofs.Common.{rules, false, sym}
 use Rattle.cell_method.proofs.Runs.{operates-done}
 use Rattle.cell_method.proofs.operator.operate.Goals as goal
 
+-- his action was done and booked, so his hands haven't failed
 pub returns-clause-operates : goal.returns-clause-operates
 returns-clause-operates g c = (
   false,

@@ -1,3 +1,4 @@
+-- The two pages are written with a text before, between and behind them
 use Rattle.cell_page.proofs.Pages.{beside_whole}
 use Rattle.cell_page.proofs.beside.write_beside.Goals as goal
 

@@ -1,3 +1,4 @@
+-- The loop over the bytes of a page that stands in another one
 use Rattle.std.proofs.Common.{take}
 use Rattle.std.specs.Prelude.{flat_map}
 use Rattle.std.specs.Io.KnownBytes.{Appends}

@@ -1,3 +1,4 @@
+-- The last entry of a row is the last of those that it is after
 use Rattle.cell_page.proofs.Pages.{last_taken}
 use Rattle.cell_page.proofs.page.row_after.Goals as goal
 

@@ -1,3 +1,4 @@
+-- A chart's section is its beginning, the chart and its end
 use Rattle.cell_page.proofs.Pages.{chart_written}
 use Rattle.cell_page.proofs.page.write_chart.Goals as goal
 

@@ -1,3 +1,4 @@
+-- The row after all entries has what is shown where no scripts run
 use Rattle.std.proofs.Common.{subst, ap, ◌∙◌, length}
 use Rattle.std.specs.Io.KnownBytes.{Appends}
 use Rattle.cell_page.proofs.Pages.{no_scripts}

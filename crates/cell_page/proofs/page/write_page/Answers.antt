@@ -1,3 +1,4 @@
+-- The chart stands in the page that is written
 use Rattle.cell_page.proofs.Pages.{chart_on}
 use Rattle.cell_page.proofs.page.write_page.Goals as goal
 

@@ -1,3 +1,4 @@
+-- A page is its parts, one after another
 use Rattle.cell_page.proofs.Pages.{page_whole}
 use Rattle.cell_page.proofs.page.write_parts.Goals as goal
 

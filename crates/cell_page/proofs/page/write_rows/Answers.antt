@@ -1,3 +1,4 @@
+-- The row after no entries comes first, and that of each entry behind those before it
 use Rattle.std.proofs.Common.{◌++◌, ap₂}
 use Rattle.std.specs.Prelude.{codes}
 use Rattle.cell_page.specs.Rows.{row_text}

@@ -1,3 +1,4 @@
+-- The loop over the rows
 use Rattle.std.specs.Io.KnownBytes.{Appends}
 use Rattle.cell_page.specs.Page.{rows_upto}
 use Rattle.cell_page.proofs.page.write_rows.Given as goal

@@ -1,3 +1,4 @@
+-- What is written in three pieces is some text
 use Rattle.cell_page.proofs.Pages.{some_more}
 use Rattle.cell_page.proofs.still.write_still.Goals as goal
 

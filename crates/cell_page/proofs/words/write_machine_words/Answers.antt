@@ -1,3 +1,4 @@
+-- What is written list after list is some text
 use Rattle.cell_page.proofs.Pages.{some_after, some_on}
 use Rattle.cell_page.proofs.words.write_machine_words.Goals as goal
 

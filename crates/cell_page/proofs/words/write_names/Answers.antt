@@ -1,3 +1,4 @@
+-- What is written word after word is some text
 use Rattle.cell_page.proofs.Pages.{some_more}
 use Rattle.cell_page.proofs.words.write_names.Goals as goal
 

@@ -1,3 +1,4 @@
+-- The loop over the words of a list
 use Rattle.cell_page.specs.Page.{AppendsSome}
 use Rattle.cell_page.proofs.words.write_names.Given as goal
 

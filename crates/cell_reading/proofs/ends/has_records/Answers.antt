@@ -1,3 +1,4 @@
+-- Either one record more is counted, or the text has fewer than were asked for
 use Rattle.std.proofs.Common.{true, false}
 use Rattle.std.specs.Prelude.{option_map}
 use Rattle.csv.specs.Records.{fields_of}

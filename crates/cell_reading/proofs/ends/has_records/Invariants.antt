@@ -1,3 +1,4 @@
+-- The loop that counts records: those counted and those left are all of the text's
 use Rattle.std.specs.Prelude.{option_map}
 use Rattle.cell_rows.specs.Rows.{rows_of}
 use Rattle.cell_reading.specs.Ends.{IsSetUp, rows_to_come}

@@ -1,3 +1,4 @@
+-- What csv says of a read, told in records
 use Rattle.csv.specs.Records.{fields_of}
 use Rattle.cell_rows.proofs.RowFacts.{takes}
 use Rattle.cell_reading.proofs.ends.next_row.Goals as goal

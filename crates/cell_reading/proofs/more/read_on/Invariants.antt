@@ -1,3 +1,4 @@
+-- The loop that reads more of a text: what was read and what is left are still the same text
 use Rattle.std.proofs.Common.{◌≡◌, ◌+◌, length}
 use Rattle.std.specs.Io.{StartsWith}
 use Rattle.std.specs.Io.KnownBytes.{Keeps, prepend_known}

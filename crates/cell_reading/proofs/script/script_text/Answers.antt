@@ -1,3 +1,4 @@
+-- What is counted in a new piece is added to the count of those before it
 use Rattle.std.proofs.Common.{◌≡◌, ◌+◌, rules}
 use Rattle.std.specs.Prelude.{count_by}
 use Rattle.std.specs.Io.KnownBytes.{prepend_known}

@@ -1,3 +1,4 @@
+-- The loop that reads a script piece by piece and counts the bytes that end no line
 use Rattle.std.proofs.Common.{◌≡◌}
 use Rattle.std.specs.Prelude.{count_by}
 use Rattle.std.specs.Io.KnownBytes.{Keeps, prepend_known}

@@ -1,3 +1,4 @@
+-- Each entry that its actor books is one more that was followed, and the first that isn't ends it
 use Rattle.std.proofs.Common.{refl, ◌∙◌}
 use Rattle.cell_turns.specs.Schedules.{now}
 use Rattle.cell_runs.specs.Rounds.{place}

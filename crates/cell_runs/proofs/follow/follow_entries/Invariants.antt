@@ -1,3 +1,4 @@
+-- The loop over the entries of the journal that is followed
 use Rattle.std.proofs.Common.{◌≡◌, take}
 use Rattle.cell_types.specs.declared.words.Machine.{Machine}
 use Rattle.cell_turns.specs.declared.six.Six.{Six}
@@ -8,6 +9,7 @@ use Rattle.cell_runs.specs.Rounds.{Reaches, place}
 use Rattle.cell_runs.specs.Followed.{Follows}
 use Rattle.cell_runs.proofs.follow.follow_entries.Given as goal
 
+-- the first entries are followed, whatever the watches fitted at the start, and the book has kept its limits
 abbrev pub invariant-loop-i : goal.invariant-loop-i
 invariant-loop-i g l =
     let was = l.initial.cell in

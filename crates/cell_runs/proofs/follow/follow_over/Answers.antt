@@ -1,3 +1,4 @@
+-- A run with an empty book starts where runs start, and how it ended tells what was booked
 use Rattle.std.proofs.Common.{◌∙◌, ap, rules}
 use Rattle.plate_book.specs.Rules.History.{History}
 use Rattle.cell_runs.proofs.Acting.{ends_match, ends_started}

@@ -1,3 +1,4 @@
+-- The operator books one entry at most, so what stands where the journal ended is his
 use Rattle.std.proofs.Common.{◌≡◌, length, rules}
 use Rattle.std.specs.Prelude.{slice_get}
 use Rattle.cell_types.specs.declared.words.Actor.TheVariants as actors

@@ -1,3 +1,4 @@
+-- A turn books one entry at most, so what stands where the journal ended tells whether it waited
 use Rattle.std.proofs.Common.{◌≡◌, ◌<◌, ◌∙◌, append-nil, length, refl, sym, true, false, rules}
 use Rattle.std.specs.Prelude.{is_some, slice_get}
 use Rattle.cell_turns.specs.declared.schedule.Step.TheVariants.{Turn}

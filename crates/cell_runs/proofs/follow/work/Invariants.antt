@@ -1,3 +1,4 @@
+-- The loop over the turns of a machine
 use Rattle.std.proofs.Common.{◌≡◌}
 use Rattle.cell_types.specs.declared.words.Machine.{Machine}
 use Rattle.cell_turns.specs.declared.six.Six.{Six}
@@ -7,6 +8,7 @@ use Rattle.cell_turns.specs.Schedules.{FitAll, now}
 use Rattle.cell_runs.specs.Followed.{ReachesNow, Waits}
 use Rattle.cell_runs.proofs.follow.work.Given as goal
 
+-- all turns so far waited, and left the book's limits and the operator's script and hands alone
 abbrev pub invariant-loop-turn : goal.invariant-loop-turn
 invariant-loop-turn g l =
     let was = l.initial.cell in

@@ -1,3 +1,4 @@
+-- The line names the entry that was booked, or says that there was none
 use Rattle.cell_runs.proofs.followed.parted_line.Goals as goal
 
 pub returns-in-Some : goal.returns-in-Some

@@ -1,3 +1,4 @@
+-- What is printed is the booked entries alone, or how the journal was followed and what was counted
 use Rattle.std.proofs.Common.{◌≡◌, ap}
 use Rattle.cell_journal.specs.Stored.{Stored}
 use Rattle.cell_types.specs.declared.words.Totals.{Totals}

@@ -1,3 +1,4 @@
+-- Each way in which a journal was followed has its own first line and its own status
 use Rattle.std.proofs.Common.{◌≡◌, ◌∙◌, List, ℕ, ap, inl, refl, rules, subst, sym}
 use Rattle.std.specs.Io.KnownBytes.{Appends}
 use Rattle.cell_audit.specs.Watched.{WritesPart}

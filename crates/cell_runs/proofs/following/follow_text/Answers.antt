@@ -1,3 +1,4 @@
+-- The entries that were read are the text's, since an answer with counts is the one that is due
 use Rattle.std.proofs.Common.{List, ap, inl, subst, sym}
 use Rattle.std.proofs.lemmas.Result.{IfOk-weaker}
 use Rattle.cell_journal.specs.Stored.{Stored}

@@ -1,3 +1,4 @@
+-- Where the other texts are good, what is written is that of the journal's text
 use Rattle.std.proofs.Common.{Ok}
 use Rattle.std.proofs.lemmas.Result.{IfOk-weaker}
 use Rattle.cell_runs.proofs.following.follow_texts_kept_watched.Goals as goal

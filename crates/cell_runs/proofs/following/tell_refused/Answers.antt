@@ -1,3 +1,4 @@
+-- The text is audited again for the line of its refusal, and is refused again
 use Rattle.std.proofs.Common.{inl, refl}
 use Rattle.std.proofs.lemmas.Result.{IfOk-weaker}
 use Rattle.cell_runs.proofs.Telling.{refused-told, refused-in-part}

@@ -1,3 +1,4 @@
+-- The journal that is kept is the one that was booked, with the end that its following stands for
 use Rattle.std.proofs.Common.{ap}
 use Rattle.cell_journal.specs.Stored.{Stored}
 use Rattle.cell_runs.proofs.following.write_followed.Goals as goal

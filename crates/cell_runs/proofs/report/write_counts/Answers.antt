@@ -1,3 +1,4 @@
+-- The lines are written in pieces, which together are the first line and those of the totals
 use Rattle.std.proofs.Common.{◌∙◌, subst}
 use Rattle.std.specs.Prelude.{OnOk}
 use Rattle.std.specs.Io.KnownBytes.{Appends}

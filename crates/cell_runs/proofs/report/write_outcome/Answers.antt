@@ -1,3 +1,4 @@
+-- The journal and the totals that are printed are those of the run's book
 use Rattle.std.proofs.Common.{ap}
 use Rattle.cell_journal.specs.Stored.{Stored}
 use Rattle.cell_runs.proofs.Reports.{rounds-printed, rounds-in-part}

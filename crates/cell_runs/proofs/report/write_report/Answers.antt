@@ -1,3 +1,4 @@
+-- What is printed is the report's own journal and totals
 use Rattle.std.proofs.Common.{map}
 use Rattle.cell_runs.proofs.Reports.{report-printed}
 use Rattle.cell_runs.proofs.report.write_report.Goals as goal

@@ -1,3 +1,4 @@
+-- The operator rests, waits, books or fails, as his hands, his script and the step tell
 use Rattle.std.proofs.Common.{sym, ap, ◌∙◌, refl}
 use Rattle.cell_turns.specs.Schedules.{now}
 use Rattle.operator_desk.specs.Next.{next_of}

@@ -1,3 +1,4 @@
+-- All machines are idle where each of the six is
 use Rattle.std.proofs.Common.{◌≡◌, true, sym, ◌∙◌}
 use Rattle.cell_types.specs.declared.words.Machine.{Machine}
 use Rattle.cell_types.specs.declared.words.Machine.TheVariants as machine
@@ -5,6 +6,7 @@ use Rattle.cell_turns.specs.Six.{at}
 use Rattle.cell_workers.specs.Ends.{is_idle}
 use Rattle.cell_runs.proofs.rounds.are_idle.Goals as goal
 
+-- the program asks the machines one after another, and answers for all of them
 all_six : (Q : Machine → Type 0) → Q machine.Feed → Q machine.Table → Q machine.Robot → Q machine.Press1
     → Q machine.Press2 → Q machine.Deposit → (m : Machine) → Q m
 all_six Q f t r p q d machine.Feed = f

@@ -1,3 +1,4 @@
+-- A round either ends the run or is one more of it, until there were as many as the plan has
 use Rattle.std.proofs.Common.{◌≡◌, refl, ◌∙◌, rules}
 use Rattle.cell_turns.specs.Schedules.{now}
 use Rattle.cell_runs.specs.Rounds.{place}

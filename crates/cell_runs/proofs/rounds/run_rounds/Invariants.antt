@@ -1,3 +1,4 @@
+-- The loop over the rounds
 use Rattle.std.proofs.Common.{◌≡◌}
 use Rattle.cell_types.specs.declared.words.Machine.{Machine}
 use Rattle.cell_turns.specs.declared.six.Six.{Six}
@@ -7,6 +8,7 @@ use Rattle.cell_turns.specs.Schedules.{FitAll, now}
 use Rattle.cell_runs.specs.Rounds.{Reaches, Rounds, place}
 use Rattle.cell_runs.proofs.rounds.run_rounds.Given as goal
 
+-- so many rounds are done, whatever the watches fitted at the start, and the book has kept its limits
 abbrev pub invariant-loop-round : goal.invariant-loop-round
 invariant-loop-round g l =
     let was = l.initial.cell in

@@ -1,3 +1,4 @@
+-- A round is the turns and then the operator's act; it ends the run where either is stopped, or where all rest
 use Rattle.std.proofs.Common.{◌≡◌, ap, length, rules}
 use Rattle.plate_book.specs.Rules.History.{History}
 use Rattle.cell_turns.specs.Schedules.{now}

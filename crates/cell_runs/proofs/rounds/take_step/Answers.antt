@@ -1,3 +1,4 @@
+-- A step is a schedule of one: where it is refused or stopped, the journal is as it was
 use Rattle.std.proofs.Common.{◌≡◌, ◌∙◌, ℕ, [], ◌∷◌, length, nat_eq, ap, arith}
 use Rattle.cell_runs.proofs.OneRound.{takes_of, step_booked, breaks_of, unchanged_if_refused, unchanged_if_stopped}
 use Rattle.cell_runs.proofs.rounds.take_step.Goals as goal

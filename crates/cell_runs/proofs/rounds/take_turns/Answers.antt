@@ -1,3 +1,4 @@
+-- Each machine's turn is one more of the round's, and one that is stopped stops the round there
 use Rattle.std.proofs.Common.{◌<◌, ◌+◌, length, get_or, take, drop, refl, ◌∙◌, rules}
 use Rattle.std.proofs.lemmas.List.{take_more, take-append-drop}
 use Rattle.cell_types.specs.declared.words.Machine.TheVariants as machine

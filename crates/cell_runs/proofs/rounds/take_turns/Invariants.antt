@@ -1,3 +1,4 @@
+-- The loop over the machines of a round
 use Rattle.std.proofs.Common.{◌≡◌, take}
 use Rattle.cell_types.specs.declared.words.Machine.{Machine}
 use Rattle.cell_turns.specs.declared.six.Six.{Six}
@@ -7,6 +8,7 @@ use Rattle.cell_turns.specs.Schedules.{FitAll, now}
 use Rattle.cell_runs.specs.Rounds.{TakesTurns, machines as order}
 use Rattle.cell_runs.proofs.rounds.take_turns.Given as goal
 
+-- the machines so far had their turns, which left the book's limits and the operator's script and hands alone
 abbrev pub invariant-loop-machine : goal.invariant-loop-machine
 invariant-loop-machine g l =
     let was = l.initial.cell in

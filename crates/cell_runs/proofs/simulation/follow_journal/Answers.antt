@@ -1,3 +1,4 @@
+-- The book is opened empty and by the plan's limits, so the following is one within these
 use Rattle.std.proofs.Common.{ap, subst}
 use Rattle.plate_book.specs.declared.limits.BookLimits.{BookLimits}
 use Rattle.plate_book.specs.Rules.History.{History}

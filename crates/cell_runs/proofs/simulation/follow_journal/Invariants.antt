@@ -1,5 +1,7 @@
+-- The run by which a journal is followed in the simulated cell
 use Rattle.cell_runs.proofs.simulation.follow_journal.Given as goal
 
+-- the run is the one of the book's limits and of the blanks that are handed to it
 abbrev pub ghosts-follow_over : goal.ghosts-follow_over
 ghosts-follow_over g a = record {
   parts = a.blanks.entries.parts;

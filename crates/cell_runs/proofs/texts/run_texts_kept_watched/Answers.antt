@@ -1,3 +1,4 @@
+-- Where the texts are good, what is written is that of their run, on threads or in rounds
 use Rattle.std.proofs.Common.{Ok}
 use Rattle.std.proofs.lemmas.Result.{IfOk-weaker}
 use Rattle.cell_runs.proofs.texts.run_texts_kept_watched.Goals as goal

@@ -1,3 +1,4 @@
+-- The journal that is kept is the one of the run's book
 use Rattle.std.proofs.Common.{ap}
 use Rattle.cell_journal.specs.Stored.{Stored}
 use Rattle.cell_runs.proofs.texts.write_rounds.Goals as goal

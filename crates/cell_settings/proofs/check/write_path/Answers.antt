@@ -1,3 +1,4 @@
+-- Where a write is refused, the parts of the line before are written whole
 use Rattle.std.proofs.Common.{refl}
 use Rattle.cell_settings.proofs.Paths.{end-part, path-part}
 use Rattle.cell_settings.proofs.check.write_path.Goals as goal

@@ -1,3 +1,4 @@
+-- Where a write is refused, the pieces of the bytes before are written whole
 use Rattle.std.proofs.Common.{◌∙◌, ap, refl, sym}
 use Rattle.cell_audit.proofs.Pieces.{part-after, piece-after, pieces-split}
 use Rattle.cell_settings.specs.Checked.{escaped, escaped_byte}

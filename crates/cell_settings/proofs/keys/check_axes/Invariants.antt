@@ -1,8 +1,10 @@
+-- The loop over the keys of the table of axes
 use Rattle.std.proofs.Common.{◌≡◌}
 use Rattle.toml.specs.View.{members_view}
 use Rattle.cell_settings.specs.Keys.{stray_axis}
 use Rattle.cell_settings.proofs.keys.check_axes.Given as goal
 
+-- the keys so far are known, so the first unknown one of those left is the first of all
 abbrev pub invariant-loop-key : goal.invariant-loop-key
 invariant-loop-key l =
     (goal.iterator-loop-key).can_next l.key-iterator × (goal.iterator-loop-key).is_finite l.key-iterator

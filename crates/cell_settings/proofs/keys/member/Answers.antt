@@ -1,3 +1,4 @@
+-- A key's member is the one that the table has under it
 use Rattle.toml.proofs.Views.{table_get}
 use Rattle.cell_settings.proofs.keys.member.Goals as goal
 

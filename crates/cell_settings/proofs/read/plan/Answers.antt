@@ -1,3 +1,4 @@
+-- A step that gives an error stops the reading, and the steps before it gave what is due
 use Rattle.std.proofs.Common.{refl}
 use Rattle.cell_settings.specs.Settings.{numbers_due}
 use Rattle.cell_settings.proofs.Steps.{stops}

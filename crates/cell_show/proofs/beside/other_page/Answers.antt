@@ -1,3 +1,4 @@
+-- The other page is written behind nothing, so all that is there is the page
 use Rattle.std.proofs.Common.{List, Some, ℕ, inl, subst}
 use Rattle.cell_rows.specs.Rows.{rows_of}
 use Rattle.cell_show.specs.Shown.{ShowsPage}

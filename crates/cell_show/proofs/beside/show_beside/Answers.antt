@@ -1,3 +1,4 @@
+-- The pages are first written into memory, where a write fails only for want of it
 use Rattle.std.proofs.Common.{Err, List, Some, ℕ, refl, subst}
 use Rattle.std.specs.Prelude.{IfSome}
 use Rattle.cell_audit.specs.Migrated.{rows_in}

@@ -1,3 +1,4 @@
+-- The entry is refused by the book's own limits
 use Rattle.cell_show.proofs.show.barred.Goals as goal
 
 pub returns-in-Err : goal.returns-in-Err

@@ -1,3 +1,4 @@
+-- A page has the refused entry where there is one, and its chart
 use Rattle.cell_show.proofs.show.draw_timed_page.Goals as goal
 
 pub returns-clause-page : goal.returns-clause-page

@@ -1,3 +1,4 @@
+-- The entries that are shown are good: an answer on the reader or on memory has a greater status
 use Rattle.std.proofs.Common.{◌≡◌, ◌≤◌, length, Ok, Err, refl, ap, subst, rules, arith, true}
 use Rattle.std.specs.Prelude.{IfSome, unwrap_or}
 use Rattle.cell_audit.specs.declared.error.AuditError.TheVariants as error

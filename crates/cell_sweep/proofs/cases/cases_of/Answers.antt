@@ -1,3 +1,4 @@
+-- The faults of an axis come behind those of the axes before it
 use Rattle.std.proofs.Common.{get_or}
 use Rattle.cell_types.specs.Same.{axis_number}
 use Rattle.cell_types.specs.declared.words.Axis.{Axis}

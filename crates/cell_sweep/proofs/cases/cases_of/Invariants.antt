@@ -1,3 +1,4 @@
+-- The loop over the axes
 use Rattle.std.proofs.Common.{◌≡◌, get_or, take}
 use Rattle.std.specs.List.{flat_map}
 use Rattle.cell_types.specs.Same.{axis_number}

@@ -1,3 +1,4 @@
+-- The loop over the kinds of a motion
 use Rattle.std.proofs.Common.{◌≡◌, ◌++◌, map, take}
 use Rattle.cell_sweep.specs.Cases.{planned}
 use Rattle.cell_sweep.proofs.cases.push_kinds.Given as goal

@@ -1,3 +1,4 @@
+-- The faults of a motion come behind those of the motions before it
 use Rattle.cell_sweep.proofs.Steps.{motions-more}
 use Rattle.cell_sweep.proofs.cases.push_motions.Goals as goal
 

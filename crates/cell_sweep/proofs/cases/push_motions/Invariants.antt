@@ -1,3 +1,4 @@
+-- The loop over the motions of an axis
 use Rattle.std.proofs.Common.{◌≡◌, ◌++◌}
 use Rattle.cell_sweep.specs.Cases.{in_motions}
 use Rattle.cell_sweep.proofs.cases.push_motions.Given as goal

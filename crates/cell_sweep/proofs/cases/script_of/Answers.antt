@@ -1,3 +1,4 @@
+-- A kind without a number of readings has an empty field in its place
 use Rattle.std.proofs.Common.{sym}
 use Rattle.cell_sweep.proofs.cases.script_of.Goals as goal
 

@@ -1,3 +1,4 @@
+-- Each part that names a kind adds that kind to those before it
 use Rattle.std.proofs.Common.{◌∙◌, ap, map, sym}
 use Rattle.cell_sweep.specs.Kinds.{parts_of}
 use Rattle.cell_sweep.proofs.Steps.{named-part}

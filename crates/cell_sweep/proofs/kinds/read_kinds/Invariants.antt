@@ -1,3 +1,4 @@
+-- The loop over the parts of a list of kinds
 use Rattle.std.proofs.Common.{◌≡◌, map, take, Some}
 use Rattle.cell_sweep.specs.Kinds.{kind_of, parts_of}
 use Rattle.cell_sweep.proofs.kinds.read_kinds.Given as goal

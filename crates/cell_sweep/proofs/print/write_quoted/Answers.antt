@@ -1,3 +1,4 @@
+-- What is written for a byte comes behind the quote and the bytes before it
 use Rattle.cell_sweep.specs.Rows.{quoted_byte}
 use Rattle.cell_sweep.proofs.Steps.{told-behind}
 use Rattle.cell_sweep.proofs.print.write_quoted.Goals as goal

@@ -1,3 +1,4 @@
+-- The loop that searches for the end of the first line
 use Rattle.std.proofs.Common.{◌≡◌, ◌++◌, take, drop}
 use Rattle.cell_sweep.specs.Rows.{first_line}
 use Rattle.cell_sweep.proofs.row.first_line.Given as goal

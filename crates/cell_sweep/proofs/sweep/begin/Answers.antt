@@ -1,3 +1,4 @@
+-- The counts are read from their list at the axes' numbers
 use Rattle.std.proofs.Common.{slice_index}
 use Rattle.cell_types.specs.Same.{axis_number}
 use Rattle.cell_sweep.proofs.sweep.begin.Goals as goal

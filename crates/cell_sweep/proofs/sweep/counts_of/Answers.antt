@@ -1,3 +1,4 @@
+-- The motions are counted in the journal of the run without faults
 use Rattle.std.proofs.Common.{◌∙◌, ap}
 use Rattle.cell_endings.specs.Missed.{motions_of}
 use Rattle.cell_journal.specs.Stored.{Stored}

@@ -1,3 +1,4 @@
+-- The run and the row are by one script of the operator and by the fault's own script
 use Rattle.std.proofs.Common.{◌∙◌}
 use Rattle.cell_sweep.proofs.Steps.{served-of}
 use Rattle.cell_sweep.proofs.sweep.run_case.Goals as goal

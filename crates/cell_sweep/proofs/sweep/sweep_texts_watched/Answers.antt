@@ -1,3 +1,4 @@
+-- Texts that are good have a sweep, which is whole or breaks off
 use Rattle.cell_sweep.proofs.Steps.{sweeps-or-breaks}
 use Rattle.cell_sweep.proofs.sweep.sweep_texts_watched.Goals as goal
 

@@ -1,3 +1,4 @@
+-- The line that is written is the row's, and a part of it is some text too
 use Rattle.std.proofs.Common.{◌∙◌, refl}
 use Rattle.cell_sweep.proofs.Steps.{grew-part}
 use Rattle.cell_sweep.proofs.sweep.write_case.Goals as goal

@@ -1,3 +1,4 @@
+-- Where a case can't be told, the lines of those before it stay written
 use Rattle.std.proofs.Common.{◌∙◌, refl}
 use Rattle.cell_sweep.specs.Sweeps.{wanted}
 use Rattle.cell_sweep.proofs.Steps.{all-cases, case-more, cases-grow, grows-twice, no-cases}

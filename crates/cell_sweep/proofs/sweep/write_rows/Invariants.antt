@@ -1,3 +1,4 @@
+-- The loop over the cases
 use Rattle.std.proofs.Common.{take}
 use Rattle.cell_audit.specs.Watched.{IsSameWriter, bytes_held}
 use Rattle.cell_sweep.specs.Sweeps.{TellsCases, wanted}

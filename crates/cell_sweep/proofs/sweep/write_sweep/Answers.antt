@@ -1,3 +1,4 @@
+-- Where the sweep breaks off, what it wrote until then stays written
 use Rattle.std.proofs.Common.{◌∙◌, refl}
 use Rattle.cell_sweep.specs.Sweeps.{wanted}
 use Rattle.cell_sweep.proofs.Steps.{cases-grow, grew, grew-part, grows-twice, swept}

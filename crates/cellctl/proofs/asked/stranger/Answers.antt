@@ -1,3 +1,4 @@
+-- A word that names a machine is one more of those that do, and the search ends at another
 use Rattle.std.proofs.Common.{◌≡◌, ◌∙◌, [], true, arith, subst, sym}
 use Rattle.std.proofs.lemmas.List.Elements.{All-more}
 use Rattle.std.proofs.lemmas.List.{take_all}

@@ -1,3 +1,4 @@
+-- The loop that searches for a word that names no machine
 use Rattle.std.proofs.Common.{take}
 use Rattle.cellctl.specs.Asked.{AreMachines}
 use Rattle.cellctl.proofs.asked.stranger.Given as goal

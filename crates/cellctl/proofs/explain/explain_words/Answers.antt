@@ -1,3 +1,4 @@
+-- Texts that don't go together are wrong arguments, with a line of their own
 use Rattle.std.proofs.Common.{refl, sym, ◌∙◌}
 use Rattle.std.specs.Prelude.{codes}
 use Rattle.cellctl.proofs.Arguments.{wrong-told}

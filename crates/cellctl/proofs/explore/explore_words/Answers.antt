@@ -1,3 +1,4 @@
+-- Each of the words may be wrong, and has a line of its own for that
 use Rattle.std.proofs.Common.{inl, inr, refl, subst}
 use Rattle.std.specs.Prelude.{codes}
 use Rattle.cellctl.specs.Asked.{HasNoMachine}

@@ -1,3 +1,4 @@
+-- A journal more was found, and added to those that are measured or refused
 use Rattle.cellctl.proofs.Measuring.{more_found}
 use Rattle.cellctl.proofs.measure.sort.Goals as goal
 

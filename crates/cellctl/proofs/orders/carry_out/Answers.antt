@@ -1,3 +1,4 @@
+-- These commands leave no run to be explained, so what they wrote is all
 use Rattle.cellctl.proofs.orders.carry_out.Goals as goal
 
 pub returns-in_ok-sweep_words-in-Sweep : goal.returns-in_ok-sweep_words-in-Sweep

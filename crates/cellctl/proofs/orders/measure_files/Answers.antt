@@ -1,3 +1,4 @@
+-- The measures are written behind what the run wrote
 use Rattle.std.proofs.Common.{◌≡◌, inl, rules, sym}
 use Rattle.cell_runs.specs.Runs.{kept_of}
 use Rattle.cellctl.proofs.orders.measure_files.Goals as goal

@@ -1,3 +1,4 @@
+-- The files are read before anything is written, and then what is written is by their texts
 use Rattle.std.proofs.Common.{◌≡◌, inl, rules, sym}
 use Rattle.std.proofs.lemmas.Result.{IfOk-weaker}
 use Rattle.cell_runs.specs.Runs.{TellsPart, TellsRun, kept_of}

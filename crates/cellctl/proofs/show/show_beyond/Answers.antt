@@ -1,3 +1,4 @@
+-- No journal has so many entries, so the greatest number that can be asked for stands for all beyond
 use Rattle.std.proofs.Common.{inr, refl, rules}
 use Rattle.cell_show.specs.Shown.{error_text}
 use Rattle.cellctl.proofs.Showing.{past-all, too-many}

@@ -1,3 +1,4 @@
+-- Without a word all entries are shown, and a word that is no number is a wrong argument
 use Rattle.std.proofs.Common.{◌∷◌, ◌++◌, [], None, Some, refl, inl, inr, append_assoc, rules}
 use Rattle.std.specs.Prelude.{codes}
 use Rattle.cell_command.specs.Escaped.{escaped}

@@ -1,3 +1,4 @@
+-- Flags that don't go together are wrong arguments, and each such case has a line of its own
 use Rattle.std.proofs.Common.{refl, inl, inr, rules}
 use Rattle.std.specs.Prelude.{codes}
 use Rattle.cellctl.proofs.Arguments.{wrong-told}

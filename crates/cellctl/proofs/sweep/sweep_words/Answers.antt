@@ -1,3 +1,4 @@
+-- The list or the number may be wrong, and each has a line of its own for that
 use Rattle.std.proofs.Common.{inl, inr, refl}
 use Rattle.std.specs.Prelude.{codes}
 use Rattle.cellctl.proofs.sweep.sweep_words.Goals as goal

@@ -1,3 +1,4 @@
+-- An explanation of a cut record ends as the one that was made, or for want of memory
 use Rattle.cell_explain.specs.Explained.{EndsAsFaults}
 use Rattle.cellctl.proofs.Endings.{cut-ends-of, faults-want}
 use Rattle.cellctl.proofs.texts.explain_faults_in.Goals as goal

@@ -1,3 +1,4 @@
+-- The status is that of the audit of what was read, or want of memory
 use Rattle.std.specs.Prelude.{IfSome}
 use Rattle.cell_explain.specs.Explained.{EndsAsAudit}
 use Rattle.cellctl.proofs.Endings.{as-ends, known-wants, of-known}

@@ -1,3 +1,4 @@
+-- An explanation of a cut record ends as the one that was made, or for want of memory
 use Rattle.cell_explain.specs.Explained.{EndsAsScript}
 use Rattle.cellctl.proofs.Endings.{cut-ends-of, operator-wants}
 use Rattle.cellctl.proofs.texts.explain_operator_in.Goals as goal

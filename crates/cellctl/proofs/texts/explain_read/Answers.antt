@@ -1,3 +1,4 @@
+-- An explanation of a cut record ends as the one that was made, or for want of memory
 use Rattle.std.proofs.Common.{subst}
 use Rattle.std.specs.Prelude.{IfOk}
 use Rattle.cell_explain.specs.Explained.{EndsAsAudit}

@@ -1,3 +1,4 @@
+-- Where a write is refused, a part of the line was written
 use Rattle.std.proofs.Common.{rules}
 use Rattle.cellctl.proofs.times.tell_times.Goals as goal
 

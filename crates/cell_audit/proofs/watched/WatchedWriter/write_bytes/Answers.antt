@@ -1,3 +1,4 @@
+-- What a write takes comes right behind what was written before
 use Rattle.std.proofs.Common.{◌∙◌, arith, length-drop, take-add}
 use Rattle.std.proofs.KnownBytes.{Appends-trans}
 use Rattle.cell_audit.proofs.Pieces.{slice-end}

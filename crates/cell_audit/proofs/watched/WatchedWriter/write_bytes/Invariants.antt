@@ -1,3 +1,4 @@
+-- The loop that writes bytes, at each turn as many as the writer takes
 use Rattle.std.proofs.Common.{◌≡◌, ◌≤◌, length, take}
 use Rattle.std.specs.Io.KnownBytes.{Appends}
 use Rattle.cell_audit.specs.Watched.{IsSameWriter, bytes_held, has_refused}

@@ -1,3 +1,4 @@
+-- A piece comes right behind those before it, and a part of it makes a part of them all
 use Rattle.std.proofs.Common.{◌∙◌, refl}
 use Rattle.cell_audit.proofs.Pieces.{part-after, piece-after, pieces-split}
 use Rattle.cell_audit.proofs.watched.WatchedWriter.write_pieces.Goals as goal

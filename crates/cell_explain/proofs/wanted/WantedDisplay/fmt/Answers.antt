@@ -1,3 +1,4 @@
+-- What is wanted of a number is written with its bounds
 use Rattle.cell_explain.proofs.wanted.WantedDisplay.fmt.Goals as goal
 
 pub returns-in-Number-clause-writes : goal.returns-in-Number-clause-writes

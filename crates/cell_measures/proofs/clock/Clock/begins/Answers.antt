@@ -1,3 +1,4 @@
+-- An entry begins when the last of its machine, its plate and its zones have ended
 use Rattle.std.proofs.Common.{◌∙◌, ap, ℕ, Option}
 use Rattle.cell_types.specs.declared.words.Machine.{Machine}
 use Rattle.cell_types.specs.Same.{machine_number}

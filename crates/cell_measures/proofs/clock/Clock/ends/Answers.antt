@@ -1,3 +1,4 @@
+-- No motion takes longer than 65535, so no entry ends later than that after all before it
 use Rattle.std.proofs.Common.{◌<◌, arith}
 use Rattle.cell_measures.proofs.Latest.{motion_early, begun_early}
 use Rattle.cell_measures.proofs.clock.Clock.ends.Goals as goal

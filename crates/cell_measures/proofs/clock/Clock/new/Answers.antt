@@ -1,3 +1,4 @@
+-- A clock by which nothing has ended yet
 use Rattle.std.proofs.Common.{◌≡◌, refl}
 use Rattle.cell_types.specs.declared.words.Machine.{Machine}
 use Rattle.cell_types.specs.declared.words.Machine.TheVariants as machine
@@ -9,6 +10,7 @@ use Rattle.cell_types.specs.Same.{machine_number, axis_number, zone_number}
 use Rattle.std.specs.Prelude.{slice_index, [], ◌∷◌}
 use Rattle.cell_measures.proofs.clock.Clock.new.Goals as goal
 
+-- nothing has ended yet, so a new clock has 0 for each machine, zone and axis
 no_machine : (m : Machine) → slice_index (0 ∷ 0 ∷ 0 ∷ 0 ∷ 0 ∷ 0 ∷ []) (machine_number m) ≡ 0
 no_machine machine.Feed = refl
 no_machine machine.Table = refl

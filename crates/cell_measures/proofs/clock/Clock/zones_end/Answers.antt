@@ -1,3 +1,4 @@
+-- All zones are gone through, and what is begun with, 0, is later than none
 use Rattle.std.proofs.Common.{◌≡◌, ◌∙◌, ap, arith, drop, max, sym}
 use Rattle.std.specs.Prelude.{ℕ}
 use Rattle.std.proofs.Math.Nat.{max-zero}

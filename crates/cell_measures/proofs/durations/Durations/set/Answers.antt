@@ -1,3 +1,4 @@
+-- Each axis has a row with a number for each pose, so the duration of one motion alone is set
 use Rattle.std.proofs.Common.{◌<◌, ◌∙◌, ap, arith, length, ℕ}
 use Rattle.std.specs.Prelude.{◌&&◌, ◌==◌, if◌then◌else◌}
 use Rattle.cell_types.specs.Same.{axis_number, pose_number, same_pose}

@@ -16,6 +16,7 @@ returns-then-ended-clause-line g c =
     let blank : is_blank line ≡ true = sym (c.is_blank.ensures line h) ∙ search rules in
     none-left _ _ _ line _ h.within (search rules) blank c.loop-count.invariant.0
 
+-- the blank lines can't be counted any further
 pub returns-clause-fault : goal.returns-clause-fault
 returns-clause-fault g c = λ _. inr (endless-read _ _ _ (omega (arith, c.loop-count-test.false))
     c.loop-count.invariant.1)

@@ -20,6 +20,7 @@ loop-count-preserved g c =
       one-longer line b _ count,
     )
 
+-- the bytes of the line can't be counted any further
 pub returns-clause-fault : goal.returns-clause-fault
 returns-clause-fault g c = λ _.
     let (line, h, taken, count) = c.loop-count.invariant in

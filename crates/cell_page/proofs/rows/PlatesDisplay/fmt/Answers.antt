@@ -1,3 +1,4 @@
+-- Each number but the first is written behind a comma
 use Rattle.std.proofs.Common.{rules, arith}
 use Rattle.std.proofs.Output.{has_written_append, has_written_of_eq}
 use Rattle.cell_page.specs.Rows.{plate_number}

@@ -1,3 +1,4 @@
+-- The loop over the stations, for the numbers of their plates
 use Rattle.std.proofs.Common.{map, take}
 use Rattle.std.specs.Fmt.{HasWritten, IsPlainFormatter}
 use Rattle.cell_page.specs.Rows.{plate_number, with_commas}

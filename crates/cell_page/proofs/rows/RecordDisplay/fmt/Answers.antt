@@ -1,3 +1,4 @@
+-- Each field but the first is written behind a comma
 use Rattle.std.proofs.Common.{[], refl, rules, arith}
 use Rattle.std.proofs.Output.{has_written_append, has_written_of_eq}
 use Rattle.cell_types.specs.declared.fields.Field.TheVariants as field

@@ -1,3 +1,4 @@
+-- The loop over the fields of an entry's record
 use Rattle.std.proofs.Common.{map, take}
 use Rattle.std.specs.Fmt.{HasWritten, IsPlainFormatter}
 use Rattle.cell_types.specs.Spelling.{text_of}

@@ -1,3 +1,4 @@
+-- A row is written in two pieces, which together are its cells
 use Rattle.std.proofs.Common.{rules}
 use Rattle.std.proofs.Output.{has_written_append, has_written_of_eq}
 use Rattle.cell_page.specs.Rows.{count_cells, entry_cells, machine_cells, place_cells, row_text, with_commas}

@@ -1,3 +1,4 @@
+-- The loop over the rows of signs
 use Rattle.cell_audit.specs.Watched.{IsSameWriter}
 use Rattle.cell_picture.proofs.sheet.Sheet.print.Given as goal
 
