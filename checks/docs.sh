@@ -1,8 +1,8 @@
 #!/bin/bash
 # Looks whether the documents are true where a script can tell: each command in a block of the kind `console` is run, and
-# prints what stands there; each excerpt of code stands in its file; each link leads somewhere; each crate is in the map and
-# has its README of at most 40 lines; the documents name the kit that KIT names; the index of docs/PROVED.md is what the sources
-# make; the manual page and the completion are what the help texts make, and bash offers what the completion has.
+# prints what stands there; each excerpt of code stands in its file; each link leads somewhere; each crate is in the map, in
+# its layer, and has its README of at most 40 lines; the documents name the kit that KIT names; the index of docs/PROVED.md is
+# what the sources make; the manual page and the completion are what the help texts make, and bash offers what the completion has.
 # Usage: checks/docs.sh     Build the program first: ./cellctl --prove does. CELLCTL names another one.
 set -u
 here=$(cd "$(dirname "$0")/.." && pwd) || exit 1
@@ -141,6 +141,28 @@ look_at_crates() {
     [ "$(wc -l < README.md)" -le 80 ] || wrong "README.md has more than 80 lines"
 }
 
+# Each crate of the product is in a row of the README's map, and needs only crates of that row and of rows above.
+look_at_layers() {
+    local told
+    told=$(awk '
+        FNR == NR && /^\| `/ {
+            row++
+            sub(/^\| /, "")
+            sub(/ \|.*/, "")
+            while (match($0, /`[a-z_]+`/)) {
+                layer[substr($0, RSTART + 1, RLENGTH - 2)] = row
+                $0 = substr($0, RSTART + RLENGTH)
+            }
+        }
+        FNR == NR { next }
+        { sub(/:$/, "", $1) }
+        $1 ~ /^test_/ { next }
+        !($1 in layer) { print "README.md has no layer with " $1; next }
+        { for (i = 2; i <= NF; i++) if (layer[$i] > layer[$1]) print "README.md has " $1 " below " $i ", on which it stands" }
+    ' README.md crates.txt)
+    [ -z "$told" ] || wrong "$told"
+}
+
 look_at_kit() {
     local document
     for document in README.md docs/PROVED.md; do
@@ -176,6 +198,7 @@ look_at_scripts
 look_at_excerpts
 look_at_links
 look_at_crates
+look_at_layers
 look_at_kit
 look_at_proved
 look_at_words
