@@ -4,7 +4,7 @@ use crate::measures::Measures;
 use crate::report::{explain_broken, write_end, write_world};
 use crate::texts::{Told, status_of, write_told};
 use crate::wish::{Wish, wish_of};
-use cell_method::{DriveError, DriveEnd, LineReader, MAX_LINES, ReadingLine};
+use cell_method::{DriveEnd, DriveError, LineReader, MAX_LINES, ReadingLine};
 use cell_rows::{TellsFault, read_script};
 use cell_sim::{FaultScript, SimOperator, SimPort, World, sim_ports};
 use cell_turns::{OperatorPort, Plan, Port, Ports};

@@ -11,7 +11,7 @@ use crate::report::{
 use crate::texts::{Told, begin, status_of, write_told};
 use cell_audit::write_journal;
 use cell_measures::Durations;
-use cell_method::{DriveError, DriveEnd, LineReader, drive};
+use cell_method::{DriveEnd, DriveError, LineReader, drive};
 use cell_rows::TellsFault;
 use cell_runs::Inputs;
 use cell_sim::{SimOperator, World, sim_ports};

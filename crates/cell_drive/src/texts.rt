@@ -8,7 +8,7 @@ use crate::by_entries::drive_entries;
 use cell_audit::{WatchedWriter, WriteFault};
 use cell_lines::status;
 use cell_measures::Durations;
-use cell_method::{DriveError, DriveEnd, LineReader};
+use cell_method::{DriveEnd, DriveError, LineReader};
 use cell_rows::{TellsFault, Watched};
 use cell_runs::{InputError, Inputs, read_inputs, refuse_input};
 use cell_sim::World;

@@ -108,7 +108,12 @@ pub fn ink_circle<W: Write>(
 }
 
 /// Draws a rectangle.
-pub fn ink_rectangle<W: Write>(out: &mut W, rectangle: Rectangle, fill: &str, outline: Outline) -> io::Result<()> {
+pub fn ink_rectangle<W: Write>(
+    out: &mut W,
+    rectangle: Rectangle,
+    fill: &str,
+    outline: Outline,
+) -> io::Result<()> {
     writeln!(
         out,
         "<rect x=\"{}\" y=\"{}\" width=\"{}\" height=\"{}\" rx=\"4\" fill=\"{fill}\" {outline}/>",

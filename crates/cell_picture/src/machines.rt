@@ -1,7 +1,8 @@
 //! The belts, the table, the presses and the zones of a drawing.
 use crate::Facts;
 use crate::ink::{
-    Outline, Rectangle, Spot, Way, ink_bold, ink_circle, ink_line, ink_place, ink_rectangle, ink_text, xy,
+    Outline, Rectangle, Spot, Way, ink_bold, ink_circle, ink_line, ink_place, ink_rectangle,
+    ink_text, xy,
 };
 use crate::parts::{axis_at, is_asked, is_failed, lamp_at, plate_at};
 use cell_sentences::{colour_name, machine_name};

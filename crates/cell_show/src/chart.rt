@@ -8,8 +8,6 @@ mod follow;
 mod lanes;
 mod scale;
 
-pub use error::ChartError;
-
 use crate::chart::follow::{Drawing, end, follow};
 use crate::chart::lanes::{Lane, Lanes, bottom};
 use crate::chart::scale::Scale;
@@ -19,6 +17,7 @@ use cell_measures::{Durations, times_of};
 use cell_picture::AnswerLine;
 use cell_types::texts::{axis_word, machine_word, station_word, zone_word};
 use cell_types::{AXES, MACHINES, STATIONS, ZONES, owner, visitor};
+pub use error::ChartError;
 use std::alloc::Global;
 use std::fmt::Display;
 use std::io;

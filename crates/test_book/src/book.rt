@@ -3,11 +3,11 @@ mod laid_back;
 mod order_of_refusals;
 
 use crate::cases::{entry, is_wanted, number, part, text_of};
-use test_samples::{LAID_BACK, ONE_PLATE, Told, book_all, plate};
 use cell_types::{Axis, Belt, Machine, Place, PlateId, Station, Zone};
 use plate_book::{Book, OpenError, Records, Refusal};
 use std::alloc::{AllocError, Global};
 use std::process::Abort;
+use test_samples::{LAID_BACK, ONE_PLATE, Told, book_all, plate};
 
 // A case: the limits of entries and plates, how many entries of a journal come first, the records that follow, what
 // is asked, and the answer. A record is asked for by booking it: the answer is Ok, or the refusal's name and word.

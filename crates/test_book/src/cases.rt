@@ -1,9 +1,9 @@
 //! Cases as texts: a line a case, its parts separated by bars, and answers as texts.
-use test_samples::entry_of;
 use cell_types::Entry;
 use std::alloc::{AllocError, Global};
 use std::fmt::Debug;
 use std::process::Abort;
+use test_samples::entry_of;
 
 // The part of a case at a place, counted from 0. A part that isn't there is empty.
 pub(crate) fn part(case: &str, place: usize) -> &str {

@@ -3,11 +3,11 @@ use crate::book::{book_records, book_with};
 use crate::cases::{entry, is_wanted, number, part, text_of};
 use cell_journal::laws::{pack, unpack};
 use cell_journal::{Journal, Snapshot};
-use test_samples::{LAID_BACK, ONE_PLATE};
 use cell_types::{AXES, Axis, BELTS, Belt, MACHINES, STATIONS, Station, ZONES, Zone};
 use plate_book::Book;
 use std::alloc::{AllocError, Global};
 use std::process::Abort;
+use test_samples::{LAID_BACK, ONE_PLATE};
 
 // Records, and the words of their entries by the table of bits.
 const PACKED: [(&str, u32); 6] = [

@@ -1,10 +1,10 @@
 //! Runs by entries.
 use crate::sample::{ENTRIES, OPENING, begins, driven, has_line};
 use cell_drive::Driving;
-use test_samples::one_plate_text;
 use std::process::Abort;
 use std::sync::Wait;
 use std::test::Fail;
+use test_samples::one_plate_text;
 
 const ONE_PLATE: [&str; 3] = ["plates = 1\n", "", ""];
 

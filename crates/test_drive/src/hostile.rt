@@ -2,10 +2,10 @@
 use crate::sample::{COMMANDS, ENTRIES, driven, has_line};
 use cell_drive::{Driving, drive_texts};
 use cell_lines::WriteFault;
-use test_samples::{FailingReader, Unwilling};
 use std::process::Abort;
 use std::sync::Wait;
 use std::test::Fail;
+use test_samples::{FailingReader, Unwilling};
 
 const ONE_PLATE: [&str; 3] = ["plates = 1\n", "", ""];
 

@@ -1,10 +1,10 @@
 //! What is read of journals' texts: the answer, and the entries before the place that it names.
 use cell_audit::{AuditError, read_journal};
-use test_samples::{FailingReader, entry_of};
 use cell_types::{Belt, Totals};
 use plate_book::Refusal;
 use std::io::Read;
 use std::process::Abort;
+use test_samples::{FailingReader, entry_of};
 
 // A reading: its answer, how many entries its book has, and the record of the last.
 type Wanted = (Result<(u8, Totals), AuditError>, u32, &'static str);

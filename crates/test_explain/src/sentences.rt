@@ -1,10 +1,10 @@
 //! A sentence of each kind of entry and of each refusal, and the names of poses.
-use test_samples::entry_of;
 use cell_sentences::{EntrySentence, RefusalSentence, pose_name};
 use cell_types::{Axis, Belt, Machine, Pose, Station, Zone};
 use plate_book::Refusal;
 use std::fmt::Display;
 use std::process::Abort;
+use test_samples::entry_of;
 
 // An entry is a sentence with its actor first.
 const ENTRIES: [(&str, &str); 18] = [

@@ -1,11 +1,11 @@
 //! Texts of scripts, and what the operator does along the way of one plate from the feed belt to the table.
-use test_samples::{begun, book_all, entry_of as entry, plate};
 use cell_types::texts::{read_machine, read_station};
 use cell_types::{Machine, PlateId, Station};
 use operator_desk::{Action, Script, ScriptError, entry_of};
 use plate_book::Book;
 use std::alloc::Global;
 use std::process::Abort;
+use test_samples::{begun, book_all, entry_of as entry, plate};
 
 // How a text is refused, or that it isn't.
 type Refused = Option<ScriptError>;

@@ -1,11 +1,11 @@
 //! What settings say, and what is printed for them.
 use cell_diagnosis::Limits;
 use cell_lines::WriteFault;
-use test_samples::{FailingWriter, Unwilling};
 use cell_settings::{KeyPath, SettingsError, check_lines, read_settings};
 use std::alloc::Global;
 use std::process::Abort;
 use std::test::Fail;
+use test_samples::{FailingWriter, Unwilling};
 
 // A case: a text that is refused, and the line that is printed for it.
 type Case = (&'static [u8], &'static [u8]);

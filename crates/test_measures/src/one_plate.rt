@@ -1,9 +1,9 @@
 //! Measures that were computed by hand.
 use crate::samples::journal_of;
 use cell_measures::{Durations, Held, Measures, Spent, Spread, measure, times_of};
-use test_samples::ONE_PLATE;
 use cell_types::{Axis, Machine, Pose, Zone};
 use std::process::Abort;
+use test_samples::ONE_PLATE;
 
 fn measured<R: AllocGlobal + Abort>(rt: &R, records: &[&str], durations: &Durations) -> Measures {
     let journal = journal_of(rt, records);

@@ -1,7 +1,7 @@
 //! Journals of records.
 use cell_journal::Journal;
-use test_samples::entry_of;
 use std::process::Abort;
+use test_samples::entry_of;
 
 /// A journal of the entries of these records.
 pub(crate) fn journal_of<R: AllocGlobal + Abort>(rt: &R, records: &[&str]) -> Journal {

@@ -1,10 +1,10 @@
 //! Journals whose independent entries stand in other orders, and measures of several plates.
 use crate::samples::journal_of;
 use cell_measures::{Durations, Measures, Spent, Spread, measure};
-use test_samples::ONE_PLATE;
 use cell_types::{Axis, Machine};
 use std::alloc::AllocError;
 use std::process::Abort;
+use test_samples::ONE_PLATE;
 
 // What the second press does while the plate is forged in the first.
 const SECOND_PRESS: [&str; 4] = [

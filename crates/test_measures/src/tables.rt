@@ -1,8 +1,8 @@
 //! Tables, and lines of CSV.
 use crate::samples::journal_of;
 use cell_measures::{Durations, Measured, Measures, csv_of, lines_of, measure, table_of};
-use test_samples::ONE_PLATE;
 use std::process::Abort;
+use test_samples::ONE_PLATE;
 
 fn one_plate<R: AllocGlobal + Abort>(rt: &R) -> Measures {
     let journal = journal_of(rt, &ONE_PLATE);

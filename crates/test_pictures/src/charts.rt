@@ -1,8 +1,8 @@
 //! Journals on an axis of time.
 use crate::states::{FAILED_PRESS, booked};
 use cell_audit::AuditError;
-use cell_show::chart::{ChartError, draw_chart};
 use cell_measures::Durations;
+use cell_show::chart::{ChartError, draw_chart};
 use cell_types::{Axis, Belt, Colour, Entry, Pose};
 use plate_book::Book;
 use std::alloc::Global;

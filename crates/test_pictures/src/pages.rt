@@ -2,13 +2,13 @@
 use crate::states::{drawn, drawn_after, largest, longest};
 use cell_audit::AuditError;
 use cell_page::{MAX_PAGE_ENTRIES, PageError, write_beside, write_page};
-use test_samples::{ONE_PLATE, begun, book_all, entry_of};
 use cell_show::Form;
 use cell_types::{Axis, Belt, Machine, Station, Zone};
 use plate_book::{Book, Refusal};
 use std::alloc::Global;
 use std::io::Write;
 use std::process::Abort;
+use test_samples::{ONE_PLATE, begun, book_all, entry_of};
 
 // The rows of the first entries of the journal of one plate, in pieces: it is laid in, and the feed belt carries it to
 // its end.

@@ -1,11 +1,11 @@
 //! What is shown for journals' texts, and what readers and writers that fail leave of it.
 use crate::texts::OPENING;
 use cell_measures::Durations;
-use test_samples::{FailingReader, FailingWriter};
 use cell_show::{Form, ShowError, show_beside, show_journal};
 use cell_types::{Axis, Pose};
 use std::alloc::Global;
 use std::process::Abort;
+use test_samples::{FailingReader, FailingWriter};
 
 const LEGAL: &str = "profile,1,,\nlamp,feed,green,\nadmitted,1,,\n";
 

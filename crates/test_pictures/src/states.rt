@@ -2,13 +2,13 @@
 use cell_audit::AuditError;
 use cell_journal::Snapshot;
 use cell_picture::{Facts, Scene, ShownPlate, draw_picture, draw_text, facts_after, facts_of};
-use test_samples::{FailingWriter, book_all};
 use cell_show::Form;
 use cell_types::{AxisState, Cause, Colour, Entry, Machine, PlateId, Pose, Totals};
 use plate_book::{Book, Refusal};
 use std::alloc::Global;
 use std::io::Write;
 use std::process::Abort;
+use test_samples::{FailingWriter, book_all};
 
 /// Plate 1 is forged in the first press, and plate 2 lies on the table.
 pub const TWO_PLATES: [&str; 50] = [

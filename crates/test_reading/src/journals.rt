@@ -3,13 +3,13 @@ use crate::texts::{ENDS, TAILS, text_with};
 use cell_audit::{AuditError, audit_text};
 use cell_explain::explain_journal;
 use cell_reading::journal_text;
-use test_samples::{FailingReader, Interrupted, Pieces, one_plate_text};
 use plate_book::Refusal;
 use std::alloc::Global;
 use std::io;
 use std::io::Read;
 use std::process::Abort;
 use std::test::Fail;
+use test_samples::{FailingReader, Interrupted, Pieces, one_plate_text};
 
 // A byte order mark, a line end of two bytes, a blank line, a quoted field, and an entry that is refused.
 const QUOTED: &[u8] = b"\xEF\xBB\xBFprofile,1,,\r\n\n\"repaired\",feed,,\n";

@@ -3,7 +3,6 @@ use crate::texts::{ENDS, TAILS, text_with};
 use cell_explain::{explain_faults, explain_operator};
 use cell_reading::script_text;
 use cell_rows::{LineError, ScriptLine, read_script};
-use test_samples::{FailingReader, Interrupted, Pieces};
 use cell_sim::PlannedFault;
 use operator_desk::Line;
 use std::alloc::Global;
@@ -11,6 +10,7 @@ use std::io;
 use std::io::{ErrorKind, Read};
 use std::process::Abort;
 use std::test::Fail;
+use test_samples::{FailingReader, Interrupted, Pieces};
 
 // A byte order mark, quoted fields, a line end of two bytes, a blank line, and a line that can't be read.
 const FAULTS: &[u8] = b"\xEF\xBB\xBF\"press_two\",1,\"slow\",3\r\n\nx,1";

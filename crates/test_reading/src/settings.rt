@@ -1,10 +1,10 @@
 //! The text of settings: as long as it may be, longer, without an end, and from readers that fail.
 use crate::texts::text_with;
 use cell_reading::settings_text;
-use test_samples::{FailingReader, Interrupted, Pieces};
 use std::io;
 use std::io::ErrorKind;
 use std::test::Fail;
+use test_samples::{FailingReader, Interrupted, Pieces};
 
 const MOST: usize = 1_048_576;
 

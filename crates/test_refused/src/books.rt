@@ -5,12 +5,12 @@ ghost use Rattle.cell_ledger.specs.New.{AreBlank};
 use crate::same::check_same;
 use cell_journal::{Journal, JournalError};
 use cell_ledger::{Blanks, Kept, Run};
-use test_samples::{ONE_PLATE, begun, book_all, call_begins, call_ends, entry_of, plate};
 use cell_types::{Machine, Place, PlateId, Station, Totals};
 use plate_book::{Book, OpenError, Records, Refusal};
 use std::alloc::Global;
 use std::marker::Brand;
 use std::process::Abort;
+use test_samples::{ONE_PLATE, begun, book_all, call_begins, call_ends, entry_of, plate};
 
 #[test]
 fn journal_with_limit(rt: HostRuntime) {

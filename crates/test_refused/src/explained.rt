@@ -3,10 +3,10 @@ use crate::same::check_same;
 use crate::texts::{PLAIN, PROFILE_1, clearing};
 use cell_audit::WriteFault;
 use cell_explain::{explain_faults, explain_journal, explain_operator, explain_settings};
-use test_samples::{call_begins, call_ends};
 use std::alloc::Global;
 use std::process::Abort;
 use std::test::Fail;
+use test_samples::{call_begins, call_ends};
 
 // Room for all that a call writes, so that the writer asks for no memory.
 const ROOM: usize = 10_000;

@@ -3,11 +3,11 @@ use crate::same::check_same;
 use crate::texts::{PLAIN, PROFILE_1, clearing};
 use cell_audit::AuditError;
 use cell_reading::{JournalText, journal_text, script_text, settings_text};
-use test_samples::{call_begins, call_ends};
 use std::io;
 use std::io::ErrorKind;
 use std::process::Abort;
 use std::test::Fail;
+use test_samples::{call_begins, call_ends};
 
 // Whether a text isn't read for want of memory, or the audit of the text answers that.
 fn is_wanting(read: &io::Result<JournalText>) -> bool {

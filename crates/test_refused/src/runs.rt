@@ -6,7 +6,6 @@ use cell_journal::Journal;
 use cell_lines::WriteFault;
 use cell_measures::Durations;
 use cell_runs::{KeptRun, Left, follow_texts, run_texts_kept};
-use test_samples::{CLEARED_PRESS, STUCK_PRESS, call_begins, call_ends};
 use cell_types::Totals;
 use std::alloc::Global;
 use std::io::ErrorKind;
@@ -14,6 +13,7 @@ use std::process::Abort;
 use std::sync::Wait;
 use std::test::Fail;
 use std::thread::Threads;
+use test_samples::{CLEARED_PRESS, STUCK_PRESS, call_begins, call_ends};
 
 // Room for all that a run writes, so that the writer asks for no memory.
 const ROOM: usize = 100_000;

@@ -3,12 +3,12 @@ use crate::same::check_same;
 use crate::texts::{PLAIN, PROFILE_1, QUOTED, clearing};
 use cell_audit::{AuditError, Audited};
 use cell_measures::Durations;
-use test_samples::{begun, call_begins, call_ends};
 use cell_show::{Form, ShowError, show_beside, show_journal};
 use plate_book::Book;
 use std::alloc::Global;
 use std::process::Abort;
 use std::test::Fail;
+use test_samples::{begun, call_begins, call_ends};
 
 // Room for all that is drawn, so that the writer asks for no memory.
 const ROOM: usize = 1_000_000;

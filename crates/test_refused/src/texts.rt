@@ -3,7 +3,6 @@ use crate::same::check_same;
 use cell_audit::{AuditError, MigrateError, WriteError};
 use cell_diagnosis::Limits;
 use cell_lines::WriteFault;
-use test_samples::{ONE_PLATE, begun, call_begins, call_ends, one_plate_text};
 use cell_settings::SettingsError;
 use cell_sim::{FaultError, FaultScript, SimPort, World};
 use cell_turns::{Plan, Port};
@@ -13,6 +12,7 @@ use std::alloc::{AllocError, Global};
 use std::process::Abort;
 use std::sync::Mutex;
 use std::test::Fail;
+use test_samples::{ONE_PLATE, begun, call_begins, call_ends, one_plate_text};
 
 // Room for all that a call writes, so that the writer asks for no memory.
 const ROOM: usize = 10_000;

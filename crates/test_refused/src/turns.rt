@@ -8,7 +8,6 @@ ghost use Rattle.cell_ledger.specs.New.{AreBlank};
 use crate::same::check_same;
 use cell_diagnosis::{Limits, Reading};
 use cell_ledger::{Blanks, Kept, Run, Shares};
-use test_samples::{begun, call_begins, call_ends, entry_of};
 use cell_sim::{FaultScript, SimOperator, SimPort, World};
 use cell_turns::{OutOfMemory, Plan, Ran, Six, Step, TurnError, Watch, Watches};
 use cell_types::{Belt, Colour, Command, Entry, Machine, Totals};
@@ -17,6 +16,7 @@ use std::alloc::Global;
 use std::marker::Brand;
 use std::process::Abort;
 use std::sync::{Mutex, Wait};
+use test_samples::{begun, call_begins, call_ends, entry_of};
 
 // A plan of five plates, with 3 and 20 as limits of each motion.
 fn plan(rt: &impl Abort) -> Plan {

@@ -3,11 +3,11 @@ use crate::rounds::{read_case, told};
 use cell_audit::audit;
 use cell_lines::WriteFault;
 use cell_runs::follow_texts;
-use test_samples::FailingWriter;
 use std::process::Abort;
 use std::sync::Wait;
 use std::test::Fail;
 use std::thread::Threads;
+use test_samples::FailingWriter;
 
 // What is printed where a journal is followed by the three texts of its run, or what is booked then. It has to end with
 // this status.

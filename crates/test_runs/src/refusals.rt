@@ -2,11 +2,11 @@
 use crate::rounds::{read_case, told};
 use cell_lines::WriteFault;
 use cell_runs::run_texts;
-use test_samples::{FailingWriter, Unwilling};
 use std::process::Abort;
 use std::sync::Wait;
 use std::test::Fail;
 use std::thread::Threads;
+use test_samples::{FailingWriter, Unwilling};
 
 // A run in rounds or on threads, and whether its journal is wanted.
 const FORMS: [(bool, bool); 4] = [(false, false), (false, true), (true, false), (true, true)];

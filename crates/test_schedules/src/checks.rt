@@ -1,12 +1,12 @@
 //! What has to hold after each schedule. An error says what doesn't.
 use cell_audit::{audit, write_journal};
 use cell_journal::Journal;
-use test_samples::is_list_of;
 use cell_turns::{Ran, Six};
 use cell_types::{Actor, Machine};
 use plate_book::Book;
-use test_ports::{TellingHands, TellingPort, did, was_sent};
 use std::alloc::Global;
+use test_ports::{TellingHands, TellingPort, did, was_sent};
+use test_samples::is_list_of;
 
 /// Whether a book's journal, written as a text, is legal with the book's totals, and keeps the book's limits.
 pub(crate) fn is_lawful(

@@ -2,10 +2,10 @@
 use crate::random::Random;
 use crate::settings::Habits;
 use cell_diagnosis::Reading;
-use test_samples::{ONE_PLATE, entry_of};
 use cell_turns::{Port, Six, Step};
 use cell_types::{Cause, Entry, MACHINES, Machine, PlateId, STATIONS, machine_of_station};
 use plate_book::Book;
+use test_samples::{ONE_PLATE, entry_of};
 
 /// What the steps of a schedule are drawn from.
 #[derive(Clone, Copy)]

@@ -17,10 +17,10 @@ use cell_sim::{FaultScript, SimOperator, World};
 use cell_turns::{OperatorPort, Port, Ran, Six, Step, Watch};
 use cell_types::{Actor, Machine, Totals, actor_of};
 use plate_book::Book;
-use test_ports::{StillHands, StillPort, TellingHands, TellingPort, sim_ports};
 use std::marker::Brand;
 use std::process::Abort;
 use std::sync::{Mutex, Wait};
+use test_ports::{StillHands, StillPort, TellingHands, TellingPort, sim_ports};
 
 /// The first seed of all.
 const SEED: u64 = 0x5e_ed0f_5eed;

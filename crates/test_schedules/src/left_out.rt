@@ -14,10 +14,10 @@ use cell_turns::{OperatorPort, Plan, Port, Step};
 use cell_types::{MACHINES, Machine};
 use cell_workers::{End, end_at_rest, is_idle};
 use plate_book::Book;
-use test_ports::{Failing, sim_ports};
 use std::marker::Brand;
 use std::process::Abort;
 use std::sync::{Mutex, Wait};
+use test_ports::{Failing, sim_ports};
 
 /// How many entries the journal takes, and how many answers and commands a port keeps.
 const ROOM: u32 = 10_000;

@@ -4,8 +4,8 @@ use crate::stage::Devices;
 use cell_diagnosis::Limits;
 use cell_turns::Plan;
 use plate_book::Book;
-use test_ports::Failing;
 use std::process::Abort;
+use test_ports::Failing;
 
 /// How a schedule goes on. Rates are so many times in 1,024.
 #[derive(Clone, Copy)]

@@ -9,8 +9,8 @@ use cell_ledger::{Blanks, Kept, Run, Shares};
 use cell_turns::{OperatorPort, Plan, Port, Ran, Six, Step, Watch, Watches, run_schedule};
 use cell_types::Machine;
 use plate_book::Book;
-use test_ports::{Failing, TellingHands, TellingPort, telling_ports};
 use std::process::Abort;
+use test_ports::{Failing, TellingHands, TellingPort, telling_ports};
 
 /// How the devices fail, and what they keep.
 #[derive(Clone, Copy)]

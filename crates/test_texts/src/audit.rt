@@ -1,16 +1,16 @@
 //! The audit of texts, whole, cut and from readers that fail, and the writing of journals.
 use cell_audit::{AuditError, WriteError, audit, audit_text, write_journal};
 use cell_journal::Journal;
-use test_samples::{
-    FailingReader, FailingWriter, Interrupted, LAID_BACK, ONE_PLATE, Pieces, Unwilling, begun,
-    book_all, one_plate_text, text_of,
-};
 use cell_types::{Axis, Belt, Machine, Station, Totals};
 use plate_book::{Book, Refusal};
 use std::alloc::Global;
 use std::io;
 use std::io::Read;
 use std::process::Abort;
+use test_samples::{
+    FailingReader, FailingWriter, Interrupted, LAID_BACK, ONE_PLATE, Pieces, Unwilling, begun,
+    book_all, one_plate_text, text_of,
+};
 
 // What an audit answers: the profile with the totals, or why the text isn't legal.
 type Answer = Result<(u8, Totals), AuditError>;

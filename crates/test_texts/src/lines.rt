@@ -1,13 +1,13 @@
 //! What is printed for an audit of texts, and what readers and writers that fail leave of it.
 use crate::audit::{Begin, text_begun};
 use cell_lines::{WriteFault, audit_lines};
+use std::alloc::Global;
+use std::io::Read;
+use std::process::Abort;
 use test_samples::{
     FailingReader, FailingWriter, Interrupted, LAID_BACK, ONE_PLATE, Pieces, Unwilling,
     one_plate_text,
 };
-use std::alloc::Global;
-use std::io::Read;
-use std::process::Abort;
 
 // A case: its name, a text, the status, and the lines that are printed.
 type Case = (&'static str, &'static [u8], u8, &'static str);

@@ -2,10 +2,6 @@
 use crate::audit::{CARRIED, FOUR_ENTRIES, due_for_a_cut_text, judges};
 use cell_audit::{AuditError, MigrateError, migrate};
 use cell_lines::{WriteFault, migrate_lines};
-use test_samples::{
-    FailingReader, FailingWriter, Interrupted, LAID_BACK, ONE_PLATE, Pieces, Unwilling, entry_of,
-    one_plate_text, plate, text_of,
-};
 use cell_types::{AXES, BELTS, Belt, Entry, MACHINES, Totals, ZONES};
 use cell_views::{
     count_of, expected_of, holder_of, is_asked, is_failed, lamp_of, place_of, pose_of,
@@ -14,6 +10,10 @@ use plate_book::Refusal;
 use std::alloc::Global;
 use std::io::Read;
 use std::process::Abort;
+use test_samples::{
+    FailingReader, FailingWriter, Interrupted, LAID_BACK, ONE_PLATE, Pieces, Unwilling, entry_of,
+    one_plate_text, plate, text_of,
+};
 
 // What a migration answers: the totals, or why the text isn't migrated.
 type Answer = Result<Totals, MigrateError>;

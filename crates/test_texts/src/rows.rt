@@ -1,9 +1,9 @@
 //! The records of texts, read at once, byte by byte and in pieces, and readers that fail.
 use cell_rows::{Four, RowError, RowReader, Watched};
-use test_samples::{FailingReader, Interrupted, Pieces};
 use std::alloc::{AllocError, Global};
 use std::io::Read;
 use std::process::Abort;
+use test_samples::{FailingReader, Interrupted, Pieces};
 
 // A case: its name, a text, and the records of that. Each field has a bar after it, and each record a semicolon; a
 // question mark stands for a record that hasn't four fields, and a word at the end for an error.

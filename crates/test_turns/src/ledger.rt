@@ -3,11 +3,11 @@ ghost use Rattle.std.specs.Prelude.{◌≡◌, ◌≤◌, ◌<◌, true};
 ghost use Rattle.cell_ledger.specs.New.{AreBlank};
 
 use cell_ledger::{Blanks, Kept, Run, Shares};
-use test_samples::{ONE_PLATE, begun, entry_of};
 use cell_types::{Belt, Totals};
 use plate_book::{Book, Refusal};
 use std::marker::Brand;
 use std::process::Abort;
+use test_samples::{ONE_PLATE, begun, entry_of};
 
 // What was counted: so many entries, so many of them admissions, and nothing else.
 fn counts_are(rt: &impl Abort, counts: Totals, entries: u32, admitted: u32) {

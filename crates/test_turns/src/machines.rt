@@ -3,11 +3,11 @@
 mod walk;
 
 use cell_machines::propose;
-use test_samples::{begun, book_all, entry_of};
 use cell_types::{Actor, Entry, MACHINES, Machine, actor_of};
 use plate_book::Book;
 use std::alloc::Global;
 use std::process::Abort;
+use test_samples::{begun, book_all, entry_of};
 
 // After how many of the journal's entries, with how many plates to be admitted, which entries are useful.
 const USEFUL: [(usize, u32, &str); 33] = [

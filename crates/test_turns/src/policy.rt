@@ -1,10 +1,10 @@
 //! Worked examples: which press is chosen along the journal of one plate, and which lights are wanted.
 use cell_policy::{choose_press, deposit_light_wanted, feed_light_wanted};
-use test_samples::{LAID_BACK, ONE_PLATE, book_all};
 use cell_types::{Colour, Machine};
 use plate_book::Book;
 use std::alloc::Global;
 use std::process::Abort;
+use test_samples::{LAID_BACK, ONE_PLATE, book_all};
 
 // What is chosen or wanted by a book: a press; both lights, for so many plates; and the feed light alone.
 #[derive(Clone, Copy, Debug)]

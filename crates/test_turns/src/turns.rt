@@ -7,13 +7,13 @@ mod schedules;
 
 use cell_diagnosis::{Limits, Reading};
 use cell_ledger::{Blanks, Kept, Run, Shares};
-use test_samples::{LAID_BACK, Told, begun, book_all};
 use cell_turns::{Plan, TurnError, Watch, turn};
 use cell_types::{Belt, Colour, Command, Entry, Machine};
 use plate_book::{Book, Refusal};
 use std::alloc::Global;
 use std::marker::Brand;
 use std::process::Abort;
+use test_samples::{LAID_BACK, Told, begun, book_all};
 
 const FEED_GREEN: Command = Command::Lamp(Belt::Feed, Colour::Green);
 

@@ -1,10 +1,10 @@
 //! Worked examples: a plate that was cleared is expected at FeedIn, and laid back there.
 use crate::book::{all_answer, answers, book_of, book_records};
 use crate::cases::{entry, is_wanted, number, part, text_of};
-use test_samples::{LAID_BACK, ONE_PLATE, plate};
 use plate_book::Records;
 use std::alloc::{AllocError, Global};
 use std::process::Abort;
+use test_samples::{LAID_BACK, ONE_PLATE, plate};
 
 // Cases as in the module above.
 

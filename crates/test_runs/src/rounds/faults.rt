@@ -1,6 +1,5 @@
 //! Each motion of a run with each fault.
 use crate::rounds::{check_told, due_of, run_in_world};
-use test_samples::entries_of;
 use cell_types::texts::axis_word;
 use cell_types::{AXES, Entry};
 use cell_workers::End;
@@ -8,6 +7,7 @@ use std::alloc::AllocError;
 use std::process::Abort;
 use std::sync::Wait;
 use std::thread::Threads;
+use test_samples::entries_of;
 
 const TEN: &[u8] = b"plates = 10";
 

@@ -1,12 +1,12 @@
 //! Runs whose operator's hands fail.
 use cell_runs::{Inputs, Outcome, read_inputs, simulate};
-use test_samples::{CLEARED_PRESS, STUCK_PRESS};
 use cell_sim::{SimOperator, World};
 use cell_types::Machine;
 use cell_workers::End;
-use test_ports::{Failing, TellingHands};
 use std::process::Abort;
 use std::sync::{Mutex, Wait};
+use test_ports::{Failing, TellingHands};
+use test_samples::{CLEARED_PRESS, STUCK_PRESS};
 
 // What comes of a run of six plates in which the second press fails and is to be cleared and repaired by such hands.
 fn played<R: AllocGlobal + Wait + Abort>(rt: &R, removing: Failing, homing: Failing) -> Outcome {

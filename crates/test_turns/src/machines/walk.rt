@@ -1,11 +1,11 @@
 //! The machines' proposals alone carry plates through the cell, where each motion ends and each sign comes as soon as
 //! it can.
 use cell_machines::propose;
-use test_samples::entry_of;
 use cell_types::{AXES, Axis, Belt, Colour, Entry, MACHINES, Machine, PlateId, Pose, Station};
 use plate_book::Book;
 use std::alloc::Global;
 use std::process::Abort;
+use test_samples::entry_of;
 
 fn conveyed(book: &Book, axis: Axis, from: Station, dest: Station) -> Option<Entry> {
     let plate = book.plate_at(from)?;

@@ -11,14 +11,14 @@ use crate::turns::schedules::stage::Stage;
 use crate::turns::{plan_of, showing};
 use cell_diagnosis::Reading;
 use cell_ledger::{Blanks, Kept, Run};
-use test_samples::{LAID_BACK, begun, book_all, entry_of};
 use cell_turns::{Act, OperatorPort, Plan, Port, Ran, Six, Step, Watches, run_schedule};
 use cell_types::{Belt, Colour, Command, Entry, MACHINES, Machine, Station};
 use plate_book::Book;
-use test_ports::{Failing, StillHands, StillPort, TellingHands, TellingPort, telling_ports};
 use std::alloc::Global;
 use std::marker::Brand;
 use std::process::Abort;
+use test_ports::{Failing, StillHands, StillPort, TellingHands, TellingPort, telling_ports};
+use test_samples::{LAID_BACK, begun, book_all, entry_of};
 
 type MemoryPort = TellingPort<StillPort>;
 

@@ -2,13 +2,13 @@
 use crate::sim::looks::is_said;
 use cell_diagnosis::Reading;
 use cell_measures::Durations;
-use test_samples::entry_of;
 use cell_sim::{FaultScript, SimOperator, SimPort, World};
 use cell_turns::{OperatorPort, Port};
 use cell_types::texts::{read_axis, read_machine, read_station};
 use cell_types::{Command, Machine, command_of};
 use std::process::Abort;
 use std::sync::{Mutex, Wait};
+use test_samples::entry_of;
 
 /// A way in a new world: how many plates are laid in it at most, the script of its faults, and the way's parts. A part
 /// is a text of steps, parted by a semicolon and a blank:

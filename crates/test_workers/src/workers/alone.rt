@@ -6,13 +6,13 @@ use crate::workers::rooms::{ALL, NONE, Scene, Who, Work, play_in_room};
 use crate::workers::telling::check_sent;
 use cell_diagnosis::Reading;
 use cell_ledger::{Run, Shares};
-use test_samples::{call_begins, call_ends};
 use cell_sim::{SimPort, World};
 use cell_types::{Belt, Colour, Command, Entry, Machine};
 use cell_workers::{End, Ended, Plan, Port, PortFault, Room, Worked, run_worker};
-use test_ports::{Failing, TellingPort};
 use std::process::Abort;
 use std::sync::{Mutex, Wait};
+use test_ports::{Failing, TellingPort};
+use test_samples::{call_begins, call_ends};
 
 const ALL_BUT_FEED: [bool; 7] = [false, true, true, true, true, true, true];
 

@@ -5,10 +5,10 @@ use cell_diagnosis::Limits;
 use cell_sim::{SimOperator, World};
 use cell_workers::{OperatorPort, Plan, Port, Report, Six, run_cell};
 use operator_desk::Script;
-use test_ports::sim_ports;
 use std::process::Abort;
 use std::sync::{Mutex, Wait};
 use std::thread::Threads;
+use test_ports::sim_ports;
 
 /// As many entries or turns as any run of a test has room for.
 pub(crate) const AMPLE: u32 = 100_000;

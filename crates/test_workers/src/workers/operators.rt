@@ -4,12 +4,12 @@ use crate::workers::alone::Serving;
 use crate::workers::cell::{AMPLE, script_of};
 use crate::workers::rooms::{ALL, ALL_BUT_OPERATOR, NONE, Scene, Who, Work, play_in_room};
 use cell_ledger::{Run, Shares};
-use test_samples::{call_begins, call_ends};
 use cell_types::{Entry, Machine, Station};
 use cell_workers::{Act, End, Ended, OperatorPort, Plan, PortFault, Room, Worked, run_operator};
-use test_ports::Failing;
 use std::process::Abort;
 use std::sync::Wait;
+use test_ports::Failing;
+use test_samples::{call_begins, call_ends};
 
 const ALL_BUT_PRESS2: [bool; 7] = [true, true, true, true, false, true, true];
 

@@ -1,11 +1,11 @@
 //! What is to hold of a run's report.
 use crate::same::check_same;
 use cell_audit::{audit, write_journal};
-use test_samples::is_list_of;
 use cell_types::{Actor, Machine, Totals};
 use cell_views::count_of;
 use cell_workers::{End, Plan, Report};
 use std::process::Abort;
+use test_samples::is_list_of;
 
 /// The workers, in the order of a report.
 const ACTORS: [Actor; 7] = [

@@ -8,7 +8,6 @@ use crate::workers::cell::plan_of;
 use crate::workers::operators::{Hands, Operating, operate};
 use crate::workers::reports::sum_of;
 use cell_ledger::{Blanks, Kept, Run, Shares};
-use test_samples::entry_of;
 use cell_types::{Entry, Totals};
 use cell_views::count_of;
 use cell_workers::{End, Ended, Hall, Plan, Room, Worked};
@@ -16,6 +15,7 @@ use plate_book::Book;
 use std::marker::Brand;
 use std::process::Abort;
 use std::sync::{Condvar, Mutex, Wait};
+use test_samples::entry_of;
 
 /// All seven workers.
 pub(crate) const ALL: [bool; 7] = [true; 7];

@@ -1,11 +1,11 @@
 //! Worked runs of the simulated cell on threads.
 use crate::workers::cell::{AMPLE, plan_of, run_world};
 use crate::workers::reports::check_end;
-use test_samples::{CLEARED_PRESS, STUCK_PRESS};
 use cell_workers::End;
 use std::process::Abort;
 use std::sync::Wait;
 use std::thread::Threads;
+use test_samples::{CLEARED_PRESS, STUCK_PRESS};
 
 // A run: how many plates there are, how many turns each worker has, the scripts of faults and of the operator, how the
 // run ends, and what it counts: admitted, forged, quarantined, delivered.

@@ -1,8 +1,8 @@
 //! What a machine's port was asked in a whole run.
 use crate::same::check_same;
 use cell_types::{Command, Entry, Machine};
-use test_ports::{TellingPort, was_sent};
 use std::process::Abort;
+use test_ports::{TellingPort, was_sent};
 
 /// Checks what a machine's port was asked in a whole run in which the machine's worker booked this list: the commands
 /// of its entries in their order, and then to switch all off, but for those at which it failed. The port gave at least

@@ -7,13 +7,13 @@ ghost use Rattle.cell_ledger.specs.New.{AreBlank};
 
 use crate::turns::told_by;
 use cell_ledger::{Blanks, Kept, Run, Shares};
-use test_samples::Told;
 use cell_turns::{OperatorPort, Plan, Port, Ran, Six, Step, Watch, Watches, run_schedule};
 use cell_types::{Machine, Totals};
 use plate_book::Book;
-use test_ports::TellingPort;
 use std::alloc::Global;
 use std::process::Abort;
+use test_ports::TellingPort;
+use test_samples::Told;
 
 /// What schedules go on over.
 #[derive(Drop)]
