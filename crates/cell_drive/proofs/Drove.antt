@@ -1,5 +1,5 @@
 -- What a run by entries has written
-use Rattle.std.proofs.Common.{◌≡◌, ◌∙◌, ◌<◌, ℕ, List, ◌++◌, Bool, true, Option, Result, Ok, Err, IfOk, IsOk, subst}
+use Rattle.std.proofs.Common.{◌≡◌, ◌∙◌, ◌<◌, ℕ, List, ◌++◌, Bool, true, Option, Result, Ok, Err, IfOk, IsOk, OnOk, subst}
 use Rattle.std.specs.Io.KnownBytes.{Appends}
 use Rattle.std.proofs.KnownBytes.{Appends-trans}
 use Rattle.std.proofs.lemmas.Result.{IfOk-at_ok}
@@ -24,6 +24,12 @@ of-ok (Err e) ok q = cc
 pub of-status : {E D : Type 0} (r : Result ℕ E) (status : ℕ) → (status < 3 → r ≡ Ok status) → IfOk r (λ s. s < 3 → D)
     → status < 3 → D
 of-status {D = D} r status same h few = IfOk-at_ok (λ s. s < 3 → D) (same few) h few
+
+-- what follows from what was told and from a status below 3, of a run that was told
+pub of-told : {E Q D : Type 0} {P : List ℕ → Type 0} (r : Result ℕ E) → OnOk r ((text : List ℕ) × P text)
+    → IfOk r (λ s. s < 3 → Q) → (Q → (text : List ℕ) → P text → D) → IfOk r (λ s. s < 3 → D)
+of-told (Ok s) told few go = λ h. go (few h) told.0 told.1
+of-told (Err e) told few go = tt
 
 -- a run that was driven from the opening, between the first line and what is told of it
 pub drove : {P : Type 0} (tells : P → Bool) (log : P → Log) (plan : Plan) (script : List Line) (s : Stand)

@@ -1,5 +1,6 @@
 //! A run by entries.
-ghost use Rattle.std.specs.Prelude.{◌≡◌, ◌≢◌, ◌<◌, [], IfOk, IsOk};
+ghost use Rattle.std.specs.Prelude.{◌≡◌, ◌≢◌, ◌<◌, [], ℕ, List, IfOk, IsOk, OnOk};
+ghost use Rattle.std.specs.Io.KnownBytes.{Appends};
 ghost use Rattle.cell_runs.specs.Runs.{limits_of};
 ghost use Rattle.cell_method.specs.Lines.{lines_left};
 ghost use Rattle.cell_drive.specs.Drives.{DrivesEntries};
@@ -83,6 +84,35 @@ fn empty_book(alloc: Global, plan: &Plan) -> Result<Book, DriveError>
     }
 }
 
+// Tells what came of a run that ended so, and gives its status.
+fn tell_run<R: AllocGlobal + Wait, W: Write, E: Write>(
+    rt: &R,
+    told: Told,
+    end: DriveEnd,
+    book: &Book,
+    looker: &mut Looker<'_, R>,
+    world: &Mutex<World>,
+    durations: &Durations,
+    writer: &mut W,
+    errors: &mut E,
+) -> Result<u8, DriveError>
+    ensures told { OnOk result ((text : List ℕ) × Appends (W.contents writer.old) (W.contents writer.new) text) }
+    ensures memory { IfOk result (λ status. status < 3 → end ≢ DriveEnd.Memory) }
+{
+    let alloc = rt.alloc();
+    let Ok(text) = told_of(alloc, rt, end, book, looker, world, durations) else {
+        return Err(DriveError::OutOfMemory);
+    };
+    write_told(writer, text.as_slice())?;
+    if told.explain {
+        explain(rt, looker, world, errors)?;
+    }
+    if told.journal && write_journal(alloc, book.journal(), errors).is_err() {
+        return Err(DriveError::WriteFault);
+    }
+    Ok(status_of(end, is_in_order(rt, looker, world)))
+}
+
 /// Lets a method drive the simulated cell by entries, tells what came of it, and gives the status.
 pub(crate) fn drive_entries<R: AllocGlobal + Wait, I: TellsFault, W: Write, E: Write>(
     rt: &R,
@@ -120,15 +150,15 @@ pub(crate) fn drive_entries<R: AllocGlobal + Wait, I: TellsFault, W: Write, E: W
         &mut looker,
     );
     let end = end_of(ran, looker.lacks_memory())?;
-    let Ok(text) = told_of(alloc, rt, end, &book, &mut looker, &world, &durations) else {
-        return Err(DriveError::OutOfMemory);
-    };
-    write_told(writer, text.as_slice())?;
-    if told.explain {
-        explain(rt, &looker, &world, errors)?;
-    }
-    if told.journal && write_journal(alloc, book.journal(), errors).is_err() {
-        return Err(DriveError::WriteFault);
-    }
-    Ok(status_of(end, is_in_order(rt, &looker, &world)))
+    tell_run(
+        rt,
+        told,
+        end,
+        &book,
+        &mut looker,
+        &world,
+        &durations,
+        writer,
+        errors,
+    )
 }
