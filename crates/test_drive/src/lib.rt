@@ -1,4 +1,5 @@
-//! The tests of `cell_method` and `cell_drive`: a method drives the simulated cell by the lines that it writes.
+//! The tests of `cell_method` and `cell_drive`, in which a method drives the simulated cell by the lines that it writes,
+//! and of `cell_sweep`.
 #![tactic(auto)]
 
 #[cfg(test)]
@@ -11,3 +12,5 @@ mod hostile;
 mod own;
 #[cfg(test)]
 mod sample;
+#[cfg(test)]
+mod sweep;

@@ -1,10 +1,13 @@
-//! The tests of `cell_sentences`, `cell_explain` and `cell_endings`, and of what is read of a journal's text.
+//! The tests of `cell_sentences`, `cell_explain`, `cell_endings` and `cell_reading`, and of what is read of a journal's
+//! text.
 #![tactic(auto)]
 
 #[cfg(test)]
 mod endings;
 #[cfg(test)]
 mod journals;
+#[cfg(test)]
+mod reading;
 #[cfg(test)]
 mod readings;
 #[cfg(test)]

@@ -1,5 +1,5 @@
 //! The tests of `cell_runs`: runs of the simulated cell by their texts, in rounds on one thread and by workers on
-//! threads.
+//! threads; and hostile schedules of turns over it.
 #![tactic(auto)]
 
 #[cfg(test)]
@@ -8,5 +8,7 @@ mod follow;
 mod refusals;
 #[cfg(test)]
 mod rounds;
+#[cfg(test)]
+mod schedules;
 #[cfg(test)]
 mod threads;

@@ -1,8 +1,10 @@
-//! The tests of `cell_rows`, `cell_audit` and `cell_lines`, each in the module of its crate.
+//! The tests of `cell_rows`, `cell_audit`, `cell_lines`, `operator_desk` and `cell_settings`.
 #![tactic(auto)]
 
 #[cfg(test)]
 mod audit;
+#[cfg(test)]
+mod desk;
 #[cfg(test)]
 mod endless;
 #[cfg(test)]
@@ -11,3 +13,5 @@ mod lines;
 mod migration;
 #[cfg(test)]
 mod rows;
+#[cfg(test)]
+mod settings;
