@@ -100,6 +100,7 @@ fn tell_run<R: AllocGlobal + Wait, W: Write, E: Write>(
     ensures memory { IfOk result (λ status. status < 3 → end ≢ DriveEnd.Memory) }
 {
     let alloc = rt.alloc();
+    let status = status_of(end, is_in_order(rt, looker, world));
     let Ok(text) = told_of(alloc, rt, end, book, looker, world, durations) else {
         return Err(DriveError::OutOfMemory);
     };
@@ -110,7 +111,7 @@ fn tell_run<R: AllocGlobal + Wait, W: Write, E: Write>(
     if told.journal && write_journal(alloc, book.journal(), errors).is_err() {
         return Err(DriveError::WriteFault);
     }
-    Ok(status_of(end, is_in_order(rt, looker, world)))
+    Ok(status)
 }
 
 /// Lets a method drive the simulated cell by entries, tells what came of it, and gives the status.
