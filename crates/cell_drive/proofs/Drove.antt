@@ -1,5 +1,6 @@
 -- What a run by entries has written
-use Rattle.std.proofs.Common.{◌≡◌, ◌∙◌, ◌<◌, ℕ, List, ◌++◌, Bool, true, Option, Result, Ok, Err, IfOk, IsOk, OnOk, subst}
+use Rattle.std.proofs.Common.{◌≡◌, ◌∙◌, ◌<◌, ℕ, List, ◌++◌, Bool, true, Option, Result, Ok, Err}
+use Rattle.std.proofs.Common.{IfOk, IsOk, OnOk, subst}
 use Rattle.std.specs.Io.KnownBytes.{Appends}
 use Rattle.std.proofs.KnownBytes.{Appends-trans}
 use Rattle.std.proofs.lemmas.Result.{IfOk-at_ok}

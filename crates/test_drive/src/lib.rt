@@ -1,5 +1,5 @@
-//! The tests of `cell_method` and `cell_drive`, in which a method drives the simulated cell by the lines that it writes,
-//! and of `cell_sweep`.
+//! The tests of `cell_method` and `cell_drive`, in which a method drives the simulated cell by the lines that it
+//! writes, and of `cell_sweep`.
 #![tactic(auto)]
 
 #[cfg(test)]
