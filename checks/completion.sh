@@ -2,13 +2,7 @@
 # Prints the completion of cellctl's words for bash, made of the program's own help texts. docs/cellctl.bash is what it prints.
 # Usage: checks/completion.sh > docs/cellctl.bash     Build the program first: ./cellctl --prove does. CELLCTL names another one.
 set -euo pipefail
-here=$(cd "$(dirname "$0")/.." && pwd)
-cellctl=${CELLCTL:-$here/crates/cellctl/out/cellctl}
-
-# The commands that the help of the program lists.
-commands() {
-    "$cellctl" --help | awk '/^Commands:/ { on = 1; next } /^[^ ]/ { on = 0 } on && NF { print $1 }'
-}
+source "$(dirname "$0")/helps.sh"
 
 # The options that the help of a command lists, one a line: `--file FILE` and `-f FILE` of one with a value, `--help` of a flag.
 options() {

@@ -2,13 +2,7 @@
 # Prints the manual page of cellctl, made of the program's own help texts. docs/cellctl.1 is what it prints.
 # Usage: checks/man.sh > docs/cellctl.1     Build the program first: ./cellctl --prove does. CELLCTL names another one.
 set -euo pipefail
-here=$(cd "$(dirname "$0")/.." && pwd)
-cellctl=${CELLCTL:-$here/crates/cellctl/out/cellctl}
-
-# The commands that the help of the program lists, but for `help` itself.
-commands() {
-    "$cellctl" --help | awk '/^Commands:/ { on = 1; next } /^[^ ]/ { on = 0 } on && NF && $1 != "help" { print $1 }'
-}
+source "$(dirname "$0")/helps.sh"
 
 # The lines of a help text that say how the program is called.
 usage_of() {
@@ -59,13 +53,13 @@ cat << END
 cellctl \\- run a simulated production cell, and judge, draw and explain its journals
 .SH SYNOPSIS
 END
-for command in $(commands); do
+for command in $(commands | grep -vx help); do
     "$cellctl" "$command" --help | usage_of
 done
 echo '.SH DESCRIPTION'
 "$cellctl" --help | roff_of
 echo '.SH COMMANDS'
-for command in $(commands); do
+for command in $(commands | grep -vx help); do
     echo ".SS cellctl $command"
     "$cellctl" "$command" --help | roff_of
 done
