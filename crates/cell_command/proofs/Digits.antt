@@ -9,6 +9,7 @@ use Rattle.std.proofs.lemmas.Grind.{common_steps}
 use Rattle.std.proofs.lemmas.Str.{digit_value_digit}
 use Rattle.std.proofs.lemmas.Str.Parse.{digit_from_value}
 
+-- a word is tested character by character, but which number it writes is said by the digits' values
 pub digit-tested : (c : ℕ) → digit_value c < 10 → is_ascii_digit c ≡ true
 digit-tested c h = let r : IsInRange 48 57 c = digit_from_value c h in grind (arith, common_steps)
 

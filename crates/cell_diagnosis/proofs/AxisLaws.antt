@@ -18,6 +18,7 @@ use Rattle.cell_diagnosis.specs.AxisWatches.{facts_of, last_facts, ruling, Fits}
 use Rattle.cell_diagnosis.proofs.EndLaws.{all_snoc, any_snoc, length_snoc, one_snoc, two_snoc, three_snoc, before_snoc}
 use Rattle.cell_diagnosis.proofs.VerdictLaws.{after_snoc}
 
+-- these facts are of the last reading alone, so what came before plays no part
 facts_snoc : (m : Motion) (L : List Seen) (r : Seen) → last_facts m (L ++ r ∷ []) ≡ facts_of m r
 unfolding last_facts
 facts_snoc m L r =
@@ -38,9 +39,11 @@ arrived_snoc : (m : Motion) (L : List Seen) (r : Seen)
 unfolding has_arrived
 arrived_snoc m L r = rw (one_snoc (shows_alone m.to) L r, before_snoc L r)
 
+-- the watch's count stops at 65535, but while it is small it is the number of readings
 second : (k : ℕ) → (k + 1 == 2) ≡ (min k 65535 == 1)
 second k = grind (arith, nat_tests)
 
+-- the rules ask for numbers up to 1000, far below where the watch stops counting
 at_number : (k n : ℕ) → n ≤ 1000 → (k + 1 == n) ≡ (min k 65535 + 1 == n)
 at_number k n h = grind (arith, nat_tests)
 
@@ -80,6 +83,7 @@ late_snoc : (m : Motion) (L : List Seen) (r : Seen) → m.limits.limit ≤ 1000
 unfolding is_late
 late_snoc m L r h = rw (length_snoc L r) (at_number (length L) m.limits.limit h)
 
+-- of the earlier readings each rule asks only what the watch keeps of them
 judged_snoc : (w : AxisWatch) (L : List Seen) (r : Seen) → w.motion.limits.leave ≤ 1000
     → w.motion.limits.limit ≤ 1000 → Fits w L → judged w.motion (L ++ r ∷ []) ≡ ruling w (facts_of w.motion r)
 unfolding judged last_facts
@@ -114,6 +118,7 @@ verdict_note w L r next ruled answer e1 e2 e3 h k f =
     e3 ∙ ap (then_verdict w.verdict) (e2 ∙ ap (ruling w) e1 ∙ sym (judged_snoc w L r h k f))
     ∙ rw (f.verdict) (sym (verdict_snoc w.motion L r))
 
+-- a count that has stopped stays where it is
 count_more : (k : ℕ) → min (k + 1) 65535 ≡ min (min k 65535 + 1) 65535
 count_more k = omega arith
 

@@ -60,6 +60,7 @@ le_zero k = grind (arith, nat_tests)
 minus_zero : (k : ℕ) → k - 0 ≡ k
 minus_zero k = omega arith
 
+-- for the case of one item: nothing is asked of those before it
 none_are : {X : Type 0} (p : X → Bool) (L : List X) → last_are 0 p L ≡ true
 unfolding last_are
 none_are p L = rw (le_zero (length L), minus_zero (length L), drop_all L)

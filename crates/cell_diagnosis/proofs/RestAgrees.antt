@@ -27,6 +27,7 @@ quiet several = record {
   strange = false ∷ false ∷ false ∷ [];
 }
 
+-- to agree settles every fact but which axes show several switches, as not every axis is looked at
 pub agreeing_facts : (n : Noted) → agrees n ≡ true → quiet (of_three (λ j. shows_several_at j n)) ≡ rest_facts_of n
 unfolding agrees
 agreeing_facts n agreed =

@@ -20,6 +20,7 @@ use Rattle.cell_diagnosis.proofs.RestAgrees.{agreeing_facts}
 use Rattle.cell_diagnosis.proofs.EndLaws.{one_snoc, two_snoc, three_snoc}
 use Rattle.cell_diagnosis.proofs.VerdictLaws.{after_snoc}
 
+-- these facts are of the last reading alone, so what came before plays no part
 facts_snoc : (L : List Noted) (n : Noted) → last_rest_facts (L ++ n ∷ []) ≡ rest_facts_of n
 unfolding last_rest_facts
 facts_snoc L n =
@@ -67,6 +68,7 @@ plate_snoc L n =
       two_snoc (is_strange 2) L n,
     )
 
+-- of the earlier readings each rule asks only what the watch keeps of them
 judged_snoc : (L : List Noted) (n : Noted)
     → judged_at_rest (L ++ n ∷ []) ≡ rest_ruling (last_are 2 is_unread L) (last_rest_facts L) (rest_facts_of n)
 unfolding judged_at_rest last_rest_facts
@@ -118,6 +120,7 @@ pub agreeing_is_no_fault : (both : Bool) (last next : RestFacts) (n : Noted) →
 agreeing_is_no_fault both last next n e h = rw (e ∙ sym (agreeing_facts n (agreed_at next (rest_facts_of n) e h)))
     (simp and_false refl)
 
+-- a reading at which no rule applies leaves the verdict as it was
 then_pending : (v : Verdict) → v ≡ then_verdict v Pending
 then_pending Pending = refl
 then_pending Arrived = refl
@@ -151,6 +154,7 @@ kept_note w e (Some x) new next is same h = rw same is
 kept_note w e None new next is same h = let never : false ≡ true =
     agreed_at next (rest_facts_of (noted_by w e None)) is h in cc
 
+-- a reading that agrees isn't missing, so it ends any row of missing ones
 pub present_note : (w : RestWatch) (n : Noted) (next : RestFacts) → next ≡ rest_facts_of n → next.agrees ≡ true
     → (w.last.missing && next.missing) ≡ false
 present_note w n next is h = rw (agreeing_is_there n next is h) (and_false w.last.missing)

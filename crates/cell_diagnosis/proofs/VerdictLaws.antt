@@ -6,6 +6,7 @@ use Rattle.cell_diagnosis.specs.declared.verdict.Verdict.{Verdict}
 use Rattle.cell_diagnosis.specs.declared.verdict.Verdict.TheVariants.{Pending, Arrived, Fault}
 use Rattle.cell_diagnosis.specs.Verdicts.{then_verdict, verdict_after, IsFirstDecided, IsNeverDecided}
 
+-- the verdict is defined from the first reading on, but a watch adds the newest one at the end
 then_assoc : (a b c : Verdict) → then_verdict (then_verdict a b) c ≡ then_verdict a (then_verdict b c)
 then_assoc Pending b c = refl
 then_assoc Arrived b c = refl
@@ -16,6 +17,7 @@ then_pending Pending = refl
 then_pending Arrived = refl
 then_pending (Fault x) = refl
 
+-- so a watch needs only its last answer and what the rules say at the new reading
 pub after_snoc : {X : Type 0} (judge : List X → Verdict) (before L : List X) (r : X)
     → verdict_after judge before (L ++ r ∷ [])
     ≡ then_verdict (verdict_after judge before L) (judge ((before ++ L) ++ r ∷ []))
@@ -30,12 +32,14 @@ then_stays Pending b h = absurd (h refl)
 then_stays Arrived b h = refl
 then_stays (Fault c) b h = refl
 
+-- either the first verdict stands already, or it is up to the second, which stays
 then_after : (a b c : Verdict) → (b ≢ Pending → c ≡ b) → then_verdict a b ≢ Pending
     → then_verdict a c ≡ then_verdict a b
 then_after Pending b c f h = f h
 then_after Arrived b c f h = refl
 then_after (Fault x) b c f h = refl
 
+-- what decides comes before the readings that are added, so these are never asked
 pub after_stays : {X : Type 0} (judge : List X → Verdict) (before L M : List X)
     → verdict_after judge before L ≢ Pending
     → verdict_after judge before (L ++ M) ≡ verdict_after judge before L
@@ -54,6 +58,7 @@ moved : {X : Type 0} (judge : List X → Verdict) (before : List X) (x : X) (L :
     → judge ((before ++ x ∷ []) ++ take (suc i) L) ≡ judge (before ++ take (suc (suc i)) (x ∷ L))
 moved judge before x L i = ap judge (append_assoc before (x ∷ []) (take (suc i) L))
 
+-- without the first item each of the others stands one place lower
 first_in_rest : {X : Type 0} (judge : List X → Verdict) (before : List X) (x : X) (L : List X) (i : ℕ)
     → IsFirstAfter judge before (x ∷ L) (suc i) → IsFirstAfter judge (before ++ x ∷ []) L i
 first_in_rest judge before x L i f = record {
@@ -62,6 +67,7 @@ first_in_rest judge before x L i f = record {
   pending_before = λ j below. moved judge before x L j ∙ f.pending_before (suc j) (omega arith);
 }
 
+-- at all items before it the judge says Pending, and these are passed over
 pub first_after : {X : Type 0} (judge : List X → Verdict) (before L : List X) (i : ℕ)
     → IsFirstAfter judge before L i → verdict_after judge before L ≡ judge (before ++ take (suc i) L)
 first_after judge before [] i f = absurd (omega (arith, f.within))
@@ -126,6 +132,7 @@ here_or_later judge before x L Pending e h find = later judge before x L e (find
 here_or_later judge before x L Arrived e h find = here judge before x L (λ p. h (sym e ∙ p))
 here_or_later judge before x L (Fault c) e h find = here judge before x L (λ p. h (sym e ∙ p))
 
+-- goes on to the next item for as long as the judge says Pending
 some_after : {X : Type 0} (judge : List X → Verdict) (before L : List X)
     → verdict_after judge before L ≢ Pending → (i : ℕ) × IsFirstAfter judge before L i
 some_after judge before [] h = absurd (h refl)

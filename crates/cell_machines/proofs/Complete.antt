@@ -1,4 +1,4 @@
--- All that a machine is_bookable want is among its candidates
+-- All that a machine can want is among its candidates
 use Rattle.std.proofs.Common.{◌≡◌, ℕ, Bool, true, false, not, ◌&&◌, Option, Some, None, List, [], ◌∷◌, ◌++◌, refl, sym}
 use Rattle.std.proofs.Common.{subst, ap, ◌∙◌, arith}
 use Rattle.std.specs.Prelude.{map, is_some, if◌then◌else◌, ◌==◌, IfSome, IfNone}
@@ -41,6 +41,7 @@ tail_useless : (b : Bool) (e : Entry) (o : Option Entry) → (if b then Some e e
 tail_useless true e o h = cc
 tail_useless false e o h = h
 
+-- the search goes through the whole list before it finds nothing
 none_useful_of : (l : BookLimits) (c : Situation) (plan : ℕ) (m : Machine) (es : List Entry)
     → first_bookable l c (map (row l c plan m) es) ≡ None → NoneUseful l c plan m es
 unfolding first_bookable is_useful_now
@@ -52,6 +53,7 @@ useful_if : (b : Bool) (x e : Entry) (o : Option Entry) (P : Entry → Type 0) �
 useful_if true x e o P p q h = let s : x ≡ e = cc in rw s at (p refl)
 useful_if false x e o P p q h = q h
 
+-- what the search finds has passed both tests: it is wanted, and it is bookable
 found_useful : (l : BookLimits) (c : Situation) (plan : ℕ) (m : Machine) (es : List Entry) (e : Entry)
     → first_bookable l c (map (row l c plan m) es) ≡ Some e → is_useful_now l c plan m e ≡ true
 unfolding first_bookable is_useful_now
@@ -59,6 +61,7 @@ found_useful l c plan m [] e h = cc
 found_useful l c plan m (x ∷ xs) e h = useful_if _ x e _ (λ (y : Entry). is_useful_now l c plan m y ≡ true) (λ p. p)
     (found_useful l c plan m xs e) h
 
+-- all that the machine may ever want is among its candidates; anything else it doesn't want by definition
 feed_complete : (l : BookLimits) (c : Situation) (plan : ℕ)
     → NoneUseful l c plan machine.Feed (candidates c machine.Feed) → (e : Entry)
     → is_useful_now l c plan machine.Feed e ≡ false
@@ -166,6 +169,7 @@ unfolding handings
 handings2_useless l c plan h = useless_three l c plan machine.Robot (grips c arm.Arm2 station.Press1)
     (grips c arm.Arm2 station.Press2) (drops c arm.Arm2 station.DepIn) h
 
+-- a number is either that of the plate that is there, or it isn't and must be dealt with apart
 at_plate : (P : ℕ → Type 0) (j k : ℕ) (b : Bool) → b ≡ (j == k) → P j → (b ≡ false → P k) → P k
 at_plate P j k true e p q = let same : j ≡ k = grind (arith, nat_tests) in subst P same p
 at_plate P j k false e p q = q refl
@@ -184,6 +188,7 @@ not_there : (b p m : Bool) → p ≡ false → ((b && p) && m) ≡ false
 not_there true p m e = rw e refl
 not_there false p m e = refl
 
+-- the list has a grip of the plate at the station alone, but no other plate can be gripped there
 grip_useless : (l : BookLimits) (c : Situation) (plan : ℕ) (x : Arm) (s : Station) (k : ℕ) → grips_at x s ≡ true
     → NoneUseful l c plan machine.Robot (of_plate (λ j. Gripped x j s) (c.plate s))
     → is_useful_now l c plan machine.Robot (Gripped x k s) ≡ false
@@ -199,6 +204,7 @@ drop_useless l c plan x s k g h = plate_useless l c plan (λ j. Dropped x j s) (
     (λ e. rw g (not_there (is_out_at c x s) (is_plate k (c.plate (station_of_arm x))) (is_bookable l c (Dropped x k s))
     e))
 
+-- entries without a plate are looked up; a grip or a drop must be shown for every number
 robot_clauses : (l : BookLimits) (c : Situation) (plan : ℕ) → NoneUseful l c plan machine.Robot (handings c arm.Arm1)
     → NoneUseful l c plan machine.Robot (handings c arm.Arm2)
     → NoneUseful l c plan machine.Robot (arms_in ++ (yields ++ (arms_out ++ (turns ++ claims)))) → (e : Entry)
@@ -255,6 +261,7 @@ complete l c plan machine.Press1 h e = press1_complete l c plan h e
 complete l c plan machine.Press2 h e = press2_complete l c plan h e
 complete l c plan machine.Deposit h e = deposit_complete l c plan h e
 
+-- the candidates are all that may be useful, so having looked through them is enough
 pub none_useful : (l : BookLimits) (c : Situation) (plan : ℕ) (m : Machine) (o : Option Entry)
     → o ≡ first_bookable l c (rows l c plan m) → IfNone o ((e : Entry) → is_useful_now l c plan m e ≡ false)
 unfolding rows
@@ -271,6 +278,7 @@ not_some : (o : Option Entry) → is_some o ≡ false → o ≡ None
 not_some None h = refl
 not_some (Some e) h = cc
 
+-- for a grip or a drop, what the arm wants is what the robot wants
 handings_useless : (l : BookLimits) (c : Situation) (plan : ℕ) (x : Arm) → has_handing l c x ≡ false
     → NoneUseful l c plan machine.Robot (handings c x)
 handings_useless l c plan x h =
@@ -278,6 +286,7 @@ handings_useless l c plan x h =
     not_some _ (has_handing_law l c x ∙ h) in
     none_useful_of l c plan machine.Robot (handings c x) (ap (first_bookable l c) (sym (handing_rows l c x)) ∙ empty)
 
+-- where the arm doesn't grip at a station, the grip is never wanted; else it is in the list
 no_grip : (l : BookLimits) (c : Situation) (plan : ℕ) (x : Arm) → NoneUseful l c plan machine.Robot (handings c x)
     → (k : ℕ) (s : Station) → is_useful_now l c plan machine.Robot (Gripped x k s) ≡ false
 unfolding is_useful_now
@@ -305,6 +314,7 @@ idle_of true true b h = cc
 idle_of true false b h = refl
 idle_of false g b h = cc
 
+-- an arm is drawn in only when it has nothing more to do where it is out
 draw_in_idle : (l : BookLimits) (c : Situation) (plan : ℕ) (x : Arm)
     → is_useful_now l c plan machine.Robot (Started (axis_of_arm x) pose.In) ≡ true → has_handing l c x ≡ false
 unfolding is_useful_now

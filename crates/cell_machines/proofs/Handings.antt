@@ -44,15 +44,18 @@ unfolding first_bookable
 some_bookable l c [] = refl
 some_bookable l c (e ∷ es) = some_if _ _ e _ (some_bookable l c es)
 
+-- so the entry that was found for an arm also tells whether it has something to hand on
 pub has_handing_law : (l : BookLimits) (c : Situation) (x : Arm)
     → is_some (first_bookable l c (map (handing_row c) (handings c x))) ≡ has_handing l c x
 unfolding has_handing
 has_handing_law l c x = some_bookable l c (handings c x)
 
+-- for the plate that is there, at a station that fits, the only open question is whether the arm is out there
 three : (g h b : Bool) (k : ℕ) (o : Option ℕ) → g ≡ true → o ≡ Some k → b ≡ h → b ≡ (g && (h && is_plate k o))
 three g h b k None eg eo eb = cc
 three g h b k (Some j) eg eo eb = grind (arith, nat_tests)
 
+-- once the plate is known, it is enough to ask whether the arm is out at its station
 pub grip_law : (l : BookLimits) (c : Situation) (x : Arm) (s : Station) (k : ℕ) (b : Bool) → grips_at x s ≡ true
     → c.plate s ≡ Some k → b ≡ is_out_at c x s
     → first_bookable l c ((b, Gripped x k s) ∷ [])
@@ -92,6 +95,7 @@ drop_rows : (l : BookLimits) (c : Situation) (x : Arm) (s : Station) (o : Option
 drop_rows l c x s None = refl
 drop_rows l c x s (Some k) = refl
 
+-- so the entry that was found for an arm can stand in the robot's list
 pub handing_rows : (l : BookLimits) (c : Situation) (x : Arm)
     → map (handing_row c) (handings c x) ≡ map (robot_row l c) (handings c x)
 unfolding handings
@@ -115,6 +119,7 @@ pub joined : (l : BookLimits) (c : Situation) (f : Entry → Bool × Entry) (xs 
 joined l c f xs ys a b ea eb = ap (λ (o : Option Entry). option_or o b) ea
     ∙ ap (λ (o : Option Entry). option_or (first_bookable l c (map f xs)) o) eb ∙ bookable_append l c f xs ys
 
+-- the three entries are looked for one by one, and then the first of them counts
 pub handings1_law : (l : BookLimits) (c : Situation) (o p q : Option Entry)
     → o ≡ first_bookable l c (map (handing_row c)
     (of_plate (λ k. Gripped arm.Arm1 k station.Table) (c.plate station.Table)))

@@ -19,6 +19,7 @@ use Rattle.cell_machines.specs.Room.{is_none_or_full, is_bookable, lacks_its_nee
 abbrev pub Refuses : List (Bool × Refusal) → Type 0
 Refuses ts = is_none_or_full (first_true ts) ≡ false
 
+-- the journal's room is tested before all else, so where there is room the other tests decide
 room : (b : Bool) (ts : List (Bool × Refusal)) → b ≡ false → Refuses ts → Refuses ((b, JournalFull) ∷ ts)
 unfolding first_true
 room true ts e h = cc
@@ -38,6 +39,7 @@ unfolding first_true
 at true r ts e h = e
 at false r ts e h = cc
 
+-- one of the entry's tests is for its need, and so this test refuses, or one before it
 pub needs_law : (l : BookLimits) (c : Situation) (e : Entry) → lacks_its_need c e ≡ true
     → is_full l.entries c.entries e ≡ false → is_bookable l c e ≡ false
 unfolding is_bookable

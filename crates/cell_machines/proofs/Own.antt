@@ -16,6 +16,7 @@ use Rattle.cell_views.specs.Situations.{Situation, situation_of}
 use Rattle.cell_machines.specs.Room.{is_bookable, is_none_or_full}
 use Rattle.cell_machines.specs.Useful.{wants, is_useful_now, is_useful, is_lamp}
 
+-- what a machine wants is listed entry by entry, and each one listed is its own
 own_feed : (l : BookLimits) (c : Situation) (plan : ℕ) (e : Entry) → wants l c plan machine.Feed e ≡ true
     → machine_of_entry e ≡ Some machine.Feed
 own_feed l c plan (Lamp belt.Feed to) h = refl
@@ -87,6 +88,7 @@ none_or_full_is None h = inl refl
 none_or_full_is (Some JournalFull) h = inr refl
 none_or_full_is (Some _) h = cc
 
+-- so no machine does what is another's to do
 pub useful_own : (l : BookLimits) (J : List Entry) (plan : ℕ) (m : Machine) (e : Entry) → is_useful l J plan m e ≡ true
     → actor_of e ≡ actor.Machine m
 unfolding is_useful_now
@@ -106,6 +108,7 @@ planless l c p q machine.Feed (Lamp b to) h = cc
 planless l c p q machine.Feed _ h = refl
 planless l c p q _ e h = refl
 
+-- the plan plays a part only for the feed belt's light
 pub plan_law : (l : BookLimits) (J : List Entry) (p q : ℕ) (m : Machine) (e : Entry) → is_lamp e ≡ false
     → is_useful l J p m e ≡ is_useful l J q m e
 unfolding is_useful_now

@@ -39,6 +39,7 @@ not_there : (c : Situation) (x : Arm) (s : Station) → is_out c x ≡ false →
 unfolding is_out_at
 not_there c x s e = first_false _ _ e
 
+-- an arm can grip only where it is out, and the same goes for drops
 no_grip : (l : BookLimits) (c : Situation) (x : Arm) (s : Station) → is_out c x ≡ false → (o : Option ℕ)
     → None ≡ first_bookable l c (map (handing_row c) (of_plate (λ k. Gripped x k s) o))
 no_grip l c x s e None = none l c
@@ -63,10 +64,12 @@ no_handing2 l c e =
     (no_grip l c arm.Arm2 station.Press2 e (c.plate station.Press2))
     (no_drop l c arm.Arm2 station.DepIn e (c.plate station.Arm2))
 
+-- only an arm that is out can be drawn in
 no_arms_in : (l : BookLimits) (c : Situation) → is_out c arm.Arm1 ≡ false → is_out c arm.Arm2 ≡ false
     → None ≡ first_bookable l c (map (robot_row l c) arms_in)
 no_arms_in l c one two = passed l c _ _ _ (first_false _ _ one) (passed l c _ _ _ (first_false _ _ two) (none l c))
 
+-- before it gives up a zone, sends an arm out, turns or claims, the robot must be drawn in
 no_yields : (l : BookLimits) (c : Situation) → is_drawn_in c ≡ false
     → None ≡ first_bookable l c (map (robot_row l c) yields)
 no_yields l c e =
@@ -119,6 +122,7 @@ no_last false true d e = cc
 no_last false false true e = cc
 no_last false false false e = refl
 
+-- so while the robot moves, its candidates need not be looked at
 pub under_way_law : (l : BookLimits) (c : Situation)
     → (not (is_drawn_in c) && (not (is_out c arm.Arm1) && not (is_out c arm.Arm2))) ≡ true
     → None ≡ first_bookable l c (map (robot_row l c) (candidates c machine.Robot))

@@ -21,6 +21,7 @@ widened true true f b h = h
 widened true false f b h = h
 widened false a f b h = cc
 
+-- a press's zone may be claimed to load or to unload, and unloading alone is reason enough
 claim_useful : (l : BookLimits) (c : Situation) (plan : ℕ) (z : Zone) (u a : Bool) → is_to_enter c z ≡ (a || u)
     → ((u && (is_drawn_in c && not (holds_a_zone c))) && is_bookable l c (Claimed machine.Robot z)) ≡ true
     → is_useful_now l c plan machine.Robot (Claimed machine.Robot z) ≡ true
@@ -41,6 +42,7 @@ unloads_useful l c plan =
     if_found _ (Claimed machine.Robot zone.Z3) _ P (claim_useful l c plan zone.Z3 (has_job c pose.P1Unload) _ refl)
     (if_found _ (Claimed machine.Robot zone.Z4) _ P (claim_useful l c plan zone.Z4 (has_job c pose.P2Unload) _ refl) tt)
 
+-- so looking at these claims first never finds anything but a useful entry
 pub unloading_law : (l : BookLimits) (c : Situation) (plan : ℕ) (o : Option Entry) → o ≡ first_bookable l c (unloads c)
     → IfSome o (λ e. is_useful_now l c plan machine.Robot e ≡ true)
 unloading_law l c plan o h = rw h (unloads_useful l c plan)

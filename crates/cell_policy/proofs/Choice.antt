@@ -8,6 +8,7 @@ use Rattle.cell_views.specs.Situations.{Situation}
 use Rattle.cell_policy.specs.Router.{is_ready_press, chosen, press_chosen, IsChoice}
 use Rattle.cell_types.specs.Same.{machine_number}
 
+-- no machine but the presses is ever ready, so one comparison is enough
 least1 : (c : Situation) → (is_ready_press c machine.Press2 ≡ true
     → c.forged_by machine.Press1 ≤ c.forged_by machine.Press2) → (n : Machine) → is_ready_press c n ≡ true
     → c.forged_by machine.Press1 ≤ c.forged_by n
@@ -22,12 +23,14 @@ least2 c f machine.Press1 h = let g : c.forged_by machine.Press2 < c.forged_by m
 least2 c f machine.Press2 h = omega arith
 least2 c f _ h = cc
 
+-- the first press has the lower number, so it may win any tie
 tie1 : (c : Situation) (n : Machine) → is_ready_press c n ≡ true → c.forged_by machine.Press1 ≡ c.forged_by n
     → machine_number machine.Press1 ≤ machine_number n
 tie1 c machine.Press1 h e = omega arith
 tie1 c machine.Press2 h e = omega arith
 tie1 c _ h e = cc
 
+-- beside a first press that is ready, the second is chosen only for fewer plates, so there is no tie
 tie2 : (c : Situation) → (is_ready_press c machine.Press1 ≡ true
     → c.forged_by machine.Press2 < c.forged_by machine.Press1) → (n : Machine) → is_ready_press c n ≡ true
     → c.forged_by machine.Press2 ≡ c.forged_by n → machine_number machine.Press2 ≤ machine_number n
@@ -51,6 +54,7 @@ second : (c : Situation) → is_ready_press c machine.Press2 ≡ true
     → IsChoice c (Some machine.Press2)
 second c e f = record { ready = e; fewest = least2 c f; tie = tie2 c f; none = tt }
 
+-- a tie goes to the first press, so where the second is taken it forged strictly fewer
 of_two : (c : Situation) (b : Bool) → b ≡ nat_le (c.forged_by machine.Press1) (c.forged_by machine.Press2)
     → is_ready_press c machine.Press1 ≡ true → is_ready_press c machine.Press2 ≡ true
     → IsChoice c (if b then Some machine.Press1 else Some machine.Press2)

@@ -15,6 +15,7 @@ is_found : {X : Type 0} (p : X → Bool) (xs : List X) → is_some (find p xs) �
 is_found p [] = refl
 is_found p (x ∷ xs) = some_if (p x) (list_any p xs) x (find p xs) (is_found p xs)
 
+-- one looks for the first plate at the station, the other asks whether there is any
 pub occupied_law : (J : List Entry) (s : Station) → is_some (plate_of J s) ≡ is_occupied J s
 unfolding plate_of
 occupied_law J s = is_found (is_at J s) (placed J)

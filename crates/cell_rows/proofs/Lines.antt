@@ -26,6 +26,7 @@ rest-text (field ∷ fields) p =
     ∙ ap (λ (t : List ℕ). field ++ t) (rest-text fields
     (All-tail (λ f. needs_quotes default_writer f ≡ false) field fields p))))
 
+-- none of the fields needs quotes, and with two of them or more the record isn't a blank one
 row-line : (x y : List ℕ) (ys : Row) → AllPlain (x ∷ y ∷ ys) → row_text default_writer (x ∷ y ∷ ys) ≡ line (x ∷ y ∷ ys)
 unfolding is_blank
 row-line x y ys p =
@@ -45,6 +46,7 @@ one (x ∷ y ∷ ys) tail p =
     (rows-some st.StartRecord (row_text default_writer (x ∷ y ∷ ys) ++ tail) (x ∷ y ∷ ys, st.StartRecord, tail)
     (read-write-many x y ys tail))
 
+-- after a line csv is again at the start of a record, so the next line is read in the same way
 pub lines-back : (rows : List Row) → All IsPlain rows → rows_from st.StartRecord (lines_of rows) ≡ rows
 unfolding lines_of
 lines-back [] p = ended default_config 1
@@ -52,6 +54,7 @@ lines-back (row ∷ rows) p =
     one row (lines_of rows) (All-head IsPlain row rows p)
     ∙ ap (λ (t : List Row). row ∷ t) (lines-back rows (All-tail IsPlain row rows p))
 
+-- a byte order mark would be taken off first, so the lines must not begin with one
 pub read-back : (rows : List Row) → All IsPlain rows → strip_bom (lines_of rows) ≡ lines_of rows
     → rows_of (lines_of rows) ≡ rows
 read-back rows p b = rw b (lines-back rows p)

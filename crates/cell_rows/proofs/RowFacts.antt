@@ -22,6 +22,7 @@ shorter : (p : Read) (c : ℕ) (xs : List ℕ) → Shrinks p xs → Shrinks p (c
 shorter p c xs (inl h) = inl (omega arith)
 shorter p c xs (inr h) = inr h
 
+-- without it, reading one record after the other might never come to an end
 pub shrinks : (cfg : Config) (s : State) (fields : List (List ℕ)) (field : List ℕ) (xs : List ℕ) (p : Read)
     → next_record cfg s fields field xs ≡ Some p → Shrinks p xs
 unfolding next_record
@@ -90,6 +91,7 @@ reads s xs (Some ys) found row t h = by (next_record default_config s [] [] xs) 
 takes-none : (new : Option (List Row)) (row : Row) (found : Bool) → TakesRow None new row found
 takes-none new row found = tt
 
+-- the contract of a read speaks of the reader's own settings, which here are the usual ones
 pub takes : {R : Type 0} (rem : R → Option (List ℕ)) (a b : Reader R) (found : Bool) (row : List (List ℕ))
     → a.config ≡ default_config → ReadRecord rem a b found row
     → TakesRow (option_map (rows_from a.state) (source_of rem a)) (option_map (rows_from b.state) (source_of rem b)) row

@@ -16,6 +16,7 @@ use Rattle.cell_rows.proofs.RowFacts.{after_feed, unmarked}
 use Rattle.cell_rows.proofs.Lines.{one}
 use Rattle.cell_rows.proofs.Pieces.{first_of_piece, seam}
 
+-- csv passes over a line feed before a record, so the line begins at the byte after it
 pub after_line_feed : (text : List ℕ) (at to : ℕ) → at < to → to ≤ length text → get_or text at 0 ≡ 10
     → BeginsLine text at to (at + 1)
 after_line_feed text at to some end is =
@@ -27,6 +28,7 @@ after_line_feed text at to some end is =
           ∙ after_feed (slice_range text (at + 1) to ++ tail);
     }
 
+-- all that may be taken off before a line is a byte order mark, and another byte than its first is none
 pub at_once : (text : List ℕ) (at to : ℕ) → at < to → to ≤ length text → get_or text at 0 ≢ 0xEF
     → BeginsLine text at to at
 at_once text at to some end other =
@@ -44,6 +46,7 @@ pub unfit_at : (text : List ℕ) (at start to : ℕ) → BeginsLine text at to s
     → IsUnfitAt text at to
 unfit_at text at start to begins unfit tail = subst BeginsUnfit (sym (begins.same tail)) (unfit tail)
 
+-- the line feed stays with the rest, where it gives no record, so the next line is found in the same way
 pub takes_line : (text : List ℕ) (at start to : ℕ) (p : Places) → BeginsLine text at to start → IsLineAt text start to p
     → TakesLine text at to p
 takes_line text at start to p begins found =

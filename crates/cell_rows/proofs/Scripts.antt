@@ -84,6 +84,7 @@ unfit_unread {L} read lines (a ∷ b ∷ c ∷ d ∷ []) law bad = by (read line
     by (Some line) h = absurd (bad (h refl))
 unfit_unread read lines (a ∷ b ∷ c ∷ d ∷ e ∷ r) law bad = refl
 
+-- a record that is given up early gets the answer that it would get if it were read whole
 pub due-unfit : {L : Type 0} (read : Reading L) (all : List Row) (old : Option (List Row)) (lines : List L)
     → FitLines read → StillDue read (Some all) old lines
     → IfSome old BeginsUnfit → length lines < 1000 → lines_of read all ≡ Err (error.Unreadable (length lines + 1))
@@ -91,6 +92,7 @@ due-unfit read all None lines law d u n = absurd d
 due-unfit read all (Some rest) lines law d (row, left, is, bad) n =
     due-unread read all (Some rest) (Some left) row lines d true refl is n (unfit_unread read lines row law bad)
 
+-- once there are the most lines, any record more gets the same answer, whether it fits or not
 pub due-unfit-many : {L : Type 0} (read : Reading L) (all : List Row) (old : Option (List Row)) (lines : List L)
     → StillDue read (Some all) old lines
     → IfSome old BeginsUnfit → 1000 ≤ length lines → lines_of read all ≡ Err error.TooManyLines
@@ -153,6 +155,7 @@ before read done row line rows (Err error.TooManyLines) h (first, x, rest, more,
     (row ∷ first, x, rest, line ∷ more, rw is refl, (h, are), rw append_assoc at many)
 before read done row line rows (Err error.OutOfMemory) h k = tt
 
+-- the answer is found record by record, and each line is put before what is said of the rest
 after-means : {L : Type 0} (read : Reading L) (done : List L) (rows : List Row) → length done ≤ 1000
     → AfterMeans read done rows (lines_after read done rows)
 unfolding lines_after
@@ -204,6 +207,7 @@ pub due-means : {L : Type 0} (read : Reading L) (rows : List Row) (r : Result (L
     → lines_of read rows ≡ r → Means read rows r
 due-means read rows r h = rw h at (means-start read rows (lines_of read rows) (after-means read [] rows (omega arith)))
 
+-- want of memory says nothing of the records, and any other answer is the one that is due
 pub means-stopped : {L : Type 0} (read : Reading L) (rows : List Row) (answer : LineError)
     → (answer ≡ error.OutOfMemory) ⊎ (lines_of read rows ≡ Err answer) → Means read rows (Err answer)
 means-stopped read rows answer (inl e) = rw e tt

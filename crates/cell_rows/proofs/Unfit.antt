@@ -30,6 +30,7 @@ is_inside st.InEscape = false
 is_inside st.InComment = false
 is_inside st.AfterCr = false
 
+-- where a text ends inside a record, its end is the end of that record
 inside_ends : (s : State) → is_inside s ≡ true → ends_at_end s ≡ true
 inside_ends st.StartRecord h = cc h
 inside_ends st.StartField h = refl
@@ -76,6 +77,7 @@ abbrev pub HoldsOn : Row → List ℕ → Option Read → Type 0
 HoldsOn fields field None = ⊥
 HoldsOn fields field (Some p) = (more : List ℕ) × (later : Row) × (p.0 ≡ fields ++ ((field ++ more) ∷ later))
 
+-- of all that a byte may do one alone ends a record, and it puts the field in as it is
 ended_here : (a : Action) (fields : Row) (field : List ℕ) (s : State) (rest : List ℕ) → is_end a ≡ true
     → HoldsOn fields field (Some (fields_after a fields field, s, rest))
 ended_here act.Skip fields field s rest h = cc h
@@ -84,6 +86,7 @@ ended_here act.EndField fields field s rest h = cc h
 ended_here act.EndRecord fields field s rest h =
     ([], [], ap (λ (t : List ℕ). fields ++ (t ∷ [])) (sym (append-nil field)))
 
+-- a byte adds to the field, ends it or is skipped, and takes nothing back
 held_before : (a : Action) (fields : Row) (field : List ℕ) (c : ℕ) (o : Option Read) → is_end a ≡ false
     → HoldsOn (fields_after a fields field) (field_after a c field) o → HoldsOn fields field o
 held_before a fields field c None h g = g
@@ -121,6 +124,7 @@ short_of [] x later h = All-head (λ (f : List ℕ). length f ≤ longest_field)
 short_of (f ∷ fields) x later h = short_of fields x later
     (All-tail (λ (f : List ℕ). length f ≤ longest_field) f (fields ++ (x ∷ later)) h)
 
+-- what follows can only make the field longer and the fields more, and there is too much already
 unfit_row : (fields : Row) (field more : List ℕ) (later row : Row) → row ≡ fields ++ ((field ++ more) ∷ later)
     → CannotFit fields field → ¬ (Fits row)
 unfit_row fields field more later row e (inl many) = λ f.
@@ -157,6 +161,7 @@ not_true : (x : Bool) → (x ≡ true → ⊥) → x ≡ false
 not_true true n = absurd (n refl)
 not_true false n = refl
 
+-- these four are the bytes that need quotes, so a byte that needs none is none of them
 plain_byte : (b : ℕ) → needs_byte default_writer b ≡ false → ((b == 44) ≡ false) × ((b == 34) ≡ false)
     × ((b == 13) ≡ false) × ((b == 10) ≡ false)
 plain_byte b e =

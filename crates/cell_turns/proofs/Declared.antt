@@ -45,11 +45,13 @@ FaultRuling failed (Books e) = is_command_fault e ≡ failed
 FaultRuling failed Proposes = failed ≡ false
 FaultRuling failed _ = Unit {0}
 
+-- a watch never finds that a command failed, so what it declares has another cause
 of_cause : (m : Machine) (c : Cause) → is_command_verdict (Fault c) ≡ false → is_command_fault (Declared m c) ≡ false
 unfolding is_command_verdict
 of_cause m cause.CommandFault h = cc
 of_cause m _ h = refl
 
+-- from here to the signs: what is booked there is no declaration at all
 of_conveyed : (a : Axis) (dest : Station) (o : Option ℕ)
     → FaultRuling false (books (option_map (λ k. Conveyed a k dest) o))
 of_conveyed a dest None = refl
@@ -112,6 +114,7 @@ of_axis_point J m sign o (Fault c) u h k = of_cause m c h
 of_axis_point J m sign o Arrived u h k = of_rest_point J m sign o Arrived u k
 of_axis_point J m sign o Pending u h k = of_rest_point J m sign o Pending u k
 
+-- the second point declares a CommandFault, and it applies just where a command failed
 of_points : (J : List Entry) (m : Machine) (kept : Memory) (found : Findings) → is_command_verdict found.at_axis ≡ false
     → is_command_verdict found.at_rest ≡ false → FaultRuling kept.command_failed (ruling_by J m kept found)
 of_points J m kept found h k = go (is_failed J m) kept.command_failed (is_asked J m) kept.failed
@@ -144,6 +147,7 @@ unwanted l c plan machine.Press1 n why = refl
 unwanted l c plan machine.Press2 n why = refl
 unwanted l c plan machine.Deposit n why = refl
 
+-- a useful entry is wanted, and no machine wants a declaration
 of_useful : (l : BookLimits) (J : List Entry) (plan : ℕ) (m : Machine) (e : Entry) → is_useful l J plan m e ≡ true
     → is_command_fault e ≡ false
 unfolding is_useful_now

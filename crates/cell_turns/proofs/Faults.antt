@@ -31,6 +31,7 @@ of_both Pending y h k = k
 of_both Arrived y h k = h
 of_both (Fault c) y h k = h
 
+-- the verdict on a list is the verdict on one of its beginnings
 of_list : {X : Type 0} (judge : List X → Verdict) (before L : List X)
     → ((M : List X) → is_command_verdict (judge M) ≡ false) → is_command_verdict (verdict_after judge before L) ≡ false
 unfolding is_command_verdict
@@ -38,6 +39,7 @@ of_list judge before [] h = refl
 of_list judge before (r ∷ rs) h = of_both (judge (before ++ r ∷ [])) (verdict_after judge (before ++ r ∷ []) rs)
     (h (before ++ r ∷ [])) (of_list judge (before ++ r ∷ []) rs h)
 
+-- the rules of the axis watch have causes of their own, and none of them is a failed command
 of_judged : (m : Motion) (L : List Seen) → is_command_verdict (judged m L) ≡ false
 unfolding is_command_verdict judged
 of_judged m L =
@@ -59,6 +61,7 @@ of_plate_fault : (L : List Noted) → is_command_verdict (plate_fault L) ≡ fal
 unfolding is_command_verdict plate_fault
 of_plate_fault L = of_either (is_plate_lost L) _ _ refl (of_either (is_plate_strange L) _ _ refl refl)
 
+-- the rules of the rest watch have causes of their own as well
 of_judged_at_rest : (L : List Noted) → is_command_verdict (judged_at_rest L) ≡ false
 unfolding is_command_verdict judged_at_rest
 of_judged_at_rest L =

@@ -11,10 +11,12 @@ use Rattle.cell_turns.specs.Schedules.{Now, now, Leads, Led}
 use Rattle.cell_turns.specs.Schedules.Leads.{stays, turns, refuses, hands, spares, fails}
 use Rattle.cell_turns.specs.Joined.{LeadsJoin, ScheduledJoin}
 
+-- a schedule grows at its end, so the brackets have to move
 further : (l : BookLimits) (p : Plan) (s t : Now) (xs ys : List Step) (x : Step) (r f : ℕ)
     → Leads l p s ((xs ++ ys) ++ x ∷ []) r f t → Leads l p s (xs ++ (ys ++ x ∷ [])) r f t
 further l p s t xs ys x r f h = subst (λ (zs : List Step). Leads l p s zs r f t) (append_assoc xs ys (x ∷ [])) h
 
+-- the steps of the second schedule go on the end of the first, one by one
 pub leads_join : LeadsJoin
 leads_join l p s t _ xs _ r _ f _ a stays = rw (append-nil xs, add-zero r, add-zero f) a
 leads_join l p s t u xs _ r r' f f' a (turns {t = v} {steps = ys} m x b d) =
@@ -30,6 +32,7 @@ leads_join l p s t u xs _ r r' f _ a (fails {steps = ys} {failed = f'} e b d c) 
     further l p s u xs ys (Hand e) (r + r') (f + (f' + 1))
     (rw (← add_assoc f f' 1) (fails e (leads_join l p s t u xs ys r r' f f' a b) d c))
 
+-- the second schedule is led from the minds that the first one ended with
 pub led_join : (l : BookLimits) (p : Plan) (s : Now) (xs ys : List Step) (r r' f f' : ℕ) (J J' : List _)
     (ws ws' : Six Watch) (one : Led l p s xs r f J ws)
     → Led l p (now J one.minds) ys r' f' J' ws' → Led l p s (xs ++ ys) (r + r') (f + f') J' ws'

@@ -3,7 +3,14 @@ pub mod Sixes
 pub mod Acts
 pub mod Minds
 pub mod Points
+pub mod Own
+pub mod Tests
+pub mod Shown
+pub mod Endings
+pub mod Signed
 pub mod Rooms
+pub mod OwnTurns
+pub mod Excused
 pub mod Faults
 pub mod Declared
 pub mod Schedules

@@ -9,6 +9,7 @@ use Rattle.cell_types.specs.Entries.{command_of}
 use Rattle.cell_turns.specs.Logs.{Log, after_sending}
 use Rattle.cell_turns.specs.Sent.{is_command_fault, fails_before, sent_for, command_faults, one_where, Sends}
 
+-- it takes the next entry to know that a command failed, so the new one decides on the one before it
 pub sent_for-push : (failed : Bool) (es : List Entry) (e : Entry)
     → sent_for failed (es ++ e ∷ []) ≡ sent_for (is_command_fault e) es
     ++ (if failed then [] else option_to_list (command_of e))
@@ -27,11 +28,13 @@ faults-push : (es : List Entry) (e : Entry)
 faults-push es e = sum_by-append (λ (x : Entry). cond (is_command_fault x) 1 0) es (e ∷ [])
     ∙ ap (λ k. command_faults es + k) (zero-add (cond (is_command_fault e) 1 0))
 
+-- only the first entry says whether the command before them failed
 begins_push : (was failed last : Bool) (es : List Entry) (e : Entry) → fails_before last es ≡ was
     → is_command_fault e ≡ last → fails_before failed (es ++ e ∷ []) ≡ was
 begins_push was failed last [] e h is = is ∙ h
 begins_push was failed last (x ∷ es) e h is = h
 
+-- a failed command isn't among those sent, and only a command can fail
 sent_after : (log : Log) (o : Option Command) (failed : Bool) → (failed ≡ true → is_some o ≡ true)
     → (after_sending log o failed).sent ≡ log.sent ++ (if failed then [] else option_to_list o)
 sent_after log None false some = sym (append-nil log.sent)

@@ -41,6 +41,7 @@ found_is w J p s r found motion_is sign_is fit axis_is rest_is = λ i. record {
   sign = sign_is i;
 }
 
+-- a mind that fits has the memory of its watch, so one may stand for the other
 pub fits_after : (w : Watch) (J : List Entry) (m : Machine) (p : Plan) (s : Mind) (r : Option Reading)
     (e : Option Entry) (w' : Watch) (noted_axis : Option AxisWatch) (noted_rest : RestWatch)
     → FitsMind w s
@@ -91,6 +92,7 @@ decided l w J p s r k e found motion_is sign_is k_is fit axis_is rest_is h =
     subst (λ (x : Ruling). IsRuled l J w.machine p.plates x e)
     (ruling_is w J p s r k found motion_is sign_is k_is fit axis_is rest_is) h
 
+-- the code works out by itself whether to begin anew and whether a sign shows
 pub fits_turned : (w : Watch) (J J' : List Entry) (p : Plan) (s : Mind) (r : Option Reading) (e : Option Entry)
     (w' : Watch) (noted_axis : Option AxisWatch) (noted_rest : RestWatch) (anew sign : Bool)
     → anew ≡ begins_anew J w.machine w.memory

@@ -49,6 +49,7 @@ fit_put : (ws : Six Watch) (minds : Six Mind) (m : Machine) (w : Watch) (s : Min
     → FitAll (put ws m w) (put minds m s)
 fit_put ws minds m w s f g = record { each = all_put (λ n x y z. FitsMind x y) m ws minds minds w s s f.each g }
 
+-- the code's turn is told for each mind that fits the watch, and so for the one that is led here
 led_turn : (l : BookLimits) (p : Plan) (s : Now) (steps : List Step) (refused failed : ℕ) (cur next : History)
     (ws : Six Watch) (m : Machine) (r : Option Reading) (w' : Watch)
     → cur.limits ≡ l → TurnedAt p m r cur next (at ws m) w' → Led l p s steps refused failed cur.entries ws
@@ -71,6 +72,7 @@ led_turn l p s steps refused failed cur next ws m r w' limits t led =
       fits = fit_put ws led.minds m w' after led.fits (t.fits mind fit);
     }
 
+-- a refused turn leaves the watch and the journal as they were, and only the refusals grow
 led_away : (l : BookLimits) (p : Plan) (s : Now) (steps : List Step) (refused failed : ℕ) (cur next : History)
     (ws : Six Watch) (m : Machine) (r : Option Reading) (w' : Watch)
     → cur.limits ≡ l → TurnedAway p m r cur next (at ws m) w' → Led l p s steps refused failed cur.entries ws
@@ -87,6 +89,7 @@ led_away l p s steps refused failed cur next ws m r w' limits t led =
       fits = led.fits;
     }))
 
+-- the code has both ways of a turn in one step, and the flag says which one it went
 pub scheduled_turn : (p : Plan) (steps : List Step) (refused refused' : ℕ) (before cur next : History)
     (ws0 ws : Six Watch) (told : Bool) (acts acts' : ActLog) (m : Machine) (r : Option Reading) (away : Bool)
     (w w' : Watch)
@@ -118,14 +121,17 @@ scheduled_turn p steps refused refused' before cur next ws0 ws told acts acts' m
 
 -- acts by hand
 
+-- where nothing was booked the code still appends, if an empty list
 left_over : (J : List Entry) (next : History) (cur : History)
     → next ≡ record { limits = cur.limits; entries = cur.entries ++ [] } → cur.entries ≡ next.entries
 left_over J next cur h = sym (append-nil cur.entries) ∙ sym (ap (λ (k : History). k.entries) h)
 
+-- an act that was done is no failure, and neither is an entry that wants no act
 failures_hand : (log : ActLog) (o : Option Act) → (after_hand log o true).failures ≡ log.failures
 failures_hand log None = refl
 failures_hand log (Some a) = add-zero log.failures
 
+-- only an act can fail, so the entry has to want one
 failures_fail : (log : ActLog) (o : Option Act) → is_some o ≡ true
     → (after_hand log o false).failures ≡ log.failures + 1
 failures_fail log None h = absurd (differ h)
@@ -134,6 +140,7 @@ failures_fail log None h = absurd (differ h)
     differ q = cc
 failures_fail log (Some a) h = refl
 
+-- the failures are known only as long as the port tells what it was asked
 pub scheduled_hand : (p : Plan) (steps : List Step) (refused : ℕ) (before cur next : History) (ws0 ws : Six Watch)
     (told told' : Bool) (acts log log' : ActLog) (e : Entry) (how : Handed)
     → IsHanded cur.limits cur.entries e how
@@ -189,6 +196,7 @@ scheduled_start p before ws told acts = record {
 counted : (p : Entry → Bool) (es fs : List Entry) → count_by p (es ++ fs) ≡ count_by p es + count_by p fs
 counted p es fs = sum_by-append (λ (x : Entry). cond (p x) 1 0) es fs
 
+-- count by count, since each is a sum over the list
 plus_more : (c : Totals) (es fs : List Entry) → plus (plus c (count_of es)) (count_of fs) ≡ plus c (count_of (es ++ fs))
 plus_more c es fs = λ i. record {
   entries = more c.entries (length es) (length fs) (length (es ++ fs)) (length-append es fs) i;
@@ -210,6 +218,7 @@ plus_more c es fs = λ i. record {
 entries_of-append : (a : Actor) (es fs : List Entry) → entries_of a (es ++ fs) ≡ entries_of a es ++ entries_of a fs
 entries_of-append a es fs = filter-append (λ (e : Entry). same_actor a (actor_of e)) es fs
 
+-- a turn that booked nothing adds to no list, whichever machine's turn it was
 none_own : (b : Bool) → ◌≡◌ {A = List Entry} [] (if b then [] else [])
 none_own true = refl
 none_own false = refl
@@ -251,6 +260,7 @@ shares_more h cur next added more is grew =
     grew ∙ ap (λ (k : Held). held k.parts (plus k.counts (count_of more))) is
     ∙ ap (held h.parts) (plus_more h.counts added more)
 
+-- the entry goes on the list of its machine, and all other lists stay as they are
 pub grown_turn : (before cur next : History) (h k k' : Held) (machines : Six (List Entry)) (operator : List Entry)
     (m : Machine) (es es' : List Entry)
     → es ≡ at machines m → GrewBy (actor.Machine m) cur next k k' es es' → Grown before cur h k machines operator
@@ -269,6 +279,7 @@ grown_turn before cur next h k k' machines operator m es es' at_m t g =
       shares = shares_more h k k' g.added more g.shares t.shares;
     }
 
+-- the entry goes on the operator's list, and the machines' stay as they are
 pub grown_hand : (before cur next : History) (h k k' : Held) (machines : Six (List Entry)) (es es' : List Entry)
     → GrewBy actor.Operator cur next k k' es es' → Grown before cur h k machines es
     → Grown before next h k' machines es'
@@ -323,6 +334,7 @@ did_more acts log log' es wanted a d = record {
       ∙ ap (λ l. l ++ a.done) d.acts;
 }
 
+-- a step that wasn't finished is no step of the schedule, though its act may have been done
 pub scheduled_stopped : (p : Plan) (steps : List Step) (refused : ℕ) (before cur next : History)
     (ws0 ws ws' : Six Watch) (told told' : Bool) (acts log log' : ActLog) (wanted : Option Act)
     → next ≡ cur → ws' ≡ ws → (told' ≡ true → told ≡ true) → (told' ≡ true → ActedAtMost wanted log log')

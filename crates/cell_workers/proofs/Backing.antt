@@ -67,6 +67,7 @@ of_both Pending y h k = k
 of_both Arrived y h k = h
 of_both (Fault c) y h k = h
 
+-- the verdict on a list is the verdict on one of its beginnings
 of_list : {X : Type 0} (judge : List X → Verdict) (before L : List X) → ((M : List X) → is_arrival (judge M) ≡ false)
     → is_arrival (verdict_after judge before L) ≡ false
 unfolding is_arrival
@@ -104,6 +105,7 @@ never_arrives L h = differ (sym (of_rest L) ∙ ap is_arrival h)
 
 -- what is proposed needs no evidence
 
+-- the entries of which the evidence asks anything
 needs_evidence : Entry → Bool
 needs_evidence (ArrivedAt a at) = true
 needs_evidence (Conveyed a k dest) = true
@@ -114,6 +116,7 @@ needs_evidence (Reinstated k) = true
 needs_evidence (Declared m c) = true
 needs_evidence _ = false
 
+-- one lemma for each machine, since what is wanted is told machine by machine
 unwanted_feed : (l : BookLimits) (c : Situation) (plan : ℕ) (e : Entry) → needs_evidence e ≡ true
     → wants l c plan machine.Feed e ≡ false
 unfolding needs_evidence
@@ -195,6 +198,7 @@ unwanted l c plan machine.Press1 e h = unwanted_press1 l c plan e h
 unwanted l c plan machine.Press2 e h = unwanted_press2 l c plan e h
 unwanted l c plan machine.Deposit e h = unwanted_deposit l c plan e h
 
+-- of all other entries the evidence asks nothing
 plainly : (p : Plan) (got : List (Option Reading)) (e : Entry) → needs_evidence e ≡ false → Backed p got e
 unfolding needs_evidence
 plainly p got (ArrivedAt a at) h = cc
@@ -210,6 +214,7 @@ left : (a b : Bool) → (a && b) ≡ true → a ≡ true
 left true b h = refl
 left false b h = cc
 
+-- what is useful is wanted, and no entry that needs evidence is
 useful_backed : (l : BookLimits) (J : List Entry) (plan : ℕ) (m : Machine) (p : Plan) (got : List (Option Reading))
     (e : Entry) → is_useful l J plan m e ≡ true → Backed p got e
 unfolding is_useful_now
@@ -229,6 +234,7 @@ abbrev RulingBacked : Plan → List (Option Reading) → Ruling → Type 0
 RulingBacked p got (Books e) = Backed p got e
 RulingBacked p got _ = Unit {0}
 
+-- the evidence names the motion that the station belongs to, so it has to be found by it
 of_conveyed : (p : Plan) (got : List (Option Reading)) (a : Axis) (dest : Station) (mo : BeltMotion) (o : Option ℕ)
     → motion_to a dest ≡ Some mo → ShowsArrival p got a mo.to
     → RulingBacked p got (books (option_map (λ k. Conveyed a k dest) o))
@@ -240,6 +246,7 @@ of_forged : (p : Plan) (got : List (Option Reading)) (m : Machine) (a : Axis) (o
 of_forged p got m a None is h = tt
 of_forged p got m a (Some k) is h = record { axis = a; press_axis = is; arrival = h }
 
+-- the arrival is the evidence, whatever the end of the motion is booked as
 of_ending : (p : Plan) (got : List (Option Reading)) (J : List Entry) (a : Axis) (to : Pose) → ShowsArrival p got a to
     → RulingBacked p got (books (ending J a to))
 of_ending p got J axis.FeedBelt pose.ToEnd h =
@@ -312,6 +319,7 @@ of_axis_point p got J m sign o (Fault c) u h k = λ _. inl (k.axis_fault c refl)
 of_axis_point p got J m sign o Arrived u h k = of_rest_point p got J m sign o Arrived u h k
 of_axis_point p got J m sign o Pending u h k = of_rest_point p got J m sign o Pending u h k
 
+-- no reading has to show a failed command or the operator's stop, which two of the points declare
 of_points : (p : Plan) (got : List (Option Reading)) (J : List Entry) (m : Machine) (kept : Memory) (found : Findings)
     → ((kept.sign && found.sign) ≡ true → SignShows m got)
     → (kept.failed ≡ false → Shows p got m found.motion found.at_axis found.at_rest)
@@ -336,6 +344,7 @@ pending s (inl h) is = absurd (differ (sym is ∙ h))
     differ q = cc
 pending s (inr h) is = h
 
+-- the verdicts were pending before this reading, so what they are now is shown by it
 of_ruling : (J : List Entry) (m : Machine) (p : Plan) (got : List (Option Reading)) (s : Mind) (r : Option Reading)
     → Traces m p got s → Calm s → RulingBacked p (got ++ r ∷ []) (ruling J m p s r)
 unfolding ruling
@@ -386,6 +395,7 @@ rest_nil : rest [] ≡ Pending
 unfolding rest
 rest_nil = refl
 
+-- a fault settles the turn: once it is declared, the verdicts no longer matter
 failed_by : (J : List Entry) (m : Machine) (c : Cause) (e : Option Entry) → e ≡ Some (Declared m c)
     → is_failed (J ++ option_to_list e) m ≡ true
 failed_by J m c e is = ap (λ (o : Option Entry). is_failed (J ++ option_to_list o) m) is ∙ declared_fails J m c
@@ -402,6 +412,7 @@ at_end l J m plates (Some y) e F L ends some still h =
       still,
     )
 
+-- a fault was declared, an arrival has ended the motion, or both verdicts are still pending
 settles : (l : BookLimits) (J : List Entry) (m : Machine) (plates : ℕ) (sign : Bool) (o : Option Motion) (v u : Verdict)
     (e : Option Entry) (F : Option Following) (L : List Noted)
     → ((mo : Motion) → o ≡ Some mo → is_some (ending J mo.axis mo.to) ≡ true)
@@ -422,6 +433,7 @@ settles l J m plates sign None Arrived Pending e F L has idle never v_is u_is h 
 settles l J m plates sign (Some mo) Arrived Pending e F L has idle never v_is u_is h =
     at_end l J m plates (ending J mo.axis mo.to) e F L (ending_ends J mo.axis mo.to) (has mo refl) (sym u_is) h
 
+-- the first three points leave the machine failed, and at the fourth its watches begin anew
 calm_points : (l : BookLimits) (J : List Entry) (m : Machine) (plates : ℕ) (kept : Memory) (found : Findings)
     (e : Option Entry) (F : Option Following) (L : List Noted)
     → (is_failed J m ≡ false → (mo : Motion) → found.motion ≡ Some mo → is_some (ending J mo.axis mo.to) ≡ true)
@@ -445,6 +457,7 @@ calm_points l J m plates kept found e F L has idle never v_is u_is h =
     go false false false false is k = settles l J m plates (kept.sign && found.sign) found.motion found.at_axis
         found.at_rest e F L (has is) idle never v_is u_is k
 
+-- the motion that the journal shows is on an axis of the machine, so that axis is well too
 has_ending : (J : List Entry) (p : Plan) (m : Machine) → HasEndings J → is_failed J m ≡ false → (mo : Motion)
     → motion_of_machine J p m ≡ Some mo → is_some (ending J mo.axis mo.to) ≡ true
 has_ending J p m has healthy mo is =
@@ -459,5 +472,6 @@ calm_after l J m p s r e has h =
     (rest_noted J m s.memory s.rest r)
     (has_ending J p m has) (axis_idle J m p r s.axis) (never_arrives (rest_noted J m s.memory s.rest r)) refl refl h
 
+-- no reading was taken yet, so there is no verdict
 pub calm_first : (memory : Memory) → Calm (record { axis = None; rest = []; memory = memory })
 calm_first memory = inr (refl, rest_nil)

@@ -54,10 +54,12 @@ answers f (e ∷ es) x h = go (last_some f es) (answers f es x) h
       answer = a.answer;
     }
 
+-- an axis that was sent nowhere goes nowhere
 going_sent : (o : Option (Option Pose)) (to : Pose) → unwrap_or o None ≡ Some to → o ≡ Some (Some to)
 going_sent None to h = cc
 going_sent (Some o) to h = ap (λ (x : Option Pose). Some x) h
 
+-- what brings an axis to rest sends it nowhere
 started_only : (o : Option Pose) (to : Pose) → option_map (λ (x : Pose). None) o ≡ Some (Some to) → ⊥
 started_only None to h = cc
 started_only (Some x) to h = cc
@@ -73,10 +75,12 @@ sent_by a (Started b x) to h =
     ap (λ (y : Axis). Started y x) (axis_same b a s.0) ∙ ap (λ (y : Pose). Started a y) s.1
 sent_by a e to h = absurd (started_only (rests a e) to h)
 
+-- the axis was started, and at that moment the move was safe
 pub record Moves (a : Axis) (to : Pose) : Type 0 where
   pub before : List Entry
   pub safe : IsSafeMove before a to
 
+-- the axis goes there because of a start, and a safe journal has none that isn't safe
 moves : (J : List Entry) (a : Axis) (to : Pose) → IsSafe J → going_of J a ≡ Some to → Moves a to
 moves J a to safe going =
     let w = answers (sends a) J (Some to) (going_sent (last_some (sends a) J) to going) in
@@ -103,6 +107,7 @@ mapped : (f : ℕ → Entry) (o : Option ℕ) → is_some o ≡ true → is_some
 mapped f None h = h
 mapped f (Some k) h = refl
 
+-- a belt, or a press on its way to Top, carries the plate that its entry names; other motions need none
 pub has_endings : (J : List Entry) → IsSafe J → IsCarrying J → HasEndings J
 has_endings J safe carrying axis.FeedBelt pose.ToEnd going healthy =
     mapped (λ k. Conveyed axis.FeedBelt k station.FeedEnd) (plate_of J station.FeedIn)

@@ -148,6 +148,7 @@ follows_push : (l : BookLimits) (lines : List Line) (es : List Entry) (e : Entry
 follows_push l lines [] e so_far due = (due, tt)
 follows_push l lines (x ∷ es) e (first, rest) due = (first, follows_push l (left_after lines) es e rest due)
 
+-- each entry takes one line off, whichever entry it is
 left_push : (lines : List Line) (es : List Entry) (e : Entry)
     → left_by lines (es ++ e ∷ []) ≡ left_after (left_by lines es)
 left_push lines [] e = refl

@@ -107,6 +107,7 @@ of_axis_point J m sign o (Fault c) u = refl
 of_axis_point J m sign o Arrived u = of_rest_point J m sign o Arrived u
 of_axis_point J m sign o Pending u = of_rest_point J m sign o Pending u
 
+-- a move is always proposed, never booked by one of the other points
 of_points : (J : List Entry) (m : Machine) (kept : Memory) (found : Findings) → Still (ruling_by J m kept found)
 of_points J m kept found = go (is_failed J m) kept.command_failed (is_asked J m) kept.failed
   where
@@ -122,6 +123,7 @@ of_ruling : (J : List Entry) (m : Machine) (p : Plan) (s : Mind) (r : Option Rea
 unfolding ruling
 of_ruling J m p s r = of_points J m s.memory (findings J m p s r)
 
+-- only moves are asked to be useful
 still_called : (l : BookLimits) (J : List Entry) (e : Entry) → is_move e ≡ false → is_called_for l J e ≡ true
 still_called l J e h = ap (λ b. if b then is_useful_for l J e (actor_of e) else true) h
 
@@ -129,6 +131,7 @@ either : (b c : Bool) → (b ≡ true → c ≡ true) → (if b then c else true
 either true c h = h refl
 either false c h = refl
 
+-- the plates that are planned matter for the lamps alone, and those are no moves
 no_lamp : (e : Entry) → is_move e ≡ true → is_lamp e ≡ false
 no_lamp (Lamp b to) h = cc
 no_lamp _ h = refl
@@ -183,6 +186,7 @@ split : (a b : Bool) → (a && b) ≡ true → (a ≡ true) × (b ≡ true)
 split true b e = (refl, e)
 split false b e = cc
 
+-- each entry is judged by those before it, so one more at the end changes nothing for them
 called-push : (l : BookLimits) (done es : List Entry) (e : Entry) → called_for_from l done es ≡ true
     → is_called_for l (done ++ es) e ≡ true → called_for_from l done (es ++ e ∷ []) ≡ true
 called-push l done [] e h t = both _ _ (ap (λ d. is_called_for l d e) (sym (append-nil done)) ∙ t) refl

@@ -77,6 +77,7 @@ own_axis_motion J p m i = go (slice_get (axes_of m) i) (own_axis m i)
     go None own = tt
     go (Some a) own = subst (λ (n : Machine). IfSome (motion_on J p a) (OwnMotion J p n)) own (own_at J p a)
 
+-- a machine has three axes at most, and its motion is that of the first one that moves
 pub own_motion : (J : List Entry) (p : Plan) (m : Machine) → IfSome (motion_of_machine J p m) (OwnMotion J p m)
 own_motion J p m =
     own_or J p m (option_or (motion_of_axis J p m 0) (motion_of_axis J p m 1)) (motion_of_axis J p m 2)
@@ -118,6 +119,7 @@ begun J m p got r before mo o = record {
   pending = λ _. verdict_nil mo;
 }
 
+-- the same motion is followed on with this reading, and for another one the watch begins anew
 next_of : (J : List Entry) (m : Machine) (p : Plan) (got : List (Option Reading)) (r : Option Reading)
     (before : Option Following) (mo : Motion) → AxisTrace m p got before → OwnMotion J p m mo
     → IfSome (option_map (with_reading r) (followed before (Some mo))) (NextTrace m p got r before mo)
@@ -146,6 +148,7 @@ next_of J m p got r (Some f) mo t o = go (same_motion f.motion mo) refl
           pending = λ h. ap (λ l. verdict f.motion l) (sym t.readings) ∙ h;
         }
 
+-- the motion has one reading more, and so have the answers
 traced : (m : Machine) (p : Plan) (got : List (Option Reading)) (r : Option Reading) (before : Option Following)
     (mo : Motion) (F : Option Following) → IfSome F (NextTrace m p got r before mo) → AxisTrace m p (got ++ r ∷ []) F
 traced m p got r before mo None t = tt
@@ -158,6 +161,7 @@ traced m p got r before mo (Some f) t = record {
   limits = t.limits;
 }
 
+-- the verdict was pending before this reading, so this reading is what decided it
 shown : (m : Machine) (p : Plan) (got : List (Option Reading)) (r : Option Reading) (before : Option Following)
     (mo : Motion) (f : Following) (v : Verdict) → NextTrace m p got r before mo f → axis_verdict before ≡ Pending
     → verdict f.motion f.readings ≡ v → MotionShows p (got ++ r ∷ []) f.motion v
@@ -210,6 +214,7 @@ axis_traced J m p got r f t = go (motion_of_machine J p m) (own_motion J p m)
     go (Some mo) h = traced m p got r f mo (option_map (with_reading r) (followed f (Some mo)))
         (next_of J m p got r f mo t h)
 
+-- where no motion is followed there is no verdict, so the fault is one of a motion
 pub axis_faults : (J : List Entry) (m : Machine) (p : Plan) (got : List (Option Reading)) (r : Option Reading)
     (f : Option Following) (c : Cause) → AxisTrace m p got f → axis_verdict f ≡ Pending
     → axis_verdict (axis_noted J m p f r) ≡ Fault c → ShowsFault p (got ++ r ∷ []) m c
@@ -236,6 +241,7 @@ axis_arrives J m p got r f mo t calm motion is =
     calm
     (ap (λ (o : Option Motion). axis_verdict (option_map (with_reading r) (followed f o))) (sym motion) ∙ is)
 
+-- where no motion is followed there is no verdict
 pub axis_idle : (J : List Entry) (m : Machine) (p : Plan) (r : Option Reading) (f : Option Following)
     → motion_of_machine J p m ≡ None → axis_verdict (axis_noted J m p f r) ≡ Pending
 axis_idle J m p r f motion = ap (λ (o : Option Motion). axis_verdict (option_map (with_reading r) (followed f o)))
@@ -254,6 +260,7 @@ rest_traced m got r x L t = record {
       ∙ sym (map-append (λ (w : Watched). noted m w.0 w.1) t.run ((x, r) ∷ []));
 }
 
+-- its readings begin after all answers so far, and there are none yet
 rest_anew : (m : Machine) (got : List (Option Reading)) → RestTrace m got []
 rest_anew m got = record { early = got; run = []; cut = sym (append-nil got); readings = refl }
 
@@ -273,6 +280,7 @@ rest_shown m got r x L v t calm is = record {
 
 -- signs
 
+-- a sign is a signal under a green light, and the answers tell the signal without the light
 signal : (J : List Entry) (m : Machine) (r : Option Reading) → shows_sign J m r ≡ true → signals m r ≡ true
 signal J machine.Feed (Some r) h = and_one (bit r.presence 0) (same_colour (lamp_of J belt.Feed) colour.Green) h
 signal J machine.Deposit (Some r) h = and_one (not (bit r.presence 1))
@@ -284,6 +292,7 @@ signal J machine.Robot r h = cc
 signal J machine.Press1 r h = cc
 signal J machine.Press2 r h = cc
 
+-- the last reading opened the sign, and this one closes it
 pub sign_shown : (J : List Entry) (m : Machine) (got : List (Option Reading)) (r : Option Reading) (sign : Bool)
     → (sign ≡ true → SignTrace m got) → (sign && shows_sign J m r) ≡ true → SignShows m (got ++ r ∷ [])
 sign_shown J m got r sign t h =
@@ -297,6 +306,7 @@ sign_shown J m got r sign t h =
       closes = signal J m r (and_two sign (shows_sign J m r) h);
     }
 
+-- this reading is the first of the two that a sign takes
 opened : (J : List Entry) (m : Machine) (got : List (Option Reading)) (kept : Memory) (r : Option Reading)
     → opens_sign J m kept r ≡ true → SignTrace m (got ++ r ∷ [])
 opened J m got kept r h = record {
@@ -309,6 +319,7 @@ opened J m got kept r h = record {
 
 -- a turn
 
+-- a watch that begins anew stands for no answers, so nothing is asked of it
 either_axis : (m : Machine) (p : Plan) (got : List (Option Reading)) (b : Bool) (F : Option Following)
     → AxisTrace m p got F → AxisTrace m p got (if b then None else F)
 either_axis m p got true F t = tt
@@ -331,6 +342,7 @@ traces_after J m p got s r e t = record {
   sign = λ h. opened J m got s.memory r h;
 }
 
+-- no answer was given yet, so no sign is half shown
 pub traces_first : (m : Machine) (p : Plan) (memory : Memory) → memory.sign ≡ false
     → Traces m p [] (record { axis = None; rest = []; memory = memory })
 traces_first m p memory none = record { axis = tt; rest = rest_anew m []; sign = λ h. absurd (differ (sym none ∙ h)) }

@@ -36,6 +36,7 @@ use Rattle.cell_turns.proofs.Schedules.{shares_more, plus_none}
 
 -- what a watch saw
 
+-- the turn changes the mind as it changes the watch, so the mind still fits
 pub saw_after : (l : BookLimits) (J : List Entry) (m : Machine) (p : Plan) (r : Option Reading) (e : Option Entry)
     (w w' : Watch) → IsSafe J → IsCarrying J
     → ((s : Mind) → FitsMind w s → IsDecided l J m p s r e)
@@ -74,6 +75,7 @@ served l J m p r e es es' h h' w w' safe carrying list shares own decided fits f
   backed = backed_at l J m p r e w decided;
 }
 
+-- a worker starts with a watch that has seen nothing
 pub saw_start : (J : List Entry) (m : Machine) (p : Plan) (w : Watch) → FitsMind w (first_mind J m) → Saw m p [] w
 saw_start J m p w fits = record {
   mind = first_mind J m;
@@ -83,6 +85,7 @@ saw_start J m p w fits = record {
   calm = calm_first (remembered J m false false);
 }
 
+-- a failed command is in the memory alone, and the traces speak of readings
 failed_traces : (m : Machine) (p : Plan) (got : List (Option Reading)) (s : Mind) (b : Bool) → Traces m p got s
     → Traces m p got (if b then with_failure s else s)
 failed_traces m p got s true t = record { axis = t.axis; rest = t.rest; sign = t.sign }
@@ -93,6 +96,7 @@ failed_calm s true (inl h) = inl h
 failed_calm s true (inr h) = inr h
 failed_calm s false c = c
 
+-- sending reads nothing, so only the memory changes
 pub saw_sent : (m : Machine) (p : Plan) (failed : Bool) (w w' : Watch)
     → ((s : Mind) → FitsMind w s → FitsMind w' (if failed then with_failure s else s)) → (got : List (Option Reading))
     → Saw m p got w → Saw m p got w'
@@ -140,6 +144,7 @@ serves_start a es now start e is = rw (e, is)
 
 -- the answers of a call, with one more
 
+-- each turn reads once, whether it books or not
 pub shown_turn : (m : Machine) (p : Plan) (r : Option Reading) (e : Option Entry) (es es' : List Entry) (h h' : Held)
     (w w' : Watch) (before now after : Log) (k : ℕ)
     → after.answers ≡ now.answers ++ r ∷ [] → Served m p r e es es' h h' w w' → Shown m p before now es w k
@@ -197,6 +202,7 @@ shown_start m p log es w e x = rw e (record {
   many = refl;
 })
 
+-- what holds anyway holds where there is none
 pub at_none : {X : Type 0} {P : Type 0} (o : Option X) → P → IfNone o P
 at_none None p = p
 at_none (Some x) p = tt
@@ -245,6 +251,7 @@ sent_all m before now after es failed ok is s = record {
     counted true = refl
     counted false = refl
 
+-- each entry has a reading of its own
 backs_short : {p : Plan} {rs : List (Option Reading)} {es : List Entry} → Backs p rs es → length es ≤ length rs
 backs_short begun = omega arith
 backs_short (idled {rs} {es} r b) = let q = backs_short b in omega (arith, length-append rs (r ∷ []), q)
@@ -266,6 +273,7 @@ pub turns_answered : (p : Plan) (before now after : Log) (es : List Entry) (k : 
 turns_answered p before now after es k is t = ap length (is ∙ t.are) ∙ length-append before.answers t.got
     ∙ ap (λ n. length before.answers + n) t.many
 
+-- no entry declares the last command's failure, but the log counts it
 pub lost_more : (before now after : Log) (es : List Entry) (failed : Bool) (c : Command) (ok : Bool) → failed ≡ true
     → after ≡ after_command now c ok → Sends before false now es failed → before.failures < after.failures
 lost_more before now after es false c ok f is s = cc

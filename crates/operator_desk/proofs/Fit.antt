@@ -17,6 +17,7 @@ use Rattle.operator_desk.specs.declared.line.Task.{Task}
 abbrev AreShort : List ℕ → List ℕ → Type 0
 AreShort word argument = IsShort word × IsShort argument
 
+-- a field that names a word is spelled as that word, and all these words are short
 machine_short : (field : List ℕ) → IsSome (machine_named field) → IsShort field
 machine_short field some = named_short machine_word all_machine field refl some
 
@@ -26,16 +27,19 @@ station_short field some = named_short station_word all_station field refl some
 plate_short : (field : List ℕ) → IsSome (plate_of field) → IsShort field
 plate_short field some = number_short 100000 field some
 
+-- zero is a number of plates too, though no plate has it
 total_short : (field : List ℕ) → IsSome (total_of field) → IsShort field
 total_short field some =
     either (IsShort field) (bytes_eq field (codes "0")) (Some 0) (plate_of field)
     (λ same s. word_short field (codes "0") (omega arith) same) (λ s. plate_short field s) some
 
+-- the word `always` names nothing, so the field after it has to be empty
 empty_short : (field : List ℕ) → IsSome (if length field == 0 then Some trigger.Always else None) → IsShort field
 empty_short field some =
     either (IsShort field) (length field == 0) (Some trigger.Always) None
     (λ none s. omega (arith, eqb-true (length field) 0 none)) (λ s. cc s) some
 
+-- a trigger is told by one of a few words, and what may stand after each of them is short too
 trigger_short : (word bound : List ℕ) → IsSome (trigger_of word bound) → AreShort word bound
 unfolding trigger_of
 trigger_short word bound some =
@@ -71,6 +75,7 @@ both_some None a s = cc s
 both_some (Some t) None s = cc s
 both_some (Some t) (Some a) s = (refl, refl)
 
+-- so the reader of a script may give up on a long record at once, since it is no line
 pub lines_fit : FitLines line_of
 lines_fit before when bound action argument some =
     let parts = both_some (trigger_of when bound) (task_of action argument) some in

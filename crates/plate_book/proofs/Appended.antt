@@ -15,6 +15,7 @@ if_same : (b : Bool) (r : Refusal) (x y : Option Refusal) → x ≡ y
 if_same true r x y e = refl
 if_same false r x y e = e
 
+-- the second list has its say only where no test of the first holds
 pub first_true_append : (xs ys : List (Bool × Refusal))
     → option_or (first_true xs) (first_true ys) ≡ first_true (xs ++ ys)
 unfolding first_true

@@ -145,6 +145,7 @@ not_press_two s a p q t r g e n =
     let h : s.going Axis.PressTwo ≡ Some q = rw y at g in
     at_rest s Axis.PressTwo p q r h
 
+-- arms take plates from the table, or from a press that stands, and no motion carries from there
 carried_gripped : (l : BookLimits) (s : Snapshot) (place : ℕ → Place) (marks : ℕ → ℕ) (x : Arm) (k : ℕ) (src : Station)
     → Inv s place marks → Passed (tests l (situation_in s) (Entry.Gripped x k src)) → Carried s
     → Carried (step (Entry.Gripped x k src) s)
@@ -164,6 +165,7 @@ carried_gripped l s place marks Arm.Arm2 k Station.Press2 v h c a q t g e f =
     (not_press_two s a Pose.Bottom q t r g e)) (c a q t g e f)
 carried_gripped l s place marks _ k _ v h c a q t g e f = let n = h.1.1.0 in cc
 
+-- the plate leaves an arm, and no motion carries from there
 carried_dropped : (l : BookLimits) (s : Snapshot) (place : ℕ → Place) (marks : ℕ → ℕ) (x : Arm) (k : ℕ) (dest : Station)
     → Inv s place marks → Passed (tests l (situation_in s) (Entry.Dropped x k dest)) → Carried s
     → Carried (step (Entry.Dropped x k dest) s)
@@ -181,6 +183,7 @@ carried_dropped l s place marks Arm.Arm2 k Station.DepIn v h c a q t g e f =
     (c a q t g e f)
 carried_dropped l s place marks _ k _ v h c a q t g e f = let n = h.1.1.0 in cc
 
+-- the plate leaves the belt's end, and no motion carries from there
 carried_delivered : (l : BookLimits) (s : Snapshot) (place : ℕ → Place) (marks : ℕ → ℕ) (k : ℕ) → Inv s place marks
     → Passed (tests l (situation_in s) (Entry.Delivered k)) → Carried s → Carried (step (Entry.Delivered k) s)
 carried_delivered l s place marks k v h c a q t g e f =
@@ -188,6 +191,7 @@ carried_delivered l s place marks k v h c a q t g e f =
     let i = no_other s Station.DepEnd lit.plate_there k lit.there h.1.1.0 in
     stays_full s.plate k t (elsewhere s place marks k Station.DepEnd t v i (carry_apart a q t e).3) (c a q t g e f)
 
+-- the motion's machine is the station's, and it's healthy, while that of src has failed
 failed_not : (s : Snapshot) (a : Axis) (q : Pose) (src t : Station) → s.failed (machine_of_station src) ≡ true
     → carries_from a q ≡ Some t → s.failed (machine_of_axis a) ≡ false → t ≢ src
 failed_not s a q src t bad e f n =
@@ -206,6 +210,7 @@ carried_quarantined l s place marks k src v h c a q t g e f =
     let i = no_other s src o.0 k o.1 w.1.0 in
     stays_full s.plate k t (elsewhere s place marks k src t v i (failed_not s a q src t bad e f)) (c a q t g e f)
 
+-- a machine whose axis still moves isn't the one that is repaired
 repaired_healthy : (x m : Machine) (o : Option Pose) (q : Pose) (fx : Bool)
     → (if same_machine x m then None else o) ≡ Some q → (if same_machine m x then false else fx) ≡ false → fx ≡ false
 repaired_healthy x m o q fx g f = grind (arith, machine_same, nat_tests)
@@ -217,6 +222,7 @@ enters_full : (s : Snapshot) (place : ℕ → Place) (marks : ℕ → ℕ) (k : 
 enters_full s place marks k p v i n t e =
     comes_full s.plate k Station.FeedIn t (λ d. n t (sym i ∙ v.plates.there t k d)) e
 
+-- a plate leaves no station from which a healthy machine's motion carries it
 carried_step : (l : BookLimits) (s : Snapshot) (place : ℕ → Place) (marks : ℕ → ℕ) (e : Entry) → Inv s place marks
     → Passed (tests l (situation_in s) e) → Carried s → Carried (step e s)
 carried_step l s place marks (Entry.Admitted k) v h c = λ a q t g e f.

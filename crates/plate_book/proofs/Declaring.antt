@@ -83,6 +83,7 @@ one_more f g Machine.Deposit e h = rw (
   e,
 ) (omega arith)
 
+-- each machine counts for one at most
 bit : (b : Bool) → cond b 1 0 ≤ 1
 bit true = omega arith
 bit false = omega arith
@@ -150,9 +151,11 @@ declared_fails J m cause n = view_snoc (fails n) false J (Declared m cause) ∙ 
     when_or true = refl
     when_or false = refl
 
+-- any entry but a declaration is allowed only below the limit
 longer : (J : List Entry) (e : Entry) (n k : ℕ) → length J < n → length (J ++ e ∷ []) ≤ n + k
 longer J e n k h = omega (arith, length-append J (e ∷ []))
 
+-- a declaration adds one entry and one failed machine, and other entries stay below the limit
 spared_step : (l : BookLimits) (J : List Entry) (e : Entry) → IsSpared l J → first l (situation_of J) e ≡ None
     → IsSpared l (J ++ e ∷ [])
 spared_step l J (Declared m cause) s h =
@@ -170,6 +173,7 @@ spared l = along l (IsSpared l) (omega arith)
 not_le : (n m : ℕ) → m < n → nat_le n m ≡ false
 not_le n m h = grind (arith, nat_tests)
 
+-- this machine is healthy, so at most five others have used the room beyond the limit
 pub healthy_is_declared : (l : BookLimits) (J : List Entry) (m : Machine) (cause : Cause) → legal l J ≡ true
     → is_failed J m ≡ false → first_of l J (Declared m cause) ≡ None
 unfolding first_true

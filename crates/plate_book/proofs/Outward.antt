@@ -5,6 +5,7 @@ use Rattle.plate_book.specs.declared.refusal.Refusal.{Refusal}
 use Rattle.plate_book.specs.Rules.First.{first_true}
 use Rattle.plate_book.proofs.Appended.{first_true_append}
 
+-- the code asks part by part, and the rules make one list of all the tests
 pub outward_law : (o n h : Bool × Refusal) (before after : List (Bool × Refusal))
     → option_or (first_true (o ∷ [])) (option_or (first_true before)
     (option_or (first_true (n ∷ [])) (option_or (first_true after) (first_true (h ∷ [])))))

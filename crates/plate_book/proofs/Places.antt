@@ -59,6 +59,7 @@ pub source_inside : (e : Entry) → source e ≢ Place.Delivered
 source_inside (Conveyed a k dest) = start_at (motion_to a dest)
 source_inside _ = λ e. cc
 
+-- the entry puts another plate, or none
 put_case : (o : Option Placing) (k : ℕ) (v x : Place) → ((p : Placing) → o ≡ Some p → p.plate ≡ k → ⊥) → x ≡ v
     → unwrap_or (option_and_then (λ (p : Placing). when (p.plate == k) p.goes) o) x ≡ v
 put_case None k v x n e = e

@@ -177,6 +177,7 @@ abbrev pub Passed : List (Bool × Refusal) → Type 0
 Passed [] = Unit {0}
 Passed (t ∷ ts) = (t.0 ≡ false) × Passed ts
 
+-- the first test's value is named, so that the search for the first that holds can go on by it
 passed_case : (t : Bool × Refusal) (ts : List (Bool × Refusal)) (b : Bool) → t.0 ≡ b → first_true (t ∷ ts) ≡ None
     → (t.0 ≡ false) × (first_true ts ≡ None)
 unfolding first_true
@@ -219,6 +220,7 @@ free s t h = not_some_tells (s.plate t) h
 pub plate_at : (s : Snapshot) (t : Station) (k : ℕ) → not (is_plate k (s.plate t)) ≡ false → s.plate t ≡ Some k
 plate_at s t k h = is_plate_tells k (s.plate t) (not_false (is_plate k (s.plate t)) h)
 
+-- there is a plate, and the test says that it's none but k
 pub no_other : (s : Snapshot) (t : Station) (j k : ℕ) → s.plate t ≡ Some j
     → (is_some (s.plate t) && not (is_plate k (s.plate t))) ≡ false → s.plate t ≡ Some k
 no_other s t j k e h =

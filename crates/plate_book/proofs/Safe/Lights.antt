@@ -15,7 +15,8 @@ use Rattle.plate_book.specs.Rules.First.{started_tests, tests}
 use Rattle.cell_types.specs.After.{Snapshot, with_at, without, with_plate}
 use Rattle.plate_book.specs.Rules.SituationIn.{situation_in}
 use Rattle.plate_book.proofs.Safe.Facts.{pose_same, Axes, axes_of, rest, Passed}
-use Rattle.plate_book.proofs.Safe.Motion.{MotionSafe, begun, homed, fits}
+use Rattle.plate_book.proofs.Safe.Motion.{MotionSafe, begun, fits}
+use Rattle.plate_book.proofs.Safe.Repairs.{homed}
 use Rattle.plate_book.proofs.Safe.Plates.{without_is}
 
 pub record FeedLit (ax : Axes) (plate : Station → Option ℕ) : Type 0 where
@@ -38,6 +39,7 @@ pub feed_rests : (s : Snapshot) → fits Axis.FeedBelt (axes_of s Axis.FeedBelt)
     → axes_of s Axis.FeedBelt ≡ rest Pose.Rest
 feed_rests s e f = grind (arith, pose_same)
 
+-- a light turns green only by tests that ask for all that green says
 pub lights_lamp : (s : Snapshot) (b : Belt) (to : Colour) → MotionSafe (axes_of s) s.holder
     → LightsSafe (axes_of s) s.plate s.failed s.lamp → (l : BookLimits)
     → Passed (tests l (situation_in s) (Entry.Lamp b to))
@@ -48,6 +50,7 @@ lights_lamp s b to e f l g = grind (arith, pose_same)
 pub feed_without : (ax : Axes) (plate : Station → Option ℕ) (k : ℕ) → FeedLit ax plate → FeedLit ax (without k plate)
 feed_without ax plate k e = grind (arith, pose_same)
 
+-- the plate of which the light tells is at the belt's end, and plate k isn't
 pub deposit_without : (plate : Station → Option ℕ) (failed : Machine → Bool) (place : ℕ → Place) (k : ℕ)
     → ((t : Station) (j : ℕ) → plate t ≡ Some j → place j ≡ Place.At t) → place k ≢ Place.At Station.DepEnd
     → DepositLit plate failed → DepositLit (without k plate) failed
@@ -73,6 +76,7 @@ pub feed_axis : (ax : Axes) (a : Axis) (p q : Pose) (plate : Station → Option 
     → FeedLit ax plate → FeedLit (with_at (same_axis a) (rest p) ax) plate
 feed_axis ax a p q plate e f = grind (arith, pose_same)
 
+-- a green feed light tells of a belt that stands, so the axis that stops is another one
 pub lights_rests : (ax : Axes) (a : Axis) (p q : Pose) (plate : Station → Option ℕ) (failed : Machine
     → Bool) (lamp : Belt → Colour) → (ax a).going ≡ Some q → LightsSafe ax plate failed lamp
     → LightsSafe (with_at (same_axis a) (rest p) ax) plate failed lamp
@@ -88,6 +92,7 @@ lights_declared ax plate failed lamp m e = grind (arith, pose_same)
 healthy_case : (b : Bool) (f : Bool) → f ≡ false → cond b false f ≡ false
 healthy_case b f e = grind (arith, pose_same)
 
+-- the feed belt's only pose is its home, so a repair leaves it there
 belt_home : (ax : Axes) (b : Bool) → ax Axis.FeedBelt ≡ rest Pose.Rest
     → cond b (rest Pose.Rest) (ax Axis.FeedBelt) ≡ rest Pose.Rest
 belt_home ax b e = grind (arith, pose_same)

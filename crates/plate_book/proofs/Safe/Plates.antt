@@ -15,7 +15,8 @@ use Rattle.std.specs.Prelude.{unwrap_or}
 use Rattle.std.proofs.lemmas.Bool.{cases_eq}
 use Rattle.cell_views.specs.Last.{when}
 use Rattle.plate_book.proofs.Safe.Facts.{station_same, pose_same, Axes, rest, going_to, Passed}
-use Rattle.plate_book.proofs.Safe.Motion.{begun, homed, press_goes, may_go}
+use Rattle.plate_book.proofs.Safe.Motion.{begun, press_goes, may_go}
+use Rattle.plate_book.proofs.Safe.Repairs.{homed}
 
 -- how often a plate at a station has been forged
 abbrev pub press_stage : Pose → ℕ
@@ -57,6 +58,7 @@ pub record PlatesSafe (ax : Axes) (plate : Station → Option ℕ) (place : ℕ 
 abbrev pub placed_at : ℕ → Place → (ℕ → Place) → ℕ → Place
 placed_at k v place j = unwrap_or (when (k == j) v) (place j)
 
+-- the test of the two numbers is named, so that the proof can go by its values
 placed_same_case : (k : ℕ) (v : Place) (place : ℕ → Place) (b : Bool) → (k == k) ≡ b → placed_at k v place k ≡ v
 placed_same_case k v place b e = grind (arith, pose_same)
 
@@ -89,11 +91,13 @@ pub record Numbered (k n n' : ℕ) : Type 0 where
   pub grows : n ≤ n'
   pub others : (j : ℕ) → j ≢ k → j ≤ n' → j ≤ n
 
+-- plate k has a number, so it's none of those that are nowhere
 outside_after : (place : ℕ → Place) (k n n' : ℕ) (v : Place) → Numbered k n n'
     → ((j : ℕ) → (j ≡ 0) ⊎ (n + 1 ≤ j) → place j ≡ Place.Nowhere) → (j : ℕ) → (j ≡ 0) ⊎ (n' + 1 ≤ j)
     → placed_at k v place j ≡ Place.Nowhere
 outside_after place k n n' v e f j g = grind (arith, pose_same)
 
+-- plate k comes somewhere, and any other plate with a number had one before
 inside_after : (place : ℕ → Place) (k n n' : ℕ) (v : Place) → v ≢ Place.Nowhere → Numbered k n n'
     → ((j : ℕ) → 1 ≤ j → j ≤ n → place j ≢ Place.Nowhere) → (j : ℕ) → 1 ≤ j → j ≤ n'
     → placed_at k v place j ≢ Place.Nowhere
@@ -103,6 +107,7 @@ inside_after place k n n' v nv w o j low high = go (cases_eq j k)
     go (inl e) = rw (e, placed_same k v place) nv
     go (inr ne) = rw (placed_other k v place j ne) (o j low (w.others j ne high))
 
+-- no other plate changes its place
 counted_after : (ax : Axes) (place : ℕ → Place) (marks : ℕ → ℕ) (k : ℕ) (v : Place) → Counted ax v (marks k)
     → ((j : ℕ) → Counted ax (place j) (marks j)) → (j : ℕ) → Counted ax (placed_at k v place j) (marks j)
 counted_after ax place marks k v c o j = go (cases_eq j k)
@@ -118,6 +123,7 @@ station_yes s t e = eq-eqb (station_number s) (station_number t) (ap station_num
 pub with_plate_at : (k : ℕ) (s t : Station) (plate : Station → Option ℕ) → s ≡ t → with_plate k s plate t ≡ Some k
 with_plate_at k s t plate e = rw (station_yes s t e)
 
+-- plate k is at s only, and what another station holds it held before
 there_case : (plate : Station → Option ℕ) (place : ℕ → Place) (k : ℕ) (s t : Station) (j : ℕ) (b : Bool)
     → same_station s t ≡ b → ((t : Station) (j : ℕ) → plate t ≡ Some j → place j ≡ Place.At t)
     → (if b then Some k else without k plate t) ≡ Some j → placed_at k (Place.At s) place j ≡ Place.At t
@@ -128,10 +134,12 @@ there_case plate place k s t j false e o h =
     let w = without_tells k plate t j h in
     placed_other k (Place.At s) place j w.1 ∙ o t j w.0
 
+-- station s was empty, so no plate is lost that was there
 here_case : (plate : Station → Option ℕ) (k : ℕ) (s t : Station) (j : ℕ) (b : Bool) → same_station s t ≡ b
     → plate s ≡ None → plate t ≡ Some j → j ≢ k → (if b then Some k else without k plate t) ≡ Some j
 here_case plate k s t j b e f g p = grind (arith, pose_same)
 
+-- the motions under way end at other stations than s, and these are as before
 clear_case : (plate : Station → Option ℕ) (k : ℕ) (s t : Station) (b : Bool) → same_station s t ≡ b → s ≢ t
     → plate t ≡ None → (if b then Some k else without k plate t) ≡ None
 clear_case plate k s t b e f g = grind (arith, pose_same)
@@ -194,11 +202,13 @@ pub stage_same : (ax ax' : Axes) (t : Station) → (ax' Axis.PressOne).at ≡ (a
     → (ax' Axis.PressTwo).at ≡ (ax Axis.PressTwo).at → stage ax' t ≡ stage ax t
 stage_same ax ax' t e f = grind (arith, pose_same)
 
+-- where a stage changes the station is empty, so no plate is counted by it
 counted_axes : (ax ax' : Axes) (plate : Station → Option ℕ) (j m : ℕ) (p : Place)
     → ((t : Station) → p ≡ Place.At t → plate t ≡ Some j)
     → ((t : Station) → (stage ax' t ≡ stage ax t) ⊎ (plate t ≡ None)) → Counted ax p m → Counted ax' p m
 counted_axes ax ax' plate j m p e f g = grind (arith, pose_same)
 
+-- of the rules only the counts and the stations kept clear depend on axes
 pub plates_axes : (ax ax' : Axes) (plate : Station → Option ℕ) (place : ℕ → Place) (marks : ℕ → ℕ) (n : ℕ)
     → PlatesSafe ax plate place marks n → ((t : Station) → (stage ax' t ≡ stage ax t) ⊎ (plate t ≡ None))
     → ((a : Axis) (q : Pose) (t : Station) → (ax' a).going ≡ Some q → ends a q ≡ Some t → plate t ≡ None)
@@ -210,6 +220,7 @@ begun_at : (ax : Axes) (a y : Axis) (to : Pose) (b : Bool) → same_axis a y ≡
     → (cond b (going_to (ax a).at to) (ax y)).at ≡ (ax y).at
 begun_at ax a y to b e = grind (arith, pose_same)
 
+-- the tests ask that the new motion's end is empty, and other motions end where they did
 begun_clear : (ax : Axes) (plate : Station → Option ℕ) (a y : Axis) (to q : Pose) (t : Station) (b : Bool)
     → same_axis a y ≡ b → (ends a to ≡ Some t → plate t ≡ None) → ((ax y).going ≡ Some q → plate t ≡ None)
     → (cond b (going_to (ax a).at to) (ax y)).going ≡ Some q → ends y q ≡ Some t → plate t ≡ None
@@ -248,6 +259,7 @@ press_arrives : (q p : Pose) → press_goes q p ≡ true → p ≢ Pose.Top
     → (p ≡ Pose.Middle) ⊎ (press_stage p ≡ press_stage q)
 press_arrives q p e f = grind (arith, pose_same)
 
+-- belts don't end by an arrival, and a press goes to Middle only while it's empty
 pub arrived_stage : (ax : Axes) (a : Axis) (p : Pose) (plate : Station → Option ℕ) (t : Station) → (ax a).going ≡ Some p
     → may_go a (ax a).at p ≡ true → ends_by_arrival a p ≡ true → ((t : Station) → ends a p ≡ Some t → plate t ≡ None)
     → (stage (with_at (same_axis a) (rest p) ax) t ≡ stage ax t) ⊎ (plate t ≡ None)
@@ -290,10 +302,12 @@ forged_other k j marks n = let e : (k == j) ≡ false = ne_eqb k j (λ d. n (sym
 pub forged_same : (k : ℕ) (marks : ℕ → ℕ) → forged_at k marks k ≡ marks k + 1
 forged_same k marks = let e : (k == k) ≡ true = eq-eqb k k refl in rw e
 
+-- only the stage of t changes, and the plate isn't there
 counted_axes_but : (ax ax' : Axes) (j m : ℕ) (p : Place) (t : Station) → (p ≡ Place.At t → ⊥)
     → ((u : Station) → u ≢ t → stage ax' u ≡ stage ax u) → Counted ax p m → Counted ax' p m
 counted_axes_but ax ax' j m p t e f g = grind (arith, pose_same)
 
+-- the press holds the one plate that is forged, so all others are elsewhere and keep their count
 pub forged_counted : (ax ax' : Axes) (plate : Station → Option ℕ) (place : ℕ → Place) (marks : ℕ
     → ℕ) (n k : ℕ) (t : Station) → PlatesSafe ax plate place marks n → plate t ≡ Some k → stage ax t ≡ 0
     → stage ax' t ≡ 1 → ((u : Station) → u ≢ t → stage ax' u ≡ stage ax u) → (j : ℕ)

@@ -27,7 +27,7 @@ use Rattle.plate_book.specs.Rules.Legal.{allowed, legal_from, legal}
 use Rattle.plate_book.proofs.Safe.Facts.{pose_same, Passed, passed_last, free, plate_at, occupied, no_other, resting}
 use Rattle.plate_book.proofs.Safe.Facts.{still, and_both, or_neither, not_false, is_plate_tells, Axes, axes_of, rest}
 use Rattle.plate_book.proofs.Safe.Motion.{Spot, spot_arm, spot_pose, Facing, ArmSafe, MotionSafe, has_pose, fits_going}
-use Rattle.plate_book.proofs.Safe.Motion.{may_start}
+use Rattle.plate_book.proofs.Safe.Starts.{may_start}
 use Rattle.plate_book.proofs.Safe.Plates.{Counted}
 use Rattle.plate_book.proofs.Safe.Returns.{expected_there}
 use Rattle.plate_book.proofs.Safe.Step.{Inv, hands, green}
@@ -41,6 +41,7 @@ rests_at_from P s a p e f = grind (arith, pose_same)
 pub rests_from : (P : List Entry) (s : Snapshot) (a : Axis) (p : Pose) → Agrees P s → axes_of s a ≡ rest p → Rests P a
 rests_from P s a p g e = g.going a ∙ ap (λ (t : AxisState). t.going) e
 
+-- if a plate were told to be there, the state would hold it too
 empty_from : (P : List Entry) (s : Snapshot) (t : Station) → Inv s (place_of P) (marks_of P) → s.plate t ≡ None
     → IsEmpty P t
 empty_from P s t v e k d = let f = v.plates.here t k d in cc
@@ -55,6 +56,7 @@ pub record Within (s : Snapshot) (m : Machine) : Type 0 where
   pub owned : owner_told (faced (spot_arm spot) (spot_pose spot)) ≡ m
   pub faced_there : Facing (axes_of s) s.holder spot
 
+-- an arm that isn't in is at a spot, which the turn tells, and the spot tells its owner
 within_arm : (P : List Entry) (s : Snapshot) (m : Machine) (x : Arm) → Agrees P s → ArmSafe (axes_of s) s.holder x
     → IsInside P m x → Within s m
 within_arm P s m x e f g = grind (arith, pose_same)
@@ -88,6 +90,7 @@ deposit_rests : (s : Snapshot) (y : Spot) → owner_told (faced (spot_arm y) (sp
     → Facing (axes_of s) s.holder y → s.going Axis.DepositBelt ≡ None
 deposit_rests s y e f = grind (arith, pose_same)
 
+-- an arm may be out only where the robot's turn rests
 arm_in : (s : Snapshot) (x : Arm) (p : Pose) → ArmSafe (axes_of s) s.holder x → s.going Axis.RobotTurn ≡ Some p
     → axes_of s (axis_of_arm x) ≡ rest Pose.In
 arm_in s x p e f = grind (arith, pose_same)
@@ -106,6 +109,7 @@ any_contains p (x ∷ xs) h = go (same_pose p x) refl h (λ i. any_contains p xs
     go true e i r = (zero, omega arith, sym (pose_same p x e))
     go false e i r = let w = r i in (suc w.0, (let l = w.1 in omega arith), w.2)
 
+-- each rule follows from the invariant, and the journal tells what the state holds
 pub safe_state : (P : List Entry) → Good P → SafeState P
 safe_state P w =
     let s = after P in
@@ -244,6 +248,7 @@ arm_pose : (P : List Entry) (s : Snapshot) (a : Axis) (p to : Pose) → Agrees P
     → same_pose p to ≡ false → to ≢ at_of P a
 arm_pose x0 x1 x2 x3 x4 x5 x6 x7 x8 = grind (arith, pose_same)
 
+-- an arm has two poses, and the tests ask that it rests at the other one
 one_moves : (P : List Entry) (s : Snapshot) (to : Pose) → Agrees P s → Passed (arm_tests (situation_in s) Arm.Arm1 to)
     → Rests P Axis.ArmOne × (Contains (poses Axis.ArmOne) to × (to ≢ at_of P Axis.ArmOne))
 unfolding is_machine
@@ -258,6 +263,7 @@ full_told : (P : List Entry) (s : Snapshot) (t : Station) → Inv s (place_of P)
     → not (is_some (s.plate t)) ≡ false → IsOccupied P t
 full_told P s t v h = let o = occupied s t h in (o.0, v.plates.there t o.0 o.1)
 
+-- axis by axis: the first tests of each ask that it rests, and the next for what its move needs
 started_is : (P : List Entry) (a : Axis) (to : Pose) → Good P → Passed (started_tests (situation_in (after P)) a to)
     → Rests P a × IsSafeMove P a to
 started_is P Axis.FeedBelt Pose.ToEnd w h = (w.agrees.going Axis.FeedBelt ∙ still (after P) Axis.FeedBelt h.0, tt)
@@ -320,6 +326,7 @@ feed_free P w h =
       empty_from P s Station.FeedEnd w.safe lit.back,
     )
 
+-- entries of other kinds have no rule of their own
 kind_is : (l : BookLimits) (P : List Entry) (e : Entry) → Good P → Passed (tests l (situation_in (after P)) e)
     → SafeKind P e
 kind_is l P (Entry.Dropped x k dest) w h = drop_is l P x k dest w h

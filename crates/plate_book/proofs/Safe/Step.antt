@@ -28,9 +28,13 @@ use Rattle.plate_book.proofs.Safe.Facts.{pose_same, Axes, axes_of, rest, going_t
 use Rattle.plate_book.proofs.Safe.Facts.{free, plate_at, occupied, no_other, resting, held, and_both, not_false}
 use Rattle.plate_book.proofs.Safe.Facts.{not_some_tells, is_plate_tells, is_pose_tells}
 use Rattle.plate_book.proofs.Safe.Motion.{Holders, Spot, Load1, Load2, Unload1, Unload2, spot_arm, spot_pose}
-use Rattle.plate_book.proofs.Safe.Motion.{spot_station, Facing, ArmSafe, MotionSafe, begun, homed, press_goes, may_go}
-use Rattle.plate_book.proofs.Safe.Motion.{has_pose, fits, motion_rests, motion_claimed, motion_yielded, motion_started}
-use Rattle.plate_book.proofs.Safe.Motion.{motion_repaired, Stands, stands, not_in, at_is}
+use Rattle.plate_book.proofs.Safe.Motion.{spot_station, Facing, ArmSafe, MotionSafe, begun, press_goes, may_go}
+use Rattle.plate_book.proofs.Safe.Motion.{has_pose, fits}
+use Rattle.plate_book.proofs.Safe.Stops.{motion_rests}
+use Rattle.plate_book.proofs.Safe.Zones.{motion_claimed, motion_yielded}
+use Rattle.plate_book.proofs.Safe.Arms.{Stands, stands, not_in, at_is}
+use Rattle.plate_book.proofs.Safe.Starts.{motion_started}
+use Rattle.plate_book.proofs.Safe.Repairs.{homed, motion_repaired}
 use Rattle.plate_book.proofs.Safe.Plates.{press_stage, stage, Counted, ends, PlatesSafe, placed_at, Numbered}
 use Rattle.plate_book.proofs.Safe.Plates.{plates_placed, plates_left, numbered, plates_begun, start_clear, plates_rests}
 use Rattle.plate_book.proofs.Safe.Plates.{arrived_stage, plates_homed, emptied, forged_at, forged_counted, no_end}
@@ -101,15 +105,18 @@ axes_repaired s m = λ i y. homed_at s y (same_machine (machine_of_axis y) m) i
 abbrev SafeWith : Snapshot → (ℕ → Place) → (ℕ → ℕ) → Axes → Type 0
 SafeWith t place marks ax = Safe ax t.holder t.plate place marks t.admitted t.failed t.lamp t.expected t.waits
 
+-- the axes are exchanged as a whole, as the lemmas on the parts speak of axes and not of entries
 with_axes : (t : Snapshot) (place : ℕ → Place) (marks : ℕ → ℕ) (ax : Axes) → axes_of t ≡ ax → SafeWith t place marks ax
     → Inv t place marks
 with_axes t place marks ax e h = subst (λ (x : Axes). SafeWith t place marks x) (sym e) h
 
+-- the tests let a light turn green only where all that green says is so
 step_lamp : (l : BookLimits) (s : Snapshot) (place : ℕ → Place) (marks : ℕ → ℕ) (b : Belt) (to : Colour)
     → Inv s place marks → Passed (tests l (situation_in s) (Entry.Lamp b to))
     → Inv (step (Entry.Lamp b to) s) place marks
 step_lamp l s place marks b to e f = grind (arith, pose_same)
 
+-- a light has two colours only
 pub green : (c : Colour) → same_colour c Colour.Red ≡ false → c ≡ Colour.Green
 green c e = grind (arith, pose_same)
 
@@ -119,6 +126,7 @@ Enters s place marks k n expected waits =
     Safe (axes_of s) s.holder (with_plate k Station.FeedIn s.plate) (placed_at k (Place.At Station.FeedIn) place) marks
     n s.failed (with_at (same_belt Belt.Feed) Colour.Red s.lamp) expected waits
 
+-- the feed light is green, so both places on the belt are free
 enters : (s : Snapshot) (place : ℕ → Place) (marks : ℕ → ℕ) (k n : ℕ) (expected : Option ℕ) (waits : ℕ → Option Station)
     → Inv s place marks → s.lamp Belt.Feed ≡ Colour.Green → place k ≢ Place.At Station.DepEnd → Numbered k s.admitted n
     → marks k ≡ 0 → ReturnsSafe expected waits (placed_at k (Place.At Station.FeedIn) place) marks
@@ -169,6 +177,7 @@ step_reinstated l s place marks k v h =
     (expected_unforged s.expected s.waits place marks k v.returns e)
     (returns_back s.expected s.waits place marks k (Place.At Station.FeedIn) v.returns)
 
+-- the tests ask that the plate waits from before a press, which is what the invariant wants of it
 step_expected : (l : BookLimits) (s : Snapshot) (place : ℕ → Place) (marks : ℕ → ℕ) (k : ℕ) → Inv s place marks
     → Passed (tests l (situation_in s) (Entry.Expected k)) → Inv (step (Entry.Expected k) s) place marks
 step_expected l s place marks k v h =
@@ -220,9 +229,11 @@ going_fits : (s : Snapshot) (a : Axis) (p : Pose) → fits a (axes_of s a) ≡ t
     → may_go a (s.at a) p ≡ true
 going_fits s a p e f = grind (arith, pose_same)
 
+-- a belt's motion leads to none of its poses, but it ends by a conveyed plate and not by an arrival
 arrival_pose : (a : Axis) (q p : Pose) → ends_by_arrival a p ≡ true → may_go a q p ≡ true → has_pose a p ≡ true
 arrival_pose a q p e f = grind (arith, pose_same)
 
+-- the axis was going just there, so it's one that stops, and at a pose to which it may go
 step_arrived : (l : BookLimits) (s : Snapshot) (place : ℕ → Place) (marks : ℕ → ℕ) (a : Axis) (p : Pose)
     → Inv s place marks → Passed (tests l (situation_in s) (Entry.Arrived a p))
     → Inv (step (Entry.Arrived a p) s) place marks
@@ -278,6 +289,7 @@ feed_dark : (ax : Axes) (plate : Station → Option ℕ) (q : Pose) → (ax Axis
     → ⊥
 feed_dark ax plate q g o = let b : None ≡ Some q = ap (λ (t : AxisState). t.going) (sym o.belt) ∙ g in cc
 
+-- belts convey between three pairs of stations, and the tests refuse all the rest
 step_conveyed : (l : BookLimits) (s : Snapshot) (place : ℕ → Place) (marks : ℕ → ℕ) (a : Axis) (k : ℕ) (dest : Station)
     → Inv s place marks → Passed (tests l (situation_in s) (Entry.Conveyed a k dest))
     → Inv (step (Entry.Conveyed a k dest) s) (placed_at k (Place.At dest) place) marks
@@ -347,9 +359,11 @@ forges s place marks m a t k v g e r i z one w =
       returns = returns_forged s.expected s.waits place marks k v.returns (λ d. cc);
     })
 
+-- a press reaches Top only from Middle, where its plate isn't forged yet
 rises : (q : Pose) → press_goes q Pose.Top ≡ true → press_stage q ≡ 0
 rises q e = grind (arith, pose_same)
 
+-- of the stations, only the press itself depends on its axis
 other_one : (ax : Axes) (u : Station) → u ≢ Station.Press1
     → stage (with_at (same_axis Axis.PressOne) (rest Pose.Top) ax) u ≡ stage ax u
 other_one ax u e = grind (arith, pose_same)
@@ -379,6 +393,7 @@ step_forged l s place marks _ k v h = let e = h.1.1.0 in cc
 spot_same : (x y : Spot) → spot_arm x ≡ spot_arm y → spot_station x ≡ spot_station y → x ≡ y
 spot_same x y e f = grind (arith, pose_same)
 
+-- the spots are the rows of what an arm may face, so both tell the same station
 spot_faced : (x : Spot) (t : Station) → is_faced t (faced (spot_arm x) (spot_pose x)) ≡ true → spot_station x ≡ t
 spot_faced x t e = grind (arith, pose_same)
 
@@ -390,6 +405,7 @@ pub record Hands (s : Snapshot) (arm : Arm) (at from to : Station) (k : ℕ) : T
   pub full : s.plate from ≡ Some k
   pub empty : s.plate to ≡ None
 
+-- the arm is out and so at a spot, and the tests say that this spot's station is meant
 pub hands : (s : Snapshot) (arm : Arm) (at from to : Station) (k : ℕ) → ArmSafe (axes_of s) s.holder arm
     → Passed (handing_tests (situation_in s) arm at from to k) → Hands s arm at from to k
 hands s arm at from to k v h =
@@ -416,6 +432,7 @@ pub at_spot : (s : Snapshot) (y : Spot) (from to : Station) (k : ℕ) → Hands 
     → Facing (axes_of s) s.holder y
 at_spot s y from to k e = grind (arith, pose_same)
 
+-- a plate is at one station only
 not_at_end : (s : Snapshot) (place : ℕ → Place) (marks : ℕ → ℕ) (src : Station) (k : ℕ) → Inv s place marks
     → s.plate src ≡ Some k → src ≢ Station.DepEnd → place k ≢ Place.At Station.DepEnd
 not_at_end s place marks src k v e n d = let p = v.plates.there src k e in let i : src ≡ Station.DepEnd = cc in n i
@@ -438,6 +455,7 @@ moved_to s place marks e k src dest v f t n c o d1 d2 d3 =
           v.returns (λ d. cc);
     }
 
+-- the table's plate is unforged like arm one's, and that of a press at Bottom forged like arm two's
 step_gripped : (l : BookLimits) (s : Snapshot) (place : ℕ → Place) (marks : ℕ → ℕ) (arm : Arm) (k : ℕ) (src : Station)
     → Inv s place marks → Passed (tests l (situation_in s) (Entry.Gripped arm k src))
     → Inv (step (Entry.Gripped arm k src) s) (placed_at k (Place.At (station_of_arm arm)) place) marks
@@ -457,6 +475,7 @@ step_gripped l s place marks Arm.Arm2 k Station.Press2 v h =
     (λ e. cc) (rw r) (λ d. d) refl refl refl
 step_gripped l s place marks _ k _ v h = let e = h.1.1.0 in cc
 
+-- arm one's unforged plate goes into a press at Middle, and arm two's forged one onto the deposit belt
 step_dropped : (l : BookLimits) (s : Snapshot) (place : ℕ → Place) (marks : ℕ → ℕ) (arm : Arm) (k : ℕ) (dest : Station)
     → Inv s place marks → Passed (tests l (situation_in s) (Entry.Dropped arm k dest))
     → Inv (step (Entry.Dropped arm k dest) s) (placed_at k (Place.At dest) place) marks
@@ -480,6 +499,7 @@ step_dropped l s place marks Arm.Arm2 k Station.DepIn v h =
     (λ e. cc) refl (λ d. d) refl refl refl
 step_dropped l s place marks _ k _ v h = let e = h.1.1.0 in cc
 
+-- the deposit light is green, so there is a plate at the belt's end, and the tests say which
 step_delivered : (l : BookLimits) (s : Snapshot) (place : ℕ → Place) (marks : ℕ → ℕ) (k : ℕ) → Inv s place marks
     → Passed (tests l (situation_in s) (Entry.Delivered k))
     → Inv (step (Entry.Delivered k) s) (placed_at k Place.Delivered place) marks
@@ -503,9 +523,11 @@ step_delivered l s place marks k v h =
 stage_before : (ax : Axes) (t : Station) → is_before_press t ≡ true → stage ax t ≡ 0
 stage_before ax t e = grind (arith, pose_same)
 
+-- so quarantine, where a plate may have been forged once at most, takes plates from every station
 pub stage_low : (ax : Axes) (t : Station) → stage ax t ≤ 1
 stage_low ax t = grind (arith, pose_same)
 
+-- the station's machine has failed, so the plate isn't the one that a green deposit light tells of
 step_quarantined : (l : BookLimits) (s : Snapshot) (place : ℕ → Place) (marks : ℕ → ℕ) (k : ℕ) (src : Station)
     → Inv s place marks → Passed (tests l (situation_in s) (Entry.Quarantined k src))
     → Inv (step (Entry.Quarantined k src) s) (placed_at k Place.Quarantine place) marks
@@ -534,6 +556,7 @@ step_quarantined l s place marks k src v h =
           (λ b. c ∙ stage_before (axes_of s) src b);
     }
 
+-- the tests say that nobody visits the machine and that its stations are empty, so its axes may go home
 step_repaired : (l : BookLimits) (s : Snapshot) (place : ℕ → Place) (marks : ℕ → ℕ) (m : Machine) → Inv s place marks
     → Passed (tests l (situation_in s) (Entry.Repaired m)) → Inv (step (Entry.Repaired m) s) place marks
 step_repaired l s place marks m v h =

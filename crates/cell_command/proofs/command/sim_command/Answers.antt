@@ -1,3 +1,4 @@
+-- Each step adds its rules to the command as the steps before it built it
 use Rattle.std.proofs.Common.{◌≡◌, IfOk, codes, subst}
 use Rattle.clap.specs.Words.{App, app_of, new_app, with_rule}
 use Rattle.cell_command.specs.Shape.{file_rule, filed, flag_rule, flagged}

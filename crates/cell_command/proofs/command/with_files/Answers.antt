@@ -1,3 +1,4 @@
+-- The rules of the scripts come behind that of the settings
 use Rattle.std.proofs.Common.{◌≡◌, IfOk, subst}
 use Rattle.clap.specs.Words.{App, app_of}
 use Rattle.cell_command.specs.Shape.{scripted}

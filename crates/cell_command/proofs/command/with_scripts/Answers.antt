@@ -1,3 +1,4 @@
+-- The rule of the operator's script comes behind that of the faults
 use Rattle.std.proofs.Common.{◌≡◌, IfOk, codes, subst}
 use Rattle.clap.specs.Words.{App, app_of, with_rule}
 use Rattle.cell_command.specs.Shape.{path_rule, scripted}

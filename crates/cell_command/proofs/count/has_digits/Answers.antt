@@ -1,3 +1,4 @@
+-- A leading plus is left off first, and then each character is tested
 use Rattle.std.proofs.Common.{◌≡◌, ◌<◌, length, ap, rules, sym, ◌∙◌}
 use Rattle.std.specs.Char.{is_ascii_digit}
 use Rattle.std.specs.List.{list_all}

@@ -1,3 +1,4 @@
+-- A control character is written as its escape
 use Rattle.std.proofs.Common.{rules}
 use Rattle.std.proofs.Output.{has_written_of_eq}
 use Rattle.cell_command.proofs.Escapes.{escape-text}

@@ -1,3 +1,4 @@
+-- Character by character, what is written and what is left make up the whole
 use Rattle.std.proofs.Common.{◌++◌, rules}
 use Rattle.std.proofs.Output.{has_written_append, has_written_of_eq}
 use Rattle.std.proofs.lemmas.List.{nil_from_length}

@@ -1,3 +1,4 @@
+-- A list that no word gave is empty
 use Rattle.std.proofs.Common.{◌∙◌, None, Some, Bor, List, ℕ, ap, map}
 use Rattle.clap.specs.Words.{found_of}
 use Rattle.cell_command.proofs.Facts.{any-values}

@@ -1,3 +1,4 @@
+-- Whether a flag is given is told by the one text that its rows have
 use Rattle.std.proofs.Common.{◌∙◌}
 use Rattle.clap.specs.Words.{found_of}
 use Rattle.clap.proofs.WalkLemmas.{one_text-rows}

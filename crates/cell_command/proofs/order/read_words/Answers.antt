@@ -1,3 +1,4 @@
+-- The command that is built is the one that is described, so what is matched is what its words say
 use Rattle.std.proofs.Common.{◌≡◌, ◌∙◌, Err, Some, ap, map, rules, subst, sym}
 use Rattle.clap.specs.Kinds.{HasKind}
 use Rattle.clap.specs.Words.{App, fault_of, found_of, is_simple, is_simple_and_free, rows_of, subcommand_of}

@@ -1,3 +1,4 @@
+-- The list begins empty and takes over the values that were matched
 use Rattle.std.proofs.Common.{◌≡◌, ◌∙◌, ◌++◌, ap, Bor, List, ℕ}
 use Rattle.clap.specs.Words.{found_of}
 use Rattle.cell_command.proofs.Facts.{same-values}

@@ -1,3 +1,4 @@
+-- A field within the record is there
 use Rattle.std.proofs.Common.{sym}
 use Rattle.cell_rows.proofs.RowFacts.{field-there}
 use Rattle.cell_rows.proofs.rows.field.Goals as goal

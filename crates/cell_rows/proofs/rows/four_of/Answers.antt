@@ -1,3 +1,4 @@
+-- A record of four fields is these four
 use Rattle.std.proofs.Common.{rules}
 use Rattle.cell_rows.proofs.RowFacts.{four-fields}
 use Rattle.cell_rows.proofs.rows.four_of.Goals as goal

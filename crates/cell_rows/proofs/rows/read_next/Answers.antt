@@ -1,3 +1,4 @@
+-- What csv says of a read, told in records
 use Rattle.csv.specs.Records.{fields_of}
 use Rattle.cell_rows.specs.Sights.{bytes_left}
 use Rattle.cell_rows.proofs.RowFacts.{takes}

@@ -1,3 +1,4 @@
+-- Plain bytes and the byte behind them are a field, unless there are too many
 use Rattle.std.proofs.Common.{rules, arith}
 use Rattle.cell_rows.proofs.Scans.{ends_field_at, long_field}
 use Rattle.cell_rows.proofs.scan.field_end.Goals as goal

@@ -1,3 +1,4 @@
+-- A line begins behind a line feed, or at once
 use Rattle.cell_rows.proofs.Scans.{after_line_feed, at_once}
 use Rattle.std.proofs.Common.{rules, arith}
 use Rattle.cell_rows.proofs.scan.line_start.Goals as goal

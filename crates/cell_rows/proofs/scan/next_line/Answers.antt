@@ -1,3 +1,4 @@
+-- What is found of a line is found of the next record, which is that line's
 use Rattle.std.specs.Prelude.{IfOk, Result, Ok, Err}
 use Rattle.cell_rows.specs.Plain.{IsLineAt, TakesLine}
 use Rattle.cell_rows.specs.declared.places.Places.{Places}

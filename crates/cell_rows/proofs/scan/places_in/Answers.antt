@@ -1,3 +1,4 @@
+-- A field that spoils its line does so behind any fields before it
 use Rattle.std.proofs.Common.{rules, inl, inr, refl, [], ◌∷◌, ◌+◌}
 use Rattle.std.specs.Prelude.{slice_range}
 use Rattle.csv.specs.declared.parser.State.TheVariants as st

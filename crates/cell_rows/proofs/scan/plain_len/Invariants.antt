@@ -1,3 +1,4 @@
+-- The loop over plain bytes: none that it passed needs quotes
 use Rattle.std.proofs.Common.{◌≡◌, false, take}
 use Rattle.csv.specs.Writing.{default_writer, needs_quotes}
 use Rattle.cell_rows.proofs.scan.plain_len.Given as goal

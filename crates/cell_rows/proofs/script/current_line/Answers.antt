@@ -1,3 +1,4 @@
+-- A record of other than four fields is no line
 use Rattle.std.proofs.Common.{sym, refl}
 use Rattle.cell_rows.proofs.Scripts.{other-row}
 use Rattle.cell_rows.proofs.script.current_line.Goals as goal

@@ -1,3 +1,4 @@
+-- At each way out the answer is the one that is due, and it means what it should
 use Rattle.std.proofs.Common.{◌≡◌, ◌≤◌, ◌<◌, length, rules, arith, true, Some, ◌∷◌, [], length-append}
 use Rattle.std.specs.Result.{is_ok}
 use Rattle.cell_rows.specs.Rows.{rows_left, rows_of}

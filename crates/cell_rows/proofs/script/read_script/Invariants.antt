@@ -1,3 +1,4 @@
+-- The loop over the records of a script, which are no more than a thousand lines so far
 use Rattle.std.proofs.Common.{◌≡◌, ◌≤◌, length, Some}
 use Rattle.cell_rows.specs.Rows.{IsOpen, rows_left, rows_of}
 use Rattle.cell_rows.proofs.Scripts.{StillDue}

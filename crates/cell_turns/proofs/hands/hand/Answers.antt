@@ -4,6 +4,7 @@ use Rattle.cell_turns.specs.Logs.{after_hand}
 use Rattle.cell_turns.proofs.Acts.{acted_once}
 use Rattle.cell_turns.proofs.hands.hand.Goals as goal
 
+-- the act was done, and then there was no memory to book it
 pub returns-then-is_err-3-clause-acted : goal.returns-then-is_err-3-clause-acted
 returns-then-is_err-3-clause-acted g c = λ tells.
     let was = g.O.OperatorPort.log c.args.operator.now in

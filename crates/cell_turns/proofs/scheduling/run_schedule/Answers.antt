@@ -50,6 +50,7 @@ loop-step-preserved g c =
           (g.O.OperatorPort.log c.args.operator.now) was.scheduled);
     }
 
+-- the steps before this one were taken, and this one left at most an act behind
 pub returns-in-Err-clause-stopped : goal.returns-in-Err-clause-stopped
 returns-in-Err-clause-stopped g c =
     let i = c.loop-step.step-index in

@@ -6,6 +6,7 @@ use Rattle.cell_turns.specs.Minds.{machine_of_watch}
 use Rattle.cell_turns.specs.Schedules.{Scheduled, Grown, AllSent}
 use Rattle.cell_turns.proofs.scheduling.run_schedule.Given as goal
 
+-- the steps so far were taken and led here
 abbrev pub invariant-loop-step : goal.invariant-loop-step
 invariant-loop-step g l =
     record {

@@ -10,6 +10,7 @@ use Rattle.cell_turns.proofs.Sixes.{map_at}
 use Rattle.cell_turns.proofs.Schedules.{scheduled_start, scheduled_stopped, grown_start, did_more}
 use Rattle.cell_turns.proofs.scheduling.run_step.Goals as goal
 
+-- a step is a schedule of its own, and its lists start empty
 pub returns-clause-grown : goal.returns-clause-grown
 returns-clause-grown g c =
     let items = λ (v : Vec Entry _). v.items in
@@ -43,6 +44,7 @@ returns-clause-scheduled g c =
     (rw c.clear.ensures.refused (scheduled_start c.args.plan.now c.args.kept.now c.args.watches.now
     (g.O.OperatorPort.tells operator) (g.O.OperatorPort.log operator)))
 
+-- the only step wasn't finished, so the schedule that was done is empty
 pub returns-in-Err-clause-stopped : goal.returns-in-Err-clause-stopped
 returns-in-Err-clause-stopped g c =
     let items = λ (v : Vec Entry _). v.items in

@@ -9,6 +9,7 @@ use Rattle.cell_turns.proofs.Sixes.{put_at, map_put, map_at, all_put, all_picked
 use Rattle.cell_turns.proofs.Schedules.{scheduled_turn, scheduled_hand, grown_turn, did_hand}
 use Rattle.cell_turns.proofs.scheduling.take_step.Goals as goal
 
+-- only the watch of this machine is put back, and it is still the watch of this machine
 pub returns-in-Err-clause-machines : goal.returns-in-Err-clause-machines
 returns-in-Err-clause-machines g c =
     let watches = c.args.watches.now in
@@ -23,6 +24,7 @@ returns-in-Ok-clause-machines g c =
     all_put (λ n (w : Watch) (u : Watch) (v : Watch). machine_of_watch w ≡ n) c.in-Turn.machine watches watches watches
     watch watch watch c.requires.machines c.take_turn.ensures.machine
 
+-- what was picked out is put back as it was, so all six are as they were
 pub returns-in-Err-clause-unchanged : goal.returns-in-Err-clause-unchanged
 returns-in-Err-clause-unchanged g c =
     let same = c.in-Err.ensures.unchanged in
@@ -46,6 +48,7 @@ returns-in-Ok-clause-grown g c = λ before h grown.
     c.pick-entries.result.now.items c.take_turn.new.entries.items (ap items c.pick-entries.ensures.value
     ∙ map_at items machines m) c.in-Ok.ensures.grew grown)
 
+-- this machine's port alone was used, so what the others were sent stays as it was
 pub returns-in-Ok-clause-sent : goal.returns-in-Ok-clause-sent
 returns-in-Ok-clause-sent g c = λ before ws sent.
     let m = c.in-Turn.machine in

@@ -2,7 +2,8 @@ use Rattle.std.proofs.Common.{ap, ◌∙◌, sym}
 use Rattle.plate_book.specs.Rules.History.{History}
 use Rattle.cell_turns.proofs.Minds.{ruling_is, decided, fits_turned}
 use Rattle.cell_turns.proofs.Declared.{fault_booked}
-use Rattle.cell_turns.proofs.Rooms.{own_actor, own_turn, excused, past_last}
+use Rattle.cell_turns.proofs.OwnTurns.{own_turn, own_actor}
+use Rattle.cell_turns.proofs.Excused.{excused, past_last}
 use Rattle.cell_turns.proofs.turns.turn_of.Goals as goal
 
 pub returns-clause-decided : goal.returns-clause-decided

@@ -1,3 +1,4 @@
+-- A number has so few digits that its value never overflows
 use Rattle.std.proofs.Common.{◌<◌, arith}
 use Rattle.cell_types.proofs.Numerals.{under_a_million}
 use Rattle.cell_types.proofs.number.value_of.Goals as goal

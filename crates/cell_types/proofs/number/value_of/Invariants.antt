@@ -1,3 +1,4 @@
+-- The loop over digits: those left finish the value, which is still small
 use Rattle.std.proofs.Common.{◌≡◌, ◌<◌, ◌^◌, drop, true}
 use Rattle.std.specs.Str.Parse.{digits_value_after, digits_value}
 use Rattle.cell_types.specs.Numbers.{all_digits}

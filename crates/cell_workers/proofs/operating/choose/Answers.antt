@@ -10,6 +10,7 @@ returns-in-Ok-clause-serves g c = λ start s. serves_more actor.Operator (Some c
     c.in-Ok.ensures.entries c.in-Ok.ensures.shares
     (his_action c.in-Some.action c.entry_of-entry.result c.entry_of-entry.ensures) s
 
+-- an entry that is booked right away is one that wants no act
 pub returns-in-Ok-clause-did : goal.returns-in-Ok-clause-did
 returns-in-Ok-clause-did g c =
     let none : is_some (act_of c.entry_of-entry.result) ≡ false = search rules in

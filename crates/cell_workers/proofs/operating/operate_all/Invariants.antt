@@ -7,6 +7,7 @@ use Rattle.cell_workers.specs.Operating.{DidHands, Followed}
 use Rattle.cell_workers.specs.Working.{Serves}
 use Rattle.cell_workers.proofs.operating.operate_all.Given as goal
 
+-- what was done and booked so far follows the script
 abbrev pub invariant-loop : goal.invariant-loop
 invariant-loop g l =
     record {

@@ -2,6 +2,7 @@ use Rattle.std.proofs.Common.{◌≡◌, ◌≤◌, length, take}
 use Rattle.cell_turns.specs.Schedules.{entries_of}
 use Rattle.cell_workers.proofs.running.agrees.Given as goal
 
+-- the list so far is the actor's entries so far
 abbrev pub invariant-loop-place : goal.invariant-loop-place
 invariant-loop-place l = record {
   within : l.k ≤ length l.entries;

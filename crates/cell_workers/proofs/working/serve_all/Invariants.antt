@@ -7,6 +7,7 @@ use Rattle.cell_turns.specs.Minds.{machine_of_watch, has_failed_command}
 use Rattle.cell_workers.specs.Working.{Serves, Shown}
 use Rattle.cell_workers.proofs.working.serve_all.Given as goal
 
+-- the turns so far were served, each with a reading
 abbrev pub invariant-loop-turn : goal.invariant-loop-turn
 invariant-loop-turn g l =
     record {

@@ -6,6 +6,7 @@ use Rattle.cell_workers.proofs.Workers.{serves_turn, shown_turn, shown_sent, ans
 use Rattle.cell_workers.proofs.Workers.{saw_sent, sends_read, answers_sent}
 use Rattle.cell_workers.proofs.working.step.Goals as goal
 
+-- the turn was refused, but its reading was taken all the same
 pub returns-in-Err-clause-answered : goal.returns-in-Err-clause-answered
 returns-in-Err-clause-answered g c = λ tells before k s.
     answered_quiet c.args.machine c.args.plan.now c.read-reading.result _ _ _ before (g.P.Port.log c.args.port.now)
@@ -20,6 +21,7 @@ returns-in_default-clause-answered g c = λ tells before k s.
     (g.P.Port.log c.args.port.now) (g.P.Port.log c.read-reading.new.self) k
     (ap (λ (l : Log). l.answers) (c.read-reading.ensures.told tells)) c.in-Ok.ensures.served s)
 
+-- nothing was booked, so after the reading the port was left alone
 pub returns-in_default-clause-shown : goal.returns-in_default-clause-shown
 returns-in_default-clause-shown g c = λ tells before k s.
     shown_turn c.args.machine c.args.plan.now c.read-reading.result c.in-Ok.booked _ _ _ _ _ _ before
@@ -51,6 +53,7 @@ returns-clause-answered g c = λ tells before k s.
     ∙ ap (λ (l : Log). l.answers) (c.read-reading.ensures.told (c.send-failed.ensures.still tells)))
     c.in-Ok.ensures.served s)
 
+-- sending reads nothing, so what the answers show is the same after it
 pub returns-clause-shown : goal.returns-clause-shown
 returns-clause-shown g c = at_none c.lost_by.result (λ tells before k s.
     shown_sent c.args.machine c.args.plan.now before (g.P.Port.log c.send-failed.new.port)

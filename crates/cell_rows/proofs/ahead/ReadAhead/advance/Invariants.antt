@@ -1,3 +1,4 @@
+-- The loop up to the next line: whatever it does to the bytes in sight, the records left are the same
 use Rattle.cell_rows.specs.Sights.{InSight, KeepsRows, rows_ahead}
 use Rattle.cell_rows.proofs.ahead.ReadAhead.advance.Given as goal
 

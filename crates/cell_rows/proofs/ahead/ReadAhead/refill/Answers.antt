@@ -1,3 +1,4 @@
+-- New bytes come behind those in sight, and none is lost
 use Rattle.std.proofs.Common.{◌-◌, rules, arith, take}
 use Rattle.std.specs.Prelude.{slice_range}
 use Rattle.cell_rows.proofs.Sights.{read_on, sight_after}

@@ -1,3 +1,4 @@
+-- A line feed before another is passed over, which takes no record away
 use Rattle.std.proofs.Common.{◌∙◌, rules, arith}
 use Rattle.cell_rows.proofs.Sights.{blank_passed}
 use Rattle.cell_rows.proofs.ahead.ReadAhead.skip_blank.Goals as goal

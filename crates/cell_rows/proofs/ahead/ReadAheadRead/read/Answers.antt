@@ -1,3 +1,4 @@
+-- Bytes in sight are handed out first, and where there are none the reader itself is read
 use Rattle.std.proofs.Common.{◌≡◌, ℕ, ◌+◌, ◌-◌, ◌∙◌, rules, arith, take, drop, length, ◌++◌, ap, sym}
 use Rattle.std.specs.Prelude.{slice_range}
 use Rattle.std.proofs.Math.Seq.{take-append_seam}

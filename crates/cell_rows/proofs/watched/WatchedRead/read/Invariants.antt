@@ -1,3 +1,4 @@
+-- The loop that reads again where a read was interrupted
 use Rattle.std.proofs.Common.{◌≡◌}
 use Rattle.std.specs.Io.KnownBytes.{Keeps}
 use Rattle.cell_rows.proofs.watched.WatchedRead.read.Given as goal

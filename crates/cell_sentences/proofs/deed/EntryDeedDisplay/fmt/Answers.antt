@@ -1,3 +1,4 @@
+-- These sentences name a machine, a station or an arm in words of their own
 use Rattle.cell_sentences.proofs.deed.EntryDeedDisplay.fmt.Goals as goal
 
 pub returns-in-Forged-clause-writes : goal.returns-in-Forged-clause-writes

@@ -5,6 +5,7 @@ use Rattle.cell_turns.specs.Observed.{with_reading, followed}
 use Rattle.cell_turns.proofs.Minds.{fitted_again}
 use Rattle.cell_turns.proofs.turns.observe.notice.Goals as goal
 
+-- the readings that fitted fit again with this one added
 pub invariant_of-watch : goal.invariant_of-watch
 invariant_of-watch c =
     let watch = c.args.watch.now in

@@ -3,6 +3,7 @@ use Rattle.cell_turns.specs.Turns.{ends_motion}
 use Rattle.cell_turns.proofs.Minds.{fitted_again}
 use Rattle.cell_turns.proofs.turns.remember.keep.Goals as goal
 
+-- what the watches forget is forgotten of the readings too, so some still fit
 pub invariant_of-watch : goal.invariant_of-watch
 invariant_of-watch c =
     let watch = c.args.watch.now in

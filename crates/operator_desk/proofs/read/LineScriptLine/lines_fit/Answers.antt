@@ -1,3 +1,4 @@
+-- The fields that write a line are short
 use Rattle.operator_desk.proofs.Fit.{lines_fit}
 use Rattle.operator_desk.proofs.read.LineScriptLine.lines_fit.Goals as goal
 

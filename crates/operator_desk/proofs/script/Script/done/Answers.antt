@@ -1,3 +1,4 @@
+-- One place on, the line that is done is left behind
 use Rattle.std.proofs.Common.{◌∙◌, ap, add-one}
 use Rattle.operator_desk.specs.Next.{left_after}
 use Rattle.operator_desk.proofs.Left.{left-next}
