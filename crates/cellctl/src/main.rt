@@ -2,21 +2,12 @@
 //! run's settings, and the runs of the simulated cell.
 #![tactic(auto)]
 
-mod asked;
 mod end;
-mod explain;
-mod explore;
-mod failure;
 mod fault;
-mod measure;
+mod least;
 mod named;
-mod noted;
 mod orders;
-mod show;
 mod sweep;
-mod texts;
-mod times;
-mod wrong;
 
 ghost use Rattle.std.specs.Prelude.{◌≡◌, ◌⊎◌, IfOk, map};
 ghost use Rattle.std.specs.Io.KnownBytes.{Keeps};
@@ -26,13 +17,12 @@ ghost use Rattle.cellctl.specs.Carried.{IsTurnedAway, Obeys, ended, status_of_er
 use cell_command::{Escaped, Place, read_words};
 use cell_endings::write_ending;
 use cell_lines::status;
+use cell_orders::{Failure, Noted};
 use clap::Error;
 use clap::error::ErrorKind;
 use end::{Failed, Faults, tell_end};
-use failure::Failure;
 use fault::status_of;
 use named::Named;
-use noted::Noted;
 use orders::{Carried, carry_out};
 use std::alloc::{AllocError, Global};
 use std::env::Env;
@@ -178,11 +168,16 @@ fn over_streams<'a, R: AllocGlobal + Files + Input + Print + Threads + Wait + Sy
     words: &'a [&'a str],
     faults: &mut Faults,
 ) -> Result<Obeyed, Failure<'a>> {
-    let input = Noted::new(rt.reader(), &mut faults.input);
-    let buffer = io::BufWriter::new(rt.alloc(), io::writer(rt))?;
-    let mut output = Noted::new(buffer, &mut faults.output);
-    let mut errors = Noted::new(io::writer(errors), &mut faults.errors);
-    main_over(rt, input, &mut output, &mut errors, progress, words)
+    let mut input = Noted::new(rt.reader());
+    let mut output = Noted::new(io::BufWriter::new(rt.alloc(), io::writer(rt))?);
+    let mut errors = Noted::new(io::writer(errors));
+    let obeyed = main_over(rt, &mut input, &mut output, &mut errors, progress, words);
+    *faults = Faults {
+        input: input.error,
+        output: output.error,
+        errors: errors.error,
+    };
+    obeyed
 }
 
 // Reads words, does what they say, tells where it failed, and gives the status.

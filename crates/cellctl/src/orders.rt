@@ -1,23 +1,20 @@
 //! What is done for an order, over any reader and writers.
 ghost use Rattle.std.specs.Prelude.{◌≡◌, ◌⊎◌, ℕ, List, IfErr, IfOk, OnOk};
 ghost use Rattle.std.specs.Io.KnownBytes.{Appends};
-ghost use Rattle.cellctl.specs.Carried.{Audits, CarriesOut, ChecksSettings, DrivesFiles, FollowsFiles, MeasuresFiles};
-ghost use Rattle.cellctl.specs.Carried.{MigratesText, OfText, RunsFiles, TellsUnfit};
+ghost use Rattle.cellctl.specs.Carried.{CarriesOut, DrivesFiles, FollowsFiles, FollowsTexts, MeasuresFiles};
+ghost use Rattle.cellctl.specs.Carried.{MeasuresTexts, RunsFiles, RunsTexts, TellsUnfit};
 
-use crate::explain::explain_words;
-use crate::explore::explore_words;
-use crate::failure::Failure;
-use crate::measure::{measure_words, tell_least};
-use crate::show::show_words;
+use crate::least::tell_least;
 use crate::sweep::sweep_words;
-use crate::texts::{journal_in, script_in, settings_in, tell_too_long};
-use crate::times::{durations_in, tell_times};
 use cell_command::{Driving, Order, Running};
 use cell_drive::{drive_texts, measure_texts};
-use cell_lines::{WriteFault, audit_lines, migrate_lines, status};
+use cell_lines::{WriteFault, status};
 use cell_measures::Durations;
+use cell_orders::{
+    Failure, audit_file, check_file, durations_in, explain_words, explore_words, journal_in,
+    measure_words, migrate_file, script_in, settings_in, show_words, tell_times, tell_too_long,
+};
 use cell_runs::{KeptRun, Left, follow_texts_kept, run_texts_kept};
-use cell_settings::check_lines;
 use std::io::{Read, Write};
 use std::rt::Files;
 use std::sync::Wait;
@@ -121,20 +118,16 @@ fn with_ending(
     }
 }
 
-// Runs the simulated cell by what its files say, on threads or in rounds. The files are all read before any is judged.
-fn run_files<'a, R: AllocGlobal + Files + Threads + Wait + Sync, W: Write>(
+// Runs the simulated cell by its texts, on threads or in rounds.
+fn run_sources<R: AllocGlobal + Threads + Wait + Sync, W: Write>(
     rt: &R,
     output: &mut W,
     threads: bool,
-    running: Running<'a>,
-) -> Result<Carried, Failure<'a>>
-    ensures { IfOk result (λ c. RunsFiles threads running.entry (W.contents output.old) (W.contents output.new)
-        c.written) }
+    running: Running<'_>,
+    sources: Sources,
+) -> Carried
+    ensures { RunsTexts threads running.entry.journal (W.contents output.old) (W.contents output.new) result.written }
 {
-    let sources = match sources_in(rt, output, running)? {
-        Ok(sources) => sources,
-        Err(told) => return Ok(without_ending(told)),
-    };
     let ran = run_texts_kept(
         rt,
         sources.settings.as_slice(),
@@ -145,7 +138,23 @@ fn run_files<'a, R: AllocGlobal + Files + Threads + Wait + Sync, W: Write>(
         running.journal,
         output,
     );
-    Ok(with_ending(ran, running.explain, sources.faults, sources.operator))
+    with_ending(ran, running.explain, sources.faults, sources.operator)
+}
+
+// Runs the simulated cell by what its files say, on threads or in rounds. The files are all read before any is judged.
+fn run_files<'a, R: AllocGlobal + Files + Threads + Wait + Sync, W: Write>(
+    rt: &R,
+    output: &mut W,
+    threads: bool,
+    running: Running<'a>,
+) -> Result<Carried, Failure<'a>>
+    ensures { IfOk result (λ c. RunsFiles threads running.entry (W.contents output.old) (W.contents output.new)
+        c.written) }
+{
+    match sources_in(rt, output, running)? {
+        Ok(sources) => Ok(run_sources(rt, output, threads, running, sources)),
+        Err(told) => Ok(without_ending(told)),
+    }
 }
 
 // The status of a run with its measures: the run's, but where memory was refused for the measures.
@@ -184,21 +193,17 @@ fn tell_measures<R: AllocGlobal + Wait, W: Write>(
     )
 }
 
-// Runs the simulated cell by what its files say, on threads or in rounds, and tells what is measured of it. The files
-// are all read before any is judged.
-fn measure_files<'a, R: AllocGlobal + Files + Threads + Wait + Sync, W: Write>(
+// Runs the simulated cell by its texts, on threads or in rounds, and tells what is measured of it.
+fn measure_sources<R: AllocGlobal + Threads + Wait + Sync, W: Write>(
     rt: &R,
     output: &mut W,
     threads: bool,
-    running: Running<'a>,
-) -> Result<Carried, Failure<'a>>
-    ensures { IfOk result (λ c. MeasuresFiles threads running.entry (W.contents output.old) (W.contents output.new)
-        c.written) }
+    running: Running<'_>,
+    sources: Sources,
+) -> Carried
+    ensures { MeasuresTexts threads running.entry.journal (W.contents output.old) (W.contents output.new)
+        result.written }
 {
-    let sources = match sources_in(rt, output, running)? {
-        Ok(sources) => sources,
-        Err(told) => return Ok(without_ending(told)),
-    };
     let ran = run_texts_kept(
         rt,
         sources.settings.as_slice(),
@@ -210,13 +215,53 @@ fn measure_files<'a, R: AllocGlobal + Files + Threads + Wait + Sync, W: Write>(
         output,
     );
     let Ok((status, left)) = ran else {
-        return Ok(without_ending(Err(WriteFault)));
+        return without_ending(Err(WriteFault));
     };
     let Ok(measured) = tell_measures(rt, output, threads, &sources, &left) else {
-        return Ok(without_ending(Err(WriteFault)));
+        return without_ending(Err(WriteFault));
     };
     let told = Ok((status_with(status, measured), left));
-    Ok(with_ending(told, running.explain, sources.faults, sources.operator))
+    with_ending(told, running.explain, sources.faults, sources.operator)
+}
+
+// Runs the simulated cell by what its files say, on threads or in rounds, and tells what is measured of it. The files
+// are all read before any is judged.
+fn measure_files<'a, R: AllocGlobal + Files + Threads + Wait + Sync, W: Write>(
+    rt: &R,
+    output: &mut W,
+    threads: bool,
+    running: Running<'a>,
+) -> Result<Carried, Failure<'a>>
+    ensures { IfOk result (λ c. MeasuresFiles threads running.entry (W.contents output.old) (W.contents output.new)
+        c.written) }
+{
+    match sources_in(rt, output, running)? {
+        Ok(sources) => Ok(measure_sources(rt, output, threads, running, sources)),
+        Err(told) => Ok(without_ending(told)),
+    }
+}
+
+// Follows a journal by the texts of a run.
+fn follow_sources<R: AllocGlobal + Wait, W: Write>(
+    rt: &R,
+    output: &mut W,
+    followed: &[u8],
+    running: Running<'_>,
+    sources: Sources,
+) -> Carried
+    ensures { FollowsTexts running.entry.journal (W.contents output.old) (W.contents output.new) result.written }
+{
+    let told = follow_texts_kept(
+        rt,
+        followed,
+        sources.settings.as_slice(),
+        sources.faults.as_slice(),
+        sources.operator.as_slice(),
+        &sources.durations,
+        running.journal,
+        output,
+    );
+    with_ending(told, running.explain, sources.faults, sources.operator)
 }
 
 // Follows the journal in a file by what the run's files say.
@@ -233,17 +278,7 @@ fn follow_files<'a, R: AllocGlobal + Files + Wait, W: Write>(
         Err(told) => return Ok(without_ending(told)),
     };
     let followed = journal_in(rt, path)?.bytes;
-    let told = follow_texts_kept(
-        rt,
-        followed.as_slice(),
-        sources.settings.as_slice(),
-        sources.faults.as_slice(),
-        sources.operator.as_slice(),
-        &sources.durations,
-        running.journal,
-        output,
-    );
-    Ok(with_ending(told, running.explain, sources.faults, sources.operator))
+    Ok(follow_sources(rt, output, followed.as_slice(), running, sources))
 }
 
 // Lets a method on the input drive the simulated cell by what the run's files say. They are all read before any is
@@ -280,56 +315,6 @@ fn drive_files<'a, R: AllocGlobal + Files + Wait, I: Read + Drop, W: Write, E: W
     ))
 }
 
-// Audits the journal in a file, or that on the input where no file is named.
-fn audit<'a, R: AllocGlobal + Files, I: Read + Drop, W: Write>(
-    rt: &R,
-    input: I,
-    output: &mut W,
-    file: Option<&'a str>,
-) -> Result<Result<u8, WriteFault>, Failure<'a>>
-    ensures { IfOk result (λ written. OfText file.entry (I.remaining input)
-        (λ text. Audits text (W.contents output.old) (W.contents output.new) written)) }
-{
-    let Some(path) = file else {
-        return Ok(audit_lines(rt.alloc(), input, output));
-    };
-    let text = journal_in(rt, path)?.bytes;
-    Ok(audit_lines(rt.alloc(), text.as_slice(), output))
-}
-
-// Migrates the journal in a file, or that on the input where no file is named.
-fn migrate<'a, R: AllocGlobal + Files, I: Read + Drop, W: Write, E: Write>(
-    rt: &R,
-    input: I,
-    output: &mut W,
-    errors: &mut E,
-    file: Option<&'a str>,
-) -> Result<Result<u8, WriteFault>, Failure<'a>>
-    ensures { IfOk result (λ written. OfText file.entry (I.remaining input)
-        (λ text. MigratesText text (W.contents output.old) (W.contents output.new) (E.contents errors.old)
-        (E.contents errors.new) written)) }
-{
-    let Some(path) = file else {
-        return Ok(migrate_lines(rt.alloc(), input, output, errors));
-    };
-    let text = journal_in(rt, path)?.bytes;
-    Ok(migrate_lines(rt.alloc(), text.as_slice(), output, errors))
-}
-
-// Checks the settings in a file, or tells that they are too long.
-fn check<'a, R: AllocGlobal + Files, W: Write>(
-    rt: &R,
-    output: &mut W,
-    path: &'a str,
-) -> Result<Result<u8, WriteFault>, Failure<'a>>
-    ensures { IfOk result (ChecksSettings (W.contents output.old) (W.contents output.new)) }
-{
-    match settings_in(rt, path)? {
-        Some(text) => Ok(check_lines(rt.alloc(), text.as_slice(), output)),
-        None => Ok(tell_too_long(output)),
-    }
-}
-
 /// Does what an order says: reads the input or the files that it names, and writes to the output and the errors. What
 /// is written isn't written out yet, and the end of a run isn't explained yet.
 pub(crate) fn carry_out<
@@ -350,8 +335,8 @@ pub(crate) fn carry_out<
         (W.contents output.new) (E.contents errors.old) (E.contents errors.new) c.written) }
 {
     match order {
-        Order::Audit(file) => Ok(without_ending(audit(rt, input, output, file)?)),
-        Order::Migrate(file) => Ok(without_ending(migrate(rt, input, output, errors, file)?)),
+        Order::Audit(file) => Ok(without_ending(audit_file(rt, input, output, file)?)),
+        Order::Migrate(file) => Ok(without_ending(migrate_file(rt, input, output, errors, file)?)),
         Order::Show(showing) => Ok(without_ending(show_words(rt, input, output, errors, showing)?)),
         Order::Explain(explaining) => Ok(without_ending(explain_words(
             rt, input, output, errors, explaining,
@@ -359,7 +344,7 @@ pub(crate) fn carry_out<
         Order::Measure(measuring) => {
             Ok(without_ending(measure_words(rt, output, errors, &measuring)?))
         }
-        Order::Check(path) => Ok(without_ending(check(rt, output, path)?)),
+        Order::Check(path) => Ok(without_ending(check_file(rt, output, path)?)),
         Order::Sim(running) => run_files(rt, output, false, running),
         Order::SimMeasured(running) => measure_files(rt, output, false, running),
         Order::Follow(path, running) => follow_files(rt, output, path, running),

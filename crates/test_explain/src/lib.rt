@@ -1,11 +1,15 @@
-//! The tests of `cell_sentences`, `cell_explain`, `cell_endings` and `cell_reading`, and of what is read of a journal's
-//! text.
+//! The tests of `cell_sentences`, `cell_explain`, `cell_endings`, `cell_reading`, `cell_picture`, `cell_page`,
+//! `cell_show` and `cell_explore`, and of what is read of a journal's text.
 #![tactic(auto)]
 
 #[cfg(test)]
 mod endings;
 #[cfg(test)]
+mod explore;
+#[cfg(test)]
 mod journals;
+#[cfg(test)]
+mod pictures;
 #[cfg(test)]
 mod reading;
 #[cfg(test)]

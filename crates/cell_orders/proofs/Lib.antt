@@ -1,0 +1,4 @@
+mod Arguments
+mod Endings
+mod Showing
+pub mod Measuring

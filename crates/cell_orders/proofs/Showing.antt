@@ -1,0 +1,50 @@
+-- What is shown for a number of entries is what is shown for the words that ask for it.
+use Rattle.std.proofs.Common.{◌≡◌, ◌≢◌, ◌≤◌, ℕ, List, Option, None, Some, Result, Ok, Err, ap, arith, refl, unwrap_or}
+use Rattle.std.specs.Prelude.{IfOk, IfSome}
+use Rattle.cell_audit.specs.declared.watched.WriteFault.{WriteFault}
+use Rattle.cell_command.specs.Counts.{Counts, IsNumber}
+use Rattle.cell_command.specs.declared.count.Count.{Count}
+use Rattle.cell_audit.specs.Migrated.{rows_in}
+use Rattle.cell_rows.specs.Rows.{Row}
+use Rattle.cell_show.specs.Shown.{AsksPast, HasEntry, TellsEntries}
+use Rattle.cell_show.specs.declared.error.ShowError.{ShowError}
+use Rattle.cell_show.specs.declared.error.ShowError.TheVariants as error
+use Rattle.cell_orders.specs.Shows.{HasNone, IsAsked}
+
+pub shown-of : {X : Type 0} (r : Result (Result ℕ WriteFault) X) (P Q : ℕ → Type 0) → ((s : ℕ) → P s → Q s)
+    → IfOk r (λ w. IfOk w P) → IfOk r (λ w. IfOk w Q)
+shown-of (Ok (Ok s)) P Q give p = give s p
+shown-of (Ok (Err e)) P Q give p = tt
+shown-of (Err e) P Q give p = tt
+
+-- the count of a word is one of the number that it writes
+pub shown-for : {X : Type 0} (r : Result (Result ℕ WriteFault) X) (word : List ℕ) (count : Count) (P : Option ℕ → ℕ
+    → Type 0) (Q : ℕ → Type 0)
+    → ((n : ℕ) × IsNumber word n × Counts count n)
+    → ((entry : Option ℕ) → IsAsked (Some count) entry → IfOk r (λ w. IfOk w (P entry)))
+    → ((n s : ℕ) → IsNumber word n → P (Some n) s → Q s) → IfOk r (λ w. IfOk w Q)
+shown-for r word count P Q (n, is, counts) shows give =
+    shown-of r (P (Some n)) Q (λ s p. give n s is p) (shows (Some n) (n, refl, counts))
+
+-- a text that has the entry of the greatest number has too many for a page
+many-entries : (rows : Option (List Row)) → IfSome rows (HasEntry (Some 4294967295))
+    → IfSome rows (TellsEntries error.TooManyEntries)
+many-entries None has = tt
+many-entries (Some known) (J, good, long) = (J, good, omega (arith, long))
+
+-- that there are too many entries is told without the number that was asked for, so any number will do
+pub too-many : (text : Option (List ℕ)) (n : ℕ) → IfSome (rows_in text) (HasEntry (Some 4294967295))
+    → HasNone (Some n) text
+too-many text n has = (error.TooManyEntries, (λ e. cc e), tt, many-entries (rows_in text) has)
+
+-- a text that lacks the entry of the greatest number lacks each beyond
+past-further : (n : ℕ) (why : ShowError) → 4294967296 ≤ n → AsksPast (Some 4294967295) why → AsksPast (Some n) why
+past-further n (error.NoSuchEntry m) big (k, is, less) = let e : 4294967295 ≡ k =
+    ap (λ (o : Option ℕ). unwrap_or o 0) is in (n, refl, omega (arith, e, less))
+past-further n error.TooManyEntries big past = tt
+past-further n error.WriteFault big past = tt
+
+pub past-all : (text : Option (List ℕ)) (n : ℕ) (why : ShowError) → 4294967296 ≤ n → why ≢ error.WriteFault
+    → AsksPast (Some 4294967295) why
+    → IfSome (rows_in text) (TellsEntries why) → HasNone (Some n) text
+past-all text n why big other past told = (why, other, past-further n why big past, told)

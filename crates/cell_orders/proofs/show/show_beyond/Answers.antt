@@ -1,0 +1,16 @@
+-- No journal has so many entries, so the greatest number that can be asked for stands for all beyond
+use Rattle.std.proofs.Common.{inr, refl, rules}
+use Rattle.cell_show.specs.Shown.{error_text}
+use Rattle.cell_orders.proofs.Showing.{past-all, too-many}
+use Rattle.cell_orders.proofs.show.show_beyond.Goals as goal
+use Rattle.cell_orders.proofs.show.show_beyond.Goals.{in-Ok-2, in-Err}
+
+pub returns : goal.returns
+returns g c = λ n old big.
+    inr (
+      (refl, refl, error_text c.match-show_journal.error, c.in_ok-writeln.ensures.bytes),
+      elim c.match-show_journal.branch [
+        | in-Ok-2 w ↦ too-many _ n (w.in-Ok.ensures.there w.if-status-gt-REFUSED.false)
+        | in-Err w ↦ past-all _ n w.in-Err.error big (search rules) w.in-Err.ensures.past w.in-Err.ensures.entries
+      ],
+    )

@@ -1,0 +1,29 @@
+-- Flags that don't go together are wrong arguments, and each such case has a line of its own
+use Rattle.std.proofs.Common.{refl, inl, inr, rules}
+use Rattle.std.specs.Prelude.{codes}
+use Rattle.cell_orders.proofs.Arguments.{wrong-told}
+use Rattle.cell_orders.proofs.show.show_words.Goals as goal
+
+pub returns-in_default : goal.returns-in_default
+returns-in_default g c =
+    wrong-told c.in_ok-wrong.field-0 _ c.in_ok-wrong.ensures.status
+    (inr (inr (
+      (refl, refl, codes "of --svg, --html and --unicode one alone can be given", c.in_ok-wrong.ensures.line),
+      inl (search rules),
+    )))
+
+pub returns-in_ok-wrong-in-Loose : goal.returns-in_ok-wrong-in-Loose
+returns-in_ok-wrong-in-Loose g c =
+    wrong-told c.in_ok-wrong-in-Loose.field-0 _ c.in_ok-wrong-in-Loose.ensures.status
+    (inr (inr (
+      (refl, refl, codes "--times goes with --svg or --html", c.in_ok-wrong-in-Loose.ensures.line),
+      inr (inl (search rules)),
+    )))
+
+pub returns-then-is_alone : goal.returns-then-is_alone
+returns-then-is_alone g c =
+    wrong-told c.in_ok-wrong-2.field-0 _ c.in_ok-wrong-2.ensures.status
+    (inr (inr (
+      (refl, refl, codes "--beside goes with --html", c.in_ok-wrong-2.ensures.line),
+      inr (inr (search rules)),
+    )))

@@ -1,0 +1,6 @@
+pub mod Asked
+pub mod Explains
+pub mod Explores
+pub mod Measured
+pub mod Shows
+pub mod Texts

@@ -1,0 +1,54 @@
+//! The command that looks at every order of events of the cell.
+ghost use Rattle.std.specs.Prelude.{IfOk};
+ghost use Rattle.cell_orders.specs.Explores.{ExploresWords};
+
+use crate::asked::{limit_of, named, number_in, stranger};
+use crate::failure::Failure;
+use crate::mistaken::wrong;
+use cell_command::{Escaped, Exploring};
+use cell_explore::{MOST_PLATES, ProgressLine, Question, explore_lines};
+use cell_lines::WriteFault;
+use std::alloc::Global;
+use std::io::Write;
+
+/// Looks at every order of events that the words of the command line ask for. With `progress` the errors tell how many
+/// states were looked at.
+pub fn explore_words<'a, W: Write, E: Write>(
+    alloc: Global,
+    output: &mut W,
+    errors: &mut E,
+    exploring: &Exploring<'a>,
+    progress: bool,
+) -> Result<Result<u8, WriteFault>, Failure<'a>>
+    ensures { IfOk result (ExploresWords exploring.now (W.contents output.old) (W.contents output.new)
+        (E.contents errors.old) (E.contents errors.new)) }
+{
+    let Some(plan) = number_in(exploring.plates, 0, MOST_PLATES) else {
+        return Ok(wrong(errors, "PLATES is a whole number from 0 to 15")?);
+    };
+    let Some(limit) = limit_of(exploring.limit) else {
+        return Ok(wrong(errors, "STATES is a whole number from 1 to 4294967295")?);
+    };
+    let failing = exploring.failing.as_slice();
+    if let Some(word) = stranger(failing) {
+        let word = Escaped(word);
+        let why = format!(in alloc;
+            "MACHINE is feed, table, robot, press1, press2 or deposit, and not '{word}'"
+        )?;
+        return Ok(wrong(errors, why.as_str())?);
+    }
+    let question = Question {
+        plan,
+        may_fail: named(failing),
+        repairs: exploring.repairs,
+    };
+    let mut line = ProgressLine::new(errors, progress);
+    Ok(explore_lines(
+        alloc,
+        &question,
+        limit,
+        exploring.journal,
+        output,
+        &mut line,
+    ))
+}

@@ -1,0 +1,27 @@
+//! What is done for an order of the command line that runs no cell: the audit, the migration, the pictures, the
+//! explanations and the measures of a journal, the check of a run's settings, and the search through every order of
+//! events. Files are read here, and what can't be read is told by the name of its file.
+#![tactic(auto)]
+
+mod asked;
+mod explain;
+mod explore;
+mod failure;
+mod judge;
+mod measure;
+mod mistaken;
+mod noted;
+mod show;
+mod texts;
+mod times;
+
+pub use explain::{Text, explain_words};
+pub use explore::explore_words;
+pub use failure::Failure;
+pub use judge::{audit_file, check_file, migrate_file};
+pub use measure::measure_words;
+pub use mistaken::wrong;
+pub use noted::Noted;
+pub use show::show_words;
+pub use texts::{journal_in, script_in, settings_in, tell_too_long};
+pub use times::{durations_in, tell_times};

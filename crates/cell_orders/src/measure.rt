@@ -1,0 +1,189 @@
+//! The command that measures journals.
+ghost use Rattle.std.specs.Prelude.{◌≡◌, IfOk, List, ℕ, false, length};
+ghost use Rattle.cell_orders.specs.Measured.{AreLegal, IsFound, IsLegalText, MeasuresJournals};
+
+use crate::failure::Failure;
+use crate::texts::journal_in;
+use crate::times::{durations_in, tell_times};
+use cell_audit::read_journal;
+use cell_command::{Escaped, Measuring};
+use cell_lines::{WatchedWriter, WriteFault, audit_lines, status};
+use cell_measures::{Durations, Measured, Measures, csv_of, measure, table_of};
+use std::alloc::{AllocError, Global};
+use std::io;
+use std::io::Write;
+use std::rt::Files;
+
+/// What was found of a journal: its measures, or the line of the audit where it is refused.
+#[derive(Drop)]
+pub(crate) enum Found {
+    Legal(Measures),
+    Refused(Vec<u8>),
+}
+
+// A legal journal's name as it is printed, and its measures.
+#[derive(Drop)]
+struct Legal {
+    name: String,
+    measures: Measures,
+}
+
+// What was found of all journals.
+#[derive(Drop)]
+struct Sorted {
+    legal: Vec<Legal>,
+    // Whether one at least is refused, and the lines of those that are.
+    refused: bool,
+    lines: Vec<u8>,
+}
+
+// Measures the journal of a text, or gives the audit's line where it is refused.
+#[tactic(auto, using(crate::proofs::Measuring::legal_of))]
+fn find(alloc: Global, text: &[u8], durations: &Durations) -> Result<Found, AllocError>
+    ensures { IfOk result (IsFound text.now) }
+{
+    let reading = read_journal(alloc, text)?;
+    if reading.answer.is_ok() {
+        return Ok(Found::Legal(measure(alloc, reading.book.journal(), durations)?));
+    }
+    let mut line = Vec::new(alloc);
+    match audit_lines(alloc, text, &mut line) {
+        Ok(ended) if ended == status::REFUSED => Ok(Found::Refused(line)),
+        _ => Err(AllocError),
+    }
+}
+
+// A name as it is printed.
+fn printed(alloc: Global, name: &str) -> Result<String, AllocError> {
+    let name = Escaped(name);
+    format!(in alloc; "{name}")
+}
+
+impl Sorted {
+    // Adds what was found of a journal. The line of a refused one begins with its name, where there are several.
+    fn add(
+        &mut self,
+        alloc: Global,
+        path: &str,
+        found: Found,
+        several: bool,
+    ) -> Result<(), AllocError>
+        ensures { IfOk result (λ _. (text : List ℕ) → IsFound text found → self.new.refused ≡ false
+            → IsLegalText text × (self.old.refused ≡ false)) }
+    {
+        let name = printed(alloc, path)?;
+        match found {
+            Found::Legal(measures) => self.legal.push(Legal { name, measures })?,
+            Found::Refused(line) => {
+                self.refused = true;
+                if several {
+                    self.lines.extend_from_slice(name.as_str().as_bytes())?;
+                    self.lines.extend_from_slice(b": ")?;
+                }
+                self.lines.extend_from_slice(line.as_slice())?;
+            }
+        }
+        Ok(())
+    }
+
+    // What is printed of the legal journals.
+    fn text(&self, alloc: Global, csv: bool) -> Result<String, AllocError> {
+        let mut journals = Vec::new(alloc);
+        for legal in self.legal.as_slice() {
+            journals.push(Measured {
+                name: legal.name.as_str(),
+                measures: legal.measures,
+            })?;
+        }
+        if csv {
+            csv_of(alloc, journals.as_slice())
+        } else {
+            table_of(alloc, journals.as_slice())
+        }
+    }
+
+    // The status of all journals.
+    fn status(&self) -> u8
+        ensures { result ≡ 0 → self.now.refused ≡ false }
+    {
+        if self.refused {
+            status::REFUSED
+        } else {
+            status::SUCCESS
+        }
+    }
+}
+
+// Reads all journals, and measures those that are legal.
+#[tactic(auto, using(crate::proofs::Measuring::none_yet, crate::proofs::Measuring::more_found, crate::proofs::Measuring::all_found))]
+fn sort<'a, R: AllocGlobal + Files>(
+    rt: &R,
+    measuring: &Measuring<'a>,
+    durations: &Durations,
+) -> Result<Sorted, Failure<'a>>
+    ensures { IfOk result (λ sorted. sorted.refused ≡ false → AreLegal (length measuring.now.journals.items)) }
+{
+    let alloc = rt.alloc();
+    let mut sorted = Sorted {
+        legal: Vec::new(alloc),
+        refused: false,
+        lines: Vec::new(alloc),
+    };
+    let several = measuring.journals.len() > 1;
+    for path in measuring.journals.as_slice() {
+        let text = journal_in(rt, path)?.bytes;
+        let found = find(alloc, text.as_slice(), durations)?;
+        sorted.add(alloc, path, found, several)?;
+    }
+    Ok(sorted)
+}
+
+// A status, where the writer took all.
+fn written(answer: Result<(), WriteFault>, status: u8) -> Result<u8, WriteFault>
+    ensures { IfOk result (λ told. told ≡ status) }
+{
+    match answer {
+        Ok(()) => Ok(status),
+        Err(WriteFault) => Err(WriteFault),
+    }
+}
+
+// Writes what was found of all journals: the lines of those that are refused to the errors, where there are several.
+fn tell<W: Write, E: Write>(
+    alloc: Global,
+    output: &mut W,
+    errors: &mut E,
+    measuring: &Measuring<'_>,
+    sorted: &Sorted,
+) -> io::Result<Result<u8, WriteFault>>
+    ensures { IfOk result (λ written. IfOk written (λ status. status ≡ 0 → sorted.now.refused ≡ false)) }
+{
+    let mut output = WatchedWriter::new(output);
+    if measuring.journals.len() > 1 {
+        errors.write_all(sorted.lines.as_slice())?;
+    } else if sorted.refused {
+        let told = output.write_bytes(sorted.lines.as_slice());
+        return Ok(written(told, sorted.status()));
+    }
+    let text = sorted.text(alloc, measuring.csv)?;
+    let told = output.write_bytes(text.as_str().as_bytes());
+    Ok(written(told, sorted.status()))
+}
+
+/// Measures the journals that the words of the command line name. All are read before anything is written.
+pub fn measure_words<'a, R: AllocGlobal + Files, W: Write, E: Write>(
+    rt: &R,
+    output: &mut W,
+    errors: &mut E,
+    measuring: &Measuring<'a>,
+) -> Result<Result<u8, WriteFault>, Failure<'a>>
+    ensures { IfOk result (MeasuresJournals measuring.now) }
+{
+    match durations_in(rt, measuring.times)? {
+        Ok(durations) => {
+            let sorted = sort(rt, measuring, &durations)?;
+            Ok(tell(rt.alloc(), output, errors, measuring, &sorted)?)
+        }
+        Err(line) => Ok(tell_times(output, line.as_str())),
+    }
+}

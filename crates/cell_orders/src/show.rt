@@ -1,0 +1,254 @@
+//! The command that shows the cell.
+ghost use Rattle.std.specs.Prelude.{◌≡◌, ◌≢◌, ◌<◌, ◌≤◌, ◌^◌, ℕ, IfErr, IfOk, IfSome, List, Option, Some, true};
+ghost use Rattle.cell_audit.specs.Migrated.{rows_in};
+ghost use Rattle.cell_show.specs.Shown.{AsksPast, HasEntry, TellsEntries, TellsStatus};
+ghost use Rattle.cell_orders.specs.Shows.{IsAlone, IsAsked, Shows, ShowsEntry, ShowsWords, IsTimed, form_of};
+ghost use Rattle.cell_orders.specs.Texts.{OfText};
+
+use crate::failure::Failure;
+use crate::mistaken::wrong;
+use crate::texts::journal_in;
+use crate::times::{durations_in, tell_times};
+use cell_command::{Count, Escaped, Showing, read_count};
+use cell_lines::{WriteFault, status};
+use cell_show::{Form, ShowError, show_beside, show_journal};
+use std::alloc::Global;
+use std::io;
+use std::io::{Read, Write};
+use std::rt::Files;
+
+// The form that the flags ask for, if they ask for one alone.
+fn form_of(showing: &Showing<'_>) -> Option<Form>
+    ensures { result ≡ form_of showing.now.svg showing.now.html showing.now.unicode }
+{
+    match (showing.svg, showing.html, showing.unicode) {
+        (false, false, false) => Some(Form::Text),
+        (false, false, true) => Some(Form::Unicode),
+        (true, false, false) => Some(Form::Picture),
+        (false, true, false) => Some(Form::Page),
+        _ => None,
+    }
+}
+
+// Shows so many entries of a journal's text, or all of them, beside those of another text where one is given.
+fn show_with<I: Read + Drop, W: Write>(
+    alloc: Global,
+    input: I,
+    output: &mut W,
+    form: Form,
+    entry: Option<u32>,
+    other: Option<&[u8]>,
+) -> Result<u8, ShowError>
+    ensures status { IfOk result (TellsStatus (rows_in (I.remaining input))) }
+    ensures unread { IfOk result (λ status. 1 < status → output.new ≡ output.old) }
+    ensures there { IfOk result (λ status. status ≤ 1 → IfSome (rows_in (I.remaining input)) (HasEntry entry)) }
+    ensures past { IfErr result (AsksPast entry) }
+    ensures entries { IfErr result (λ why. IfSome (rows_in (I.remaining input)) (TellsEntries why)) }
+    ensures nothing { IfErr result (λ why. why ≢ ShowError.WriteFault → output.new ≡ output.old) }
+{
+    match other {
+        None => show_journal(alloc, input, form, entry, output),
+        Some(text) => show_beside(alloc, input, text, form, entry, output),
+    }
+}
+
+// Shows so many entries of a journal's text, or all of them. An entry that isn't there, or a page of too many, is told
+// among the errors.
+fn show_entries<I: Read + Drop, W: Write, E: Write>(
+    alloc: Global,
+    input: I,
+    output: &mut W,
+    errors: &mut E,
+    form: Form,
+    entry: Option<u32>,
+    other: Option<&[u8]>,
+) -> io::Result<Result<u8, WriteFault>>
+    ensures { IfOk result (λ written. IfOk written
+        (Shows entry (I.remaining input) (W.contents output.old) (W.contents output.new) (E.contents errors.old)
+        (E.contents errors.new))) }
+{
+    match show_with(alloc, input, output, form, entry, other) {
+        Ok(status) => Ok(Ok(status)),
+        Err(ShowError::WriteFault) => Ok(Err(WriteFault)),
+        Err(error) => {
+            writeln!(errors, "error: {error}")?;
+            Ok(Ok(status::WRONG_ARGUMENTS))
+        }
+    }
+}
+
+// Tells among the errors that a journal's text hasn't so many entries as no journal has. Nothing is shown.
+fn show_beyond<I: Read + Drop, E: Write>(
+    alloc: Global,
+    input: I,
+    errors: &mut E,
+    form: Form,
+) -> io::Result<Result<u8, WriteFault>>
+    ensures { (n : ℕ) (old : Option (List ℕ)) → 2 ^ 32 ≤ n
+        → IfOk result (λ written. IfOk written (Shows (Some n) (I.remaining input) old old (E.contents errors.old)
+        (E.contents errors.new))) }
+{
+    let error = match show_journal(alloc, input, form, Some(u32::MAX), &mut io::sink()) {
+        Ok(status) if status > status::REFUSED => return Ok(Ok(status)),
+        // More entries than a page shows.
+        Ok(_) => ShowError::TooManyEntries,
+        Err(ShowError::WriteFault) => return Ok(Err(WriteFault)),
+        Err(error) => error,
+    };
+    writeln!(errors, "error: {error}")?;
+    Ok(Ok(status::WRONG_ARGUMENTS))
+}
+
+// Shows so many entries of a journal's text, or all of them where there is no count.
+fn show_count<I: Read + Drop, W: Write, E: Write>(
+    alloc: Global,
+    input: I,
+    output: &mut W,
+    errors: &mut E,
+    form: Form,
+    count: Option<Count>,
+    other: Option<&[u8]>,
+) -> io::Result<Result<u8, WriteFault>>
+    ensures { (entry : Option ℕ) → IsAsked count entry
+        → IfOk result (λ written. IfOk written
+        (Shows entry (I.remaining input) (W.contents output.old) (W.contents output.new) (E.contents errors.old)
+        (E.contents errors.new))) }
+{
+    match count {
+        None => show_entries(alloc, input, output, errors, form, None, other),
+        Some(Count::Number(entry)) => {
+            show_entries(alloc, input, output, errors, form, Some(entry), other)
+        }
+        Some(Count::Beyond) => show_beyond(alloc, input, errors, form),
+    }
+}
+
+// The journal's text in a file, if one is named.
+fn other_in<'a, R: AllocGlobal + Files>(
+    rt: &R,
+    beside: Option<&'a str>,
+) -> Result<Option<Vec<u8>>, Failure<'a>> {
+    match beside {
+        None => Ok(None),
+        Some(path) => Ok(Some(journal_in(rt, path)?.bytes)),
+    }
+}
+
+// Shows so many entries of the journal in a file, or of that on the input where no file is named, beside that in
+// another file where such a one is named.
+fn show_text<'a, R: AllocGlobal + Files, I: Read + Drop, W: Write, E: Write>(
+    rt: &R,
+    input: I,
+    output: &mut W,
+    errors: &mut E,
+    form: Form,
+    count: Option<Count>,
+    showing: Showing<'a>,
+) -> Result<Result<u8, WriteFault>, Failure<'a>>
+    ensures { (entry : Option ℕ) → IsAsked count entry
+        → IfOk result (λ written. IfOk written (λ status. OfText showing.entry.file (I.remaining input)
+        (λ text. Shows entry text (W.contents output.old) (W.contents output.new) (E.contents errors.old)
+        (E.contents errors.new) status))) }
+{
+    let alloc = rt.alloc();
+    let found = other_in(rt, showing.beside)?;
+    let other = found.as_deref();
+    let Some(path) = showing.file else {
+        return Ok(show_count(alloc, input, output, errors, form, count, other)?);
+    };
+    let text = journal_in(rt, path)?.bytes;
+    Ok(show_count(alloc, text.as_slice(), output, errors, form, count, other)?)
+}
+
+// The form that is shown, and whether durations go with it.
+enum Timed {
+    Form(Form),
+    // The durations are refused, as this line tells.
+    Refused(String),
+    // There is neither a picture nor a page for them.
+    Loose,
+}
+
+// The form with the durations of a file, where one is named: a picture is then a chart, and a page has one. They go
+// with no other form.
+fn timed_form<'a, R: AllocGlobal + Files>(
+    rt: &R,
+    form: Form,
+    times: Option<&'a str>,
+) -> Result<Timed, Failure<'a>>
+    ensures { IfOk result (λ timed. IsTimed times.entry form timed) }
+{
+    if times.is_none() {
+        return Ok(Timed::Form(form));
+    }
+    let is_page = match form {
+        Form::Picture => false,
+        Form::Page => true,
+        _ => return Ok(Timed::Loose),
+    };
+    match durations_in(rt, times)? {
+        Ok(durations) if is_page => Ok(Timed::Form(Form::TimedPage(durations))),
+        Ok(durations) => Ok(Timed::Form(Form::Chart(durations))),
+        Err(line) => Ok(Timed::Refused(line)),
+    }
+}
+
+// Shows as many entries as a word says, or all of them where there is none.
+fn show_entry<'a, R: AllocGlobal + Files, I: Read + Drop, W: Write, E: Write>(
+    rt: &R,
+    input: I,
+    output: &mut W,
+    errors: &mut E,
+    form: Form,
+    showing: Showing<'a>,
+) -> Result<Result<u8, WriteFault>, Failure<'a>>
+    ensures { IfOk result (λ written. IfOk written (ShowsEntry showing.entry (I.remaining input) (W.contents output.old)
+        (W.contents output.new) (E.contents errors.old) (E.contents errors.new))) }
+{
+    let Some(word) = showing.entry else {
+        return show_text(rt, input, output, errors, form, None, showing);
+    };
+    let Some(count) = read_count(word) else {
+        let word = Escaped(word);
+        writeln!(errors, "error: ENTRY is a whole number, and not '{word}'")?;
+        return Ok(Ok(status::WRONG_ARGUMENTS));
+    };
+    show_text(rt, input, output, errors, form, Some(count), showing)
+}
+
+// Whether another journal is to be shown beside, and no page is asked for.
+fn is_alone(beside: Option<&str>, form: Form) -> bool
+    ensures { result ≡ true → IsAlone beside.entry (Some form) }
+{
+    match form {
+        Form::Page => false,
+        _ => beside.is_some(),
+    }
+}
+
+/// Shows a journal, as the words of the command line ask.
+pub fn show_words<'a, R: AllocGlobal + Files, I: Read + Drop, W: Write, E: Write>(
+    rt: &R,
+    input: I,
+    output: &mut W,
+    errors: &mut E,
+    showing: Showing<'a>,
+) -> Result<Result<u8, WriteFault>, Failure<'a>>
+    ensures { IfOk result (λ written. IfOk written (ShowsWords showing.entry (I.remaining input) (W.contents output.old)
+        (W.contents output.new) (E.contents errors.old) (E.contents errors.new))) }
+{
+    let Some(form) = form_of(&showing) else {
+        return Ok(wrong(
+            errors,
+            "of --svg, --html and --unicode one alone can be given",
+        )?);
+    };
+    if is_alone(showing.beside, form) {
+        return Ok(wrong(errors, "--beside goes with --html")?);
+    }
+    match timed_form(rt, form, showing.times)? {
+        Timed::Form(form) => show_entry(rt, input, output, errors, form, showing),
+        Timed::Refused(line) => Ok(tell_times(output, line.as_str())),
+        Timed::Loose => Ok(wrong(errors, "--times goes with --svg or --html")?),
+    }
+}

@@ -1,0 +1,217 @@
+//! The texts of the commands, which are read as far as they decide.
+ghost use Rattle.std.specs.Prelude.{◌≡◌, ◌⊎◌, ℕ, List, Ok, Some, IfErr, IfOk, IfSome};
+ghost use Rattle.cell_explain.specs.Explained.{EndsAsAudit, EndsAsFaults, EndsAsScript};
+ghost use Rattle.cell_lines.specs.Lines.{status_of};
+ghost use Rattle.cell_orders.specs.Texts.{TellsTooLong};
+
+use crate::failure::Failure;
+use crate::noted::Noted;
+use cell_audit::AuditError;
+use cell_explain::{explain_faults, explain_journal, explain_operator};
+use cell_lines::{WatchedWriter, WriteFault, status};
+use cell_reading::{JournalText, ScriptText, journal_text, script_text, settings_text};
+use cell_sim::PlannedFault;
+use operator_desk::Line;
+use std::alloc::{AllocError, Global};
+use std::fs::File;
+use std::io;
+use std::io::{ErrorKind, Read, Write};
+use std::rt::Files;
+
+// An answer of the system about the file of a path, whose error names that file.
+fn about<'a, T>(path: &'a str, answer: io::Result<T>) -> Result<T, Failure<'a>>
+    ensures same { IfOk result (λ value. answer ≡ Ok value) }
+    ensures named { IfErr result (λ failure. failure.file ≡ Some path.entry) }
+{
+    match answer {
+        Ok(value) => Ok(value),
+        Err(error) => Err(Failure {
+            file: Some(path),
+            error,
+        }),
+    }
+}
+
+/// The settings in a file; `None` where they are longer than settings may be. An error names that file.
+pub fn settings_in<'a, R: AllocGlobal + Files>(
+    rt: &R,
+    path: &'a str,
+) -> Result<Option<Vec<u8>>, Failure<'a>>
+    ensures { IfErr result (λ failure. failure.file ≡ Some path.entry) }
+{
+    let file = about(path, File::open(rt, path))?;
+    about(path, settings_text(rt.alloc(), file))
+}
+
+/// The script in a file, as far as it decides. An error names that file.
+pub fn script_in<'a, R: AllocGlobal + Files>(
+    rt: &R,
+    path: &'a str,
+) -> Result<ScriptText, Failure<'a>>
+    ensures { IfErr result (λ failure. failure.file ≡ Some path.entry) }
+{
+    let file = about(path, File::open(rt, path))?;
+    about(path, script_text(rt.alloc(), file))
+}
+
+// The journal of a reader, as far as it is judged. Where memory was refused, that is an error.
+fn judged<R: Read + Drop>(alloc: Global, reader: R) -> io::Result<JournalText> {
+    let read = journal_text(alloc, reader)?;
+    match read.answer {
+        Err(AuditError::OutOfMemory) => Err(io::Error::from(ErrorKind::OutOfMemory)),
+        _ => Ok(read),
+    }
+}
+
+/// The journal in a file, as far as it is judged. An error names that file.
+pub fn journal_in<'a, R: AllocGlobal + Files>(
+    rt: &R,
+    path: &'a str,
+) -> Result<JournalText, Failure<'a>>
+    ensures { IfErr result (λ failure. failure.file ≡ Some path.entry) }
+{
+    let mut noted = Noted::new(about(path, File::open(rt, path))?);
+    let read = judged(rt.alloc(), &mut noted);
+    match noted.error {
+        Some(error) => about(path, Err(error)),
+        None => about(path, read),
+    }
+}
+
+/// Writes that settings are longer than they may be, and gives the status.
+pub fn tell_too_long<W: Write>(output: &mut W) -> Result<u8, WriteFault>
+    ensures { TellsTooLong (W.contents output.old) (W.contents output.new) result }
+{
+    WatchedWriter::new(output).write_bytes(b"settings TooLong\n")?;
+    Ok(status::REFUSED)
+}
+
+// Writes the line of an explanation of a record that is longer than was read, of which it says that in place of all
+// else.
+fn tell_cut<W: Write>(
+    output: &mut W,
+    said: &[u8],
+    explained: Result<u8, WriteFault>,
+) -> Result<u8, WriteFault>
+    ensures { IfOk result (λ status. (status ≡ 4) ⊎ (explained ≡ Ok status)) }
+{
+    if explained != Ok(status::REFUSED) {
+        return Ok(status::OUT_OF_MEMORY);
+    }
+    let begin = match said.iter().position(|byte| *byte == b':') {
+        Some(place) => &said[..place],
+        None => said,
+    };
+    let rest = b": a record of more than 65536 bytes\n".as_slice();
+    WatchedWriter::new(output).write_pieces(&[begin, rest])?;
+    Ok(status::REFUSED)
+}
+
+/// Explains the script of faults in a file.
+pub(crate) fn explain_faults_in<'a, R: AllocGlobal + Files, W: Write>(
+    rt: &R,
+    path: &'a str,
+    output: &mut W,
+) -> Result<Result<u8, WriteFault>, Failure<'a>>
+    ensures { IfOk result (λ written. IfOk written (λ status. (faults : List ℕ) × EndsAsFaults faults status)) }
+{
+    let alloc = rt.alloc();
+    let script = script_in(rt, path)?;
+    let bytes = script.bytes.as_slice();
+    if !script.cuts_record::<PlannedFault>(alloc)? {
+        return Ok(explain_faults(alloc, bytes, output));
+    }
+    let mut said = Vec::new(alloc);
+    let explained = explain_faults(alloc, bytes, &mut said);
+    Ok(tell_cut(output, said.as_slice(), explained))
+}
+
+/// Explains the operator's script in a file.
+pub(crate) fn explain_operator_in<'a, R: AllocGlobal + Files, W: Write>(
+    rt: &R,
+    path: &'a str,
+    output: &mut W,
+) -> Result<Result<u8, WriteFault>, Failure<'a>>
+    ensures { IfOk result (λ written. IfOk written (λ status. (operator : List ℕ) × EndsAsScript operator status)) }
+{
+    let alloc = rt.alloc();
+    let script = script_in(rt, path)?;
+    let bytes = script.bytes.as_slice();
+    if !script.cuts_record::<Line>(alloc)? {
+        return Ok(explain_operator(alloc, bytes, output));
+    }
+    let mut said = Vec::new(alloc);
+    let explained = explain_operator(alloc, bytes, &mut said);
+    Ok(tell_cut(output, said.as_slice(), explained))
+}
+
+// Explains a journal by what was read of it.
+fn explain_read<W: Write>(
+    alloc: Global,
+    read: &JournalText,
+    output: &mut W,
+) -> Result<Result<u8, WriteFault>, AllocError>
+    ensures { IfOk result (λ written. IfOk written (EndsAsAudit read.now.bytes.items)) }
+{
+    let bytes = read.bytes.as_slice();
+    if !read.cuts_record(alloc)? {
+        return Ok(explain_journal(alloc, bytes, output));
+    }
+    let mut said = Vec::new(alloc);
+    let explained = explain_journal(alloc, bytes, &mut said);
+    Ok(tell_cut(output, said.as_slice(), explained))
+}
+
+/// Explains the journal in a file.
+pub(crate) fn explain_journal_in<'a, R: AllocGlobal + Files, W: Write>(
+    rt: &R,
+    path: &'a str,
+    output: &mut W,
+) -> Result<Result<u8, WriteFault>, Failure<'a>>
+    ensures { IfOk result (λ written. IfOk written (λ status. (journal : List ℕ) × EndsAsAudit journal status)) }
+{
+    let read = journal_in(rt, path)?;
+    Ok(explain_read(rt.alloc(), &read, output)?)
+}
+
+// The status of the audit's answer to a journal.
+fn audited(read: &JournalText) -> u8
+    ensures { result ≡ status_of read.now.answer }
+{
+    match read.answer {
+        Ok(_) => status::SUCCESS,
+        Err(AuditError::Unreadable(_) | AuditError::Refused(_, _)) => status::REFUSED,
+        Err(AuditError::ReadFault) => status::DEVICE_FAULT,
+        Err(AuditError::OutOfMemory) => status::OUT_OF_MEMORY,
+    }
+}
+
+// An explanation's status, which is that of the audit before it, unless memory was refused.
+fn as_audited(due: u8, explained: Result<u8, WriteFault>) -> Result<u8, WriteFault>
+    ensures { IfOk result (λ status. (status ≡ due) ⊎ (status ≡ 4)) }
+{
+    match explained {
+        Ok(status) if status == due => Ok(due),
+        Ok(_) => Ok(status::OUT_OF_MEMORY),
+        Err(WriteFault) => Err(WriteFault),
+    }
+}
+
+/// Explains the journal on the input. The part that was read is judged again as it is explained, with the same answer
+/// unless memory is refused.
+pub(crate) fn explain_input<I: Read + Drop, W: Write>(
+    alloc: Global,
+    input: I,
+    output: &mut W,
+) -> io::Result<Result<u8, WriteFault>>
+    ensures { IfOk result (λ written. IfOk written
+        (λ status. IfSome (I.remaining input) (λ text. EndsAsAudit text status))) }
+{
+    let read = journal_text(alloc, input)?;
+    let due = audited(&read);
+    if due > status::REFUSED {
+        return Ok(Ok(due));
+    }
+    let explained = explain_read(alloc, &read, output)?;
+    Ok(as_audited(due, explained))
+}

@@ -1,8 +1,0 @@
--- The loop that searches for a word that names no machine
-use Rattle.std.proofs.Common.{take}
-use Rattle.cellctl.specs.Asked.{AreMachines}
-use Rattle.cellctl.proofs.asked.stranger.Given as goal
-
--- the words so far name machines
-abbrev pub invariant-loop-word : goal.invariant-loop-word
-invariant-loop-word l = AreMachines (take l.word-index l.words)
