@@ -1,2 +1,8 @@
 pub mod Ends
 pub mod Parts
+pub mod Booked
+pub mod Passed
+pub mod SetOut
+pub mod ToldOf
+pub mod Wider
+pub mod Whole

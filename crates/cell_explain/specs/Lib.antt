@@ -3,3 +3,12 @@ pub mod Sayings
 pub mod Scripts
 pub mod Settings
 pub mod Told
+pub mod Words
+pub mod Numbered
+pub mod Limit
+pub mod Counts
+pub mod Failures
+pub mod Plates
+pub mod Waiting
+pub mod Missed
+pub mod Endings

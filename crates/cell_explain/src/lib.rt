@@ -2,6 +2,7 @@
 #![tactic(auto)]
 
 mod due;
+pub mod endings;
 mod fields;
 mod grammar;
 mod journal;

@@ -1,2 +1,6 @@
 pub mod Chart
 pub mod Shown
+pub mod Rows
+pub mod Refused
+pub mod Page
+pub mod Beside

@@ -14,10 +14,10 @@ use Rattle.cell_lines.specs.Lines.{status_of}
 use Rattle.plate_book.specs.declared.limits.BookLimits.{BookLimits}
 use Rattle.plate_book.specs.declared.refusal.Refusal.{Refusal}
 use Rattle.plate_book.specs.Rules.Legal.{first_of}
-use Rattle.cell_page.specs.Beside.{WritesBeside}
-use Rattle.cell_page.specs.Page.{WritesPage}
-use Rattle.cell_page.specs.declared.error.PageError.{PageError}
-use Rattle.cell_page.specs.declared.error.PageError.TheVariants as page
+use Rattle.cell_show.specs.Beside.{WritesBeside}
+use Rattle.cell_show.specs.Page.{WritesPage}
+use Rattle.cell_show.specs.declared.page.error.PageError.{PageError}
+use Rattle.cell_show.specs.declared.page.error.PageError.TheVariants as page
 use Rattle.cell_show.specs.declared.error.ShowError.{ShowError}
 use Rattle.cell_show.specs.declared.error.ShowError.TheVariants as error
 use Rattle.cell_show.specs.declared.show.Form.{Form}

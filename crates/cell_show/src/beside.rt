@@ -5,9 +5,9 @@ ghost use Rattle.cell_audit.specs.Migrated.{rows_in};
 ghost use Rattle.cell_show.specs.Shown.{AsksPast, HasBound, HasEntry, IsOther, ShowsBeside, TellsEntries, TellsStatus};
 
 use crate::ShowError;
+use crate::page::write_beside;
 use crate::show::{Form, show_journal};
 use cell_lines::status;
-use cell_page::write_beside;
 use std::alloc::Global;
 use std::io::{Read, Write};
 

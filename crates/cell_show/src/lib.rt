@@ -4,6 +4,7 @@
 mod beside;
 pub mod chart;
 mod error;
+pub mod page;
 mod show;
 
 pub use beside::show_beside;

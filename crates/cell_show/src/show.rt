@@ -9,10 +9,10 @@ ghost use Rattle.cell_show.specs.Shown.{IsRefused, ShowsPage};
 
 use crate::ShowError;
 use crate::chart::{ChartError, draw_chart};
+use crate::page::write_page;
 use cell_audit::{AuditError, read_rows};
 use cell_lines::status;
 use cell_measures::Durations;
-use cell_page::write_page;
 use cell_picture::{Scene, draw_picture, draw_text, facts_after};
 use cell_rows::{RowReader, TellsFault, Watched};
 use cell_types::{Entry, Totals, read_fields};

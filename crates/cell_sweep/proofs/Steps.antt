@@ -17,7 +17,7 @@ use Rattle.cell_runs.specs.declared.inputs.Inputs.{Inputs}
 use Rattle.cell_runs.specs.declared.inputs.InputError.{InputError}
 use Rattle.cell_types.specs.declared.words.Axis.{Axis}
 use Rattle.cell_types.specs.declared.words.Entry.{Entry}
-use Rattle.cell_endings.specs.Missed.{motions_of}
+use Rattle.cell_explain.specs.Missed.{motions_of}
 use Rattle.cell_turns.specs.declared.plan.Plan.{Plan}
 use Rattle.cell_workers.specs.declared.ends.End.{End}
 use Rattle.cell_sweep.specs.declared.sweep.Stop.{Stop}

@@ -16,7 +16,7 @@ use Rattle.cell_runs.specs.Rounds.{IsRun}
 use Rattle.cell_runs.specs.Runs.{limits_of, word_of as end_word}
 use Rattle.cell_runs.specs.declared.inputs.Inputs.{Inputs}
 use Rattle.cell_runs.specs.declared.inputs.InputError.{InputError}
-use Rattle.cell_endings.specs.Endings.{ending_of}
+use Rattle.cell_explain.specs.Endings.{ending_of}
 use Rattle.cell_measures.specs.Sums.{last_of}
 use Rattle.cell_measures.specs.Times.{times}
 use Rattle.cell_measures.specs.declared.durations.Durations.{Durations}

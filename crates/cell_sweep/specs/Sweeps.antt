@@ -10,7 +10,7 @@ use Rattle.cell_workers.specs.declared.ends.End.{End}
 use Rattle.cell_runs.specs.Inputs.{AreInputs, WritesError, input_line, input_status}
 use Rattle.cell_runs.specs.declared.inputs.Inputs.{Inputs}
 use Rattle.cell_runs.specs.declared.inputs.InputError.{InputError}
-use Rattle.cell_endings.specs.Missed.{motions_of}
+use Rattle.cell_explain.specs.Missed.{motions_of}
 use Rattle.cell_sweep.specs.declared.sweep.Stop.{Stop}
 use Rattle.cell_sweep.specs.declared.sweep.Stop.TheVariants as stop
 use Rattle.cell_sweep.specs.Cases.{cases_of}

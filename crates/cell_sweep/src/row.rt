@@ -1,11 +1,11 @@
 //! What is told of each run of a sweep.
 ghost use Rattle.std.specs.Prelude.{◌≡◌, IfOk};
-ghost use Rattle.cell_endings.specs.Endings.{ending_of};
+ghost use Rattle.cell_explain.specs.Endings.{ending_of};
 ghost use Rattle.cell_sweep.specs.Cases.{script_of};
 ghost use Rattle.cell_sweep.specs.Rows.{IsToldOf, first_line};
 
 use crate::runs::Ran;
-use cell_endings::write_ending;
+use cell_explain::endings::write_ending;
 use cell_measures::{Durations, measure};
 use cell_sim::PlannedFault;
 use cell_types::Totals;

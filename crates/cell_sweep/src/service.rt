@@ -1,7 +1,7 @@
 //! The operator of a sweep who serves the machines.
 use crate::lines::text_of;
 use crate::runs::{NoRun, Ran, run_texts};
-use cell_endings::lines_done;
+use cell_explain::endings::lines_done;
 use cell_rows::read_script;
 use cell_types::{Entry, MACHINES, Machine, PlateId, Station, stations_of};
 use operator_desk::{Line, Task, Trigger};

@@ -15,7 +15,7 @@ use crate::row::{Row, row_of};
 use crate::runs::{NoRun, run_texts};
 use crate::service::serve;
 use cell_audit::{WatchedWriter, WriteFault};
-use cell_endings::motions;
+use cell_explain::endings::motions;
 use cell_lines::status;
 use cell_runs::{read_inputs, refuse_input};
 use cell_sim::{Fault, PlannedFault};

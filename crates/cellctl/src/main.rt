@@ -15,7 +15,7 @@ ghost use Rattle.clap.specs.Words.{kind_of};
 ghost use Rattle.cellctl.specs.Carried.{IsTurnedAway, Obeys, ended, status_of_error};
 
 use cell_command::{Escaped, Place, read_words};
-use cell_endings::write_ending;
+use cell_explain::endings::write_ending;
 use cell_lines::status;
 use cell_orders::{Failure, Noted};
 use clap::Error;

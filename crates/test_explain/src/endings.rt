@@ -1,6 +1,6 @@
 //! What is said of a run's end.
 use crate::said::check_said;
-use cell_endings::write_ending;
+use cell_explain::endings::write_ending;
 use cell_measures::Durations;
 use cell_runs::{Left, run_texts_kept};
 use std::process::Abort;

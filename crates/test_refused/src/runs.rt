@@ -1,7 +1,7 @@
 //! Whole runs by their texts, in rounds on one thread and on threads.
 use crate::same::check_same;
 use cell_audit::{AuditError, audit};
-use cell_endings::write_ending;
+use cell_explain::endings::write_ending;
 use cell_journal::Journal;
 use cell_lines::WriteFault;
 use cell_measures::Durations;

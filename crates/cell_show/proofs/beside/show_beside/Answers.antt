@@ -3,7 +3,7 @@ use Rattle.std.proofs.Common.{Err, List, Some, ℕ, refl, subst}
 use Rattle.std.specs.Prelude.{IfSome}
 use Rattle.cell_audit.specs.Migrated.{rows_in}
 use Rattle.cell_audit.specs.declared.error.AuditError.TheVariants as error
-use Rattle.cell_page.specs.Beside.{WritesBeside}
+use Rattle.cell_show.specs.Beside.{WritesBeside}
 use Rattle.cell_rows.specs.Rows.{rows_of}
 use Rattle.cell_show.specs.Shown.{ShowsPage}
 use Rattle.cell_show.proofs.Facts.{both_shown, wants-memory}

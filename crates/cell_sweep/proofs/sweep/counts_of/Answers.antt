@@ -1,6 +1,6 @@
 -- The motions are counted in the journal of the run without faults
 use Rattle.std.proofs.Common.{◌∙◌, ap}
-use Rattle.cell_endings.specs.Missed.{motions_of}
+use Rattle.cell_explain.specs.Missed.{motions_of}
 use Rattle.cell_journal.specs.Stored.{Stored}
 use Rattle.cell_sweep.proofs.Steps.{counted-by-run}
 use Rattle.cell_sweep.proofs.sweep.counts_of.Goals as goal

@@ -1,6 +1,0 @@
-pub mod Booked
-pub mod Passed
-pub mod SetOut
-pub mod Telling
-pub mod Wider
-pub mod Whole

@@ -1,8 +1,0 @@
--- The loop that books the journal's entries
-use Rattle.std.proofs.Common.{◌≡◌, take}
-use Rattle.cell_endings.specs.Endings.{limits_of}
-use Rattle.cell_endings.proofs.ending.book_of.Given as goal
-
--- the entries so far are booked
-abbrev pub invariant-loop-place : goal.invariant-loop-place
-invariant-loop-place l = l.book ≡ record { limits = limits_of l.plan; entries = take l.place l.journal.entries }

@@ -1,9 +1,0 @@
-pub mod Words
-pub mod Numbered
-pub mod Limit
-pub mod Counts
-pub mod Failures
-pub mod Plates
-pub mod Waiting
-pub mod Missed
-pub mod Endings

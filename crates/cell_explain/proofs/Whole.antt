@@ -1,0 +1,47 @@
+-- The whole of what is told, of a book by a plan's limits
+use Rattle.std.proofs.Common.{◌≡◌, ℕ, true, List, ◌++◌, Option, Result, Ok, Err, OnOk, subst}
+use Rattle.std.specs.Io.KnownBytes.{Appends}
+use Rattle.cell_types.specs.declared.words.Entry.{Entry}
+use Rattle.plate_book.specs.Rules.History.{History}
+use Rattle.plate_book.specs.Rules.Legal.{legal}
+use Rattle.operator_desk.specs.declared.line.Line.{Line}
+use Rattle.cell_sim.specs.declared.fault.PlannedFault.{PlannedFault}
+use Rattle.cell_turns.specs.declared.plan.Plan.{Plan}
+use Rattle.cell_workers.specs.declared.ends.End.{End}
+use Rattle.cell_explain.specs.Endings.{greatest, limits_of, run_of}
+use Rattle.cell_explain.specs.Failures.{failures_of}
+use Rattle.cell_explain.specs.Plates.{plates_of}
+use Rattle.cell_explain.specs.Waiting.{waiting_of}
+use Rattle.cell_explain.specs.Missed.{missed_of}
+use Rattle.cell_explain.proofs.ToldOf.{told-then}
+use Rattle.cell_explain.proofs.Wider.{legal-greatest}
+
+-- what is told of a book, by the lines of both scripts
+abbrev pub told_of : History → End → Plan → List Line → List PlannedFault → List ℕ
+told_of b e plan lines faults =
+    run_of b.entries e plan ++ (failures_of b.entries
+    ++ (plates_of b.limits b.entries ++ (waiting_of b.limits b.entries lines ++ missed_of b.entries faults)))
+
+-- its parts, one after the other, of which the last is told where it was written
+pub told-whole : {A B : Type 0} (r : Result A B) (b : History) (J : List Entry) (e : End) (plan : Plan)
+    (lines : List Line) (faults : List PlannedFault)
+    (old first second third fourth new : Option (List ℕ)) → b ≡ record { limits = limits_of plan; entries = J }
+    → Appends old first (run_of b.entries e plan) → Appends first second (failures_of b.entries)
+    → Appends second third (plates_of b.limits b.entries)
+    → Appends third fourth (waiting_of b.limits b.entries lines)
+    → OnOk r (Appends fourth new (missed_of b.entries faults))
+    → OnOk r (Appends old new (told_of (record { limits = limits_of plan; entries = J }) e plan lines faults))
+told-whole r b J e plan lines faults old first second third fourth new is h i j k m =
+    subst (λ (a : History). OnOk r (Appends old new (told_of a e plan lines faults))) is
+    (told-then r old first new _ _ h (told-then r first second new _ _ i
+    (told-then r second third new _ _ j (told-then r third fourth new _ _ k m))))
+
+-- a fact holds on success too
+pub always : {A B P : Type 0} (r : Result A B) → P → OnOk r P
+always (Ok x) p = p
+always (Err e) p = tt
+
+-- the book's journal is legal by the greatest limits
+pub legal-book : (b : History) (J : List Entry) (plan : Plan) → b ≡ record { limits = limits_of plan; entries = J }
+    → legal b.limits b.entries ≡ true → legal greatest J ≡ true
+legal-book b J plan is h = legal-greatest plan J (subst (λ (a : History). legal a.limits a.entries ≡ true) is h)

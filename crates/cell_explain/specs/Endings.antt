@@ -1,0 +1,49 @@
+-- What is told of a run's end
+use Rattle.std.specs.Prelude.{ℕ, List, [], ◌++◌, Result, Ok, Err}
+use Rattle.cell_types.specs.declared.words.Entry.{Entry}
+use Rattle.cell_types.specs.Limits.{max_entries, max_plates}
+use Rattle.cell_rows.specs.Rows.{rows_of}
+use Rattle.cell_rows.specs.Scripts.{Reading, lines_of}
+use Rattle.cell_rows.specs.declared.script.LineError.{LineError}
+use Rattle.cell_sim.specs.Script.{next_fault}
+use Rattle.plate_book.specs.declared.limits.BookLimits.{BookLimits}
+use Rattle.operator_desk.specs.Lines.{line_of}
+use Rattle.cell_turns.specs.declared.plan.Plan.{Plan}
+use Rattle.cell_workers.specs.declared.ends.End.{End}
+use Rattle.cell_explain.specs.Limit.{limit_of}
+use Rattle.cell_explain.specs.Counts.{laid_back_of, unadmitted_of}
+use Rattle.cell_explain.specs.Failures.{failures_of}
+use Rattle.cell_explain.specs.Plates.{plates_of}
+use Rattle.cell_explain.specs.Waiting.{waiting_of}
+use Rattle.cell_explain.specs.Missed.{missed_of}
+
+-- the greatest limits that any run may have
+abbrev pub greatest : BookLimits
+greatest = record { entries = max_entries; plates = max_plates }
+
+-- the limits of a run by this plan
+abbrev pub limits_of : Plan → BookLimits
+limits_of plan = record { entries = plan.journal_limit; plates = plan.plates }
+
+-- the lines of a script's reading: none, where it can't be read
+abbrev pub lines_read : {L : Type 0} → Result (List L) LineError → List L
+lines_read (Ok lines) = lines
+lines_read (Err e) = []
+
+-- the lines of a script's text
+abbrev pub script_lines : {L : Type 0} → Reading L → List ℕ → List L
+script_lines read text = lines_read (lines_of read (rows_of text))
+
+-- what is told of the run as a whole: the limit that ended it, the plates that weren't admitted, and those that were
+-- laid back
+abbrev pub run_of : List Entry → End → Plan → List ℕ
+run_of J e plan = limit_of J e plan ++ (unadmitted_of J plan.plates ++ laid_back_of J)
+
+-- what is told of the end of a run by this plan, by its journal and the texts of its two scripts: the run as a whole,
+-- the failed machines, the plates that stand in the cell, the first line of the operator's script that isn't done, and
+-- the faults that were never reached
+abbrev pub ending_of : List Entry → End → Plan → List ℕ → List ℕ → List ℕ
+ending_of J e plan faults operator =
+    run_of J e plan ++ (failures_of J ++ (plates_of (limits_of plan) J
+    ++ (waiting_of (limits_of plan) J (script_lines line_of operator)
+    ++ missed_of J (script_lines next_fault faults))))

@@ -1,9 +1,0 @@
--- The two pages are written with a text before, between and behind them
-use Rattle.cell_page.proofs.Pages.{beside_whole}
-use Rattle.cell_page.proofs.beside.write_beside.Goals as goal
-
-pub returns-clause-pages : goal.returns-clause-pages
-returns-clause-pages g c =
-    beside_whole _ _ _ _ _ _ _ _ _ _ _ c.in_ok-write_all.ensures.bytes c.in_ok-write_escaped.ensures.text
-    c.in_ok-write_all-2.ensures.bytes
-    c.in_ok-write_escaped-2.ensures.text c.in_ok-write_all-3.ensures.bytes

@@ -1,4 +1,0 @@
-pub mod Rows
-pub mod Refused
-pub mod Page
-pub mod Beside

@@ -1,0 +1,13 @@
+//! One page with all states of a journal: a file for a browser, which needs nothing from elsewhere.
+mod beside;
+mod error;
+mod parts;
+mod refused;
+mod rows;
+mod still;
+mod whole;
+mod words;
+
+pub use beside::write_beside;
+pub use error::PageError;
+pub use whole::{MAX_PAGE_ENTRIES, write_page};

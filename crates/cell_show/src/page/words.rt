@@ -1,0 +1,82 @@
+//! The words of the page's data: lists of names, from which the rows choose by their letters.
+ghost use Rattle.std.specs.Prelude.{◌≡◌, Err, OnOk};
+ghost use Rattle.cell_show.specs.Page.{AppendsSome};
+
+use crate::page::PageError;
+use crate::page::rows::comma;
+use cell_sentences::{
+    axis_name, axis_of_its_machine, light_name, machine_name, pose_name, station_name, way_to_pose,
+    zone_name,
+};
+use cell_types::{AXES, BELTS, MACHINES, Pose, STATIONS, ZONES};
+use std::io::Write;
+
+// All poses, in the order of their letters.
+const POSES: [Pose; 18] = [
+    Pose::Rest,
+    Pose::ToEnd,
+    Pose::ToTable,
+    Pose::Low,
+    Pose::High,
+    Pose::Belt,
+    Pose::Robot,
+    Pose::Table1,
+    Pose::P1Load,
+    Pose::P1Unload,
+    Pose::P2Load,
+    Pose::P2Unload,
+    Pose::Deposit2,
+    Pose::In,
+    Pose::Out,
+    Pose::Middle,
+    Pose::Top,
+    Pose::Bottom,
+];
+
+// Writes a list of names.
+fn write_names<W: Write>(
+    writer: &mut W,
+    list: &str,
+    names: &[&'static str],
+) -> Result<(), PageError>
+    ensures fault { result ≡ Err PageError.TooManyEntries → ⊥ }
+    ensures some { OnOk result (AppendsSome (W.contents writer.old) (W.contents writer.new)) }
+{
+    write!(writer, "\"{list}\":[")?;
+    for (place, name) in names.iter().enumerate() {
+        write!(writer, "{}\"{name}\"", comma(place))?;
+    }
+    writeln!(writer, "],")?;
+    Ok(())
+}
+
+// Writes the lists of names of machines, stations and axes.
+fn write_machine_words<W: Write>(writer: &mut W) -> Result<(), PageError>
+    ensures fault { result ≡ Err PageError.TooManyEntries → ⊥ }
+    ensures some { OnOk result (AppendsSome (W.contents writer.old) (W.contents writer.new)) }
+{
+    write_names(
+        writer,
+        "machines",
+        &MACHINES.map(|machine| machine_name(machine)),
+    )?;
+    write_names(
+        writer,
+        "stations",
+        &STATIONS.map(|station| station_name(station)),
+    )?;
+    write_names(writer, "axes", &AXES.map(|axis| axis_name(axis)))?;
+    write_names(writer, "parts", &AXES.map(|axis| axis_of_its_machine(axis)))
+}
+
+/// Writes the lists of names.
+pub(crate) fn write_words<W: Write>(writer: &mut W) -> Result<(), PageError>
+    ensures fault { result ≡ Err PageError.TooManyEntries → ⊥ }
+    ensures some { OnOk result (AppendsSome (W.contents writer.old) (W.contents writer.new)) }
+{
+    write_machine_words(writer)?;
+    write_names(writer, "poses", &POSES.map(|pose| pose_name(pose)))?;
+    write_names(writer, "ways", &POSES.map(|pose| way_to_pose(pose)))?;
+    write_names(writer, "zones", &ZONES.map(|zone| zone_name(zone)))?;
+    write_names(writer, "lights", &BELTS.map(|belt| light_name(belt)))
+}
