@@ -114,9 +114,9 @@ refuse_calls() {
     {
         list_tests test_refused '::' 0
         list_tests test_workers 'refusals::' 0
-        list_tests test_texts 'refused::' 1
+        list_tests test_commands 'refused::' 1
     } > "$folder/tests"
-    for crate in test_refused test_workers test_texts; do
+    for crate in test_refused test_workers test_commands; do
         if ! grep -q "^$crate " "$folder/tests"; then
             wrong=$((wrong + 1))
             echo "$crate: no test to which memory could be refused"

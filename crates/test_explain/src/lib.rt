@@ -1,5 +1,5 @@
-//! The tests of `cell_sentences`, `cell_explain`, `cell_reading`, `cell_picture`, `cell_show` and `cell_explore`, and
-//! of what is read of a journal's text.
+//! The tests of `cell_sentences`, `cell_explain`, `cell_reading` and `cell_explore`, and of what is read of a
+//! journal's text.
 #![tactic(auto)]
 
 #[cfg(test)]
@@ -8,8 +8,6 @@ mod endings;
 mod explore;
 #[cfg(test)]
 mod journals;
-#[cfg(test)]
-mod pictures;
 #[cfg(test)]
 mod reading;
 #[cfg(test)]

@@ -1,5 +1,5 @@
 //! Tables, and lines of CSV.
-use crate::measures::samples::journal_of;
+use crate::samples::journal_of;
 use cell_measures::{Durations, Measured, Measures, csv_of, lines_of, measure, table_of};
 use std::process::Abort;
 use test_samples::ONE_PLATE;

@@ -1,5 +1,5 @@
 //! Measures that were computed by hand.
-use crate::measures::samples::journal_of;
+use crate::samples::journal_of;
 use cell_measures::{Durations, Held, Measures, Spent, Spread, measure, times_of};
 use cell_types::{Axis, Machine, Pose, Zone};
 use std::process::Abort;

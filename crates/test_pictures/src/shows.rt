@@ -1,5 +1,5 @@
 //! What is shown for journals' texts, and what readers and writers that fail leave of it.
-use crate::pictures::texts::OPENING;
+use crate::texts::OPENING;
 use cell_measures::Durations;
 use cell_show::{Form, ShowError, show_beside, show_journal};
 use cell_types::{Axis, Pose};

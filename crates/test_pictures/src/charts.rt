@@ -1,5 +1,5 @@
 //! Journals on an axis of time.
-use crate::pictures::states::{FAILED_PRESS, booked};
+use crate::states::{FAILED_PRESS, booked};
 use cell_audit::AuditError;
 use cell_measures::Durations;
 use cell_show::chart::{ChartError, draw_chart};

@@ -1,5 +1,5 @@
 //! The pictures as text.
-use crate::pictures::states::{FAILED_PRESS, TWO_PLATES, drawn, drawn_after, largest, longest};
+use crate::states::{FAILED_PRESS, TWO_PLATES, drawn, drawn_after, largest, longest};
 use cell_audit::AuditError;
 use cell_journal::Snapshot;
 use cell_picture::{Scene, facts_of};

@@ -1,5 +1,5 @@
 //! The pictures as SVG.
-use crate::pictures::states::{FAILED_PRESS, TWO_PLATES, drawn_after};
+use crate::states::{FAILED_PRESS, TWO_PLATES, drawn_after};
 use cell_audit::AuditError;
 use cell_show::Form;
 use std::alloc::Global;

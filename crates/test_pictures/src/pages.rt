@@ -1,5 +1,5 @@
 //! The page of a journal of a few entries, the pages that are refused, and a writer that fails.
-use crate::pictures::states::{drawn, drawn_after, largest, longest};
+use crate::states::{drawn, drawn_after, largest, longest};
 use cell_audit::AuditError;
 use cell_show::Form;
 use cell_show::page::{MAX_PAGE_ENTRIES, PageError, write_beside, write_page};

@@ -1,6 +1,6 @@
 //! The watches beside the plain program, on all sequences of a few readings. Bits that belong to nothing are set in
 //! them.
-use crate::diagnosis::plain::{LEAVE, LIMIT, Noted, PlainMotion, plain_rest, plain_verdict, shown};
+use crate::plain::{LEAVE, LIMIT, Noted, PlainMotion, plain_rest, plain_verdict, shown};
 use cell_diagnosis::{AxisWatch, Expect, Limits, Motion, Reading, RestWatch};
 use cell_types::{Axis, Machine, Pose};
 use std::process::Abort;

@@ -1,5 +1,5 @@
 //! Journals whose independent entries stand in other orders, and measures of several plates.
-use crate::measures::samples::journal_of;
+use crate::samples::journal_of;
 use cell_measures::{Durations, Measures, Spent, Spread, measure};
 use cell_types::{Axis, Machine};
 use std::alloc::AllocError;

@@ -1,4 +1,0 @@
-//! Worked rows of readings, and all sequences of a few readings beside a plain program.
-mod plain;
-mod rows;
-mod sequences;

@@ -1,0 +1,16 @@
+//! The tests of `cell_picture` and `cell_show`: the pictures of some states, whole, the charts and the page of a
+//! short journal, what is shown for journals' texts, and what readers and writers that fail leave of it.
+#![tactic(auto)]
+
+#[cfg(test)]
+mod charts;
+#[cfg(test)]
+mod drawings;
+#[cfg(test)]
+mod pages;
+#[cfg(test)]
+mod shows;
+#[cfg(test)]
+mod states;
+#[cfg(test)]
+mod texts;

@@ -1,6 +1,0 @@
-//! Measures computed by hand, journals whose independent entries are exchanged, tables, lines of CSV, files of times.
-mod one_plate;
-mod samples;
-mod shuffled;
-mod tables;
-mod times_files;
