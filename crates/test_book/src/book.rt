@@ -230,17 +230,24 @@ fn a_full_journal_takes_declarations_alone(rt: HostRuntime) {
     none_is_booked(&rt, &mut book, &ALL_DECLARED);
 }
 
+// Whether a book has so many entries, and the first plate this place and, in the quarantine, this station.
+fn has_first(book: &Book, first: PlateId, count: u32, place: Place, from: Option<Station>) -> bool {
+    book.journal().len() == count
+        && book.place(first) == place
+        && book.quarantine().get(&first).copied() == from
+}
+
 // Clears the first plate from the table by the tenth entry. Where the growth of the quarantine is refused, the book
 // is as it was, and takes the entry when it is asked again.
 fn clear(rt: &impl Abort, book: &mut Book, first: PlateId) {
     let cleared = entry(rt, "quarantined,1,table,");
     if let Err(why) = book.apply(cleared) {
-        assert!(rt; why == Refusal::OutOfMemory && book.journal().len() == 9);
-        assert!(rt; book.quarantine().is_empty() && book.place(first) == Place::At(Station::Table));
+        assert!(rt; why == Refusal::OutOfMemory && book.quarantine().is_empty());
+        assert!(rt; has_first(book, first, 9, Place::At(Station::Table), None));
         assert!(rt; book.apply(cleared) == Ok(()));
     }
-    assert!(rt; book.journal().len() == 10 && book.place(first) == Place::Quarantine);
-    assert!(rt; book.quarantine().get(&first).copied() == Some(Station::Table));
+    let from = Some(Station::Table);
+    assert!(rt; has_first(book, first, 10, Place::Quarantine, from));
 }
 
 // In a run that refuses one allocation the quarantine's growth may be the one refused.
@@ -256,11 +263,12 @@ fn a_refused_growth_leaves_the_book(rt: HostRuntime) {
 
 #[test]
 fn a_refusal_is_printed_with_its_word(rt: HostRuntime) {
-    assert!(rt; Refusal::LampRed(Belt::Feed).name() == "LampRed");
-    assert!(rt; Refusal::LampRed(Belt::Feed).word() == Some("feed"));
-    assert!(rt; Refusal::WrongPlate.word().is_none());
-    assert!(rt; Refusal::PlateExpected.name() == "PlateExpected");
-    assert!(rt; Refusal::PlateExpected.word().is_none());
-    assert!(rt; Refusal::NotReturnable.name() == "NotReturnable");
-    assert!(rt; Refusal::NotReturnable.word().is_none());
+    for (refusal, name, word) in [
+        (Refusal::LampRed(Belt::Feed), "LampRed", Some("feed")),
+        (Refusal::WrongPlate, "WrongPlate", None),
+        (Refusal::PlateExpected, "PlateExpected", None),
+        (Refusal::NotReturnable, "NotReturnable", None),
+    ] {
+        assert!(rt; refusal.name() == name && refusal.word() == word, "{name}");
+    }
 }

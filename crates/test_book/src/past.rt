@@ -1,9 +1,9 @@
 //! Past states, and entries as words.
-use crate::book::{book_records, book_with};
+use crate::book::book_with;
 use crate::cases::{entry, is_wanted, number, part, text_of};
 use cell_journal::laws::{pack, unpack};
 use cell_journal::{Journal, Snapshot};
-use cell_types::{AXES, Axis, BELTS, Belt, MACHINES, STATIONS, Station, ZONES, Zone};
+use cell_types::{AXES, Axis, BELTS, Belt, MACHINES, Machine, STATIONS, Station, ZONES, Zone};
 use plate_book::Book;
 use std::alloc::{AllocError, Global};
 use std::process::Abort;
@@ -55,8 +55,11 @@ const OTHERS: [&str; 9] = [
 
 // The entry of a record is packed as this word, and unpacked from it.
 fn is_packed(rt: &impl Abort, record: &str, word: u32) {
-    assert!(rt; pack(entry(rt, record)) == word, "{record}");
-    assert!(rt; unpack(word) == Some(entry(rt, record)), "{record}");
+    let entry = entry(rt, record);
+    assert!(rt;
+        pack(entry) == word && unpack(word) == Some(entry),
+        "{record}"
+    );
 }
 
 #[test]
@@ -72,24 +75,37 @@ fn entries_are_packed_by_the_table_of_bits(rt: HostRuntime) {
     }
 }
 
+// Whether a book tells of a machine what a snapshot says.
+fn tells_machine(snapshot: &Snapshot, book: &Book, machine: Machine) -> bool {
+    snapshot.failed(machine) == book.failed(machine)
+        && snapshot.asked(machine) == book.asked(machine)
+}
+
+// Whether a book tells of stations and axes what a snapshot says.
+fn tells_places(snapshot: &Snapshot, book: &Book) -> bool {
+    STATIONS.iter().all(|station| snapshot.plate_at(*station) == book.plate_at(*station))
+        && AXES
+            .iter()
+            .all(|axis| snapshot.pose(*axis) == book.pose(*axis))
+}
+
+// Whether a book tells of zones, machines and lights what a snapshot says.
+fn tells_signs(snapshot: &Snapshot, book: &Book) -> bool {
+    ZONES
+        .iter()
+        .all(|zone| snapshot.holder(*zone) == book.holder(*zone))
+        && MACHINES
+            .iter()
+            .all(|machine| tells_machine(snapshot, book, *machine))
+        && BELTS
+            .iter()
+            .all(|belt| snapshot.lamp(*belt) == book.lamp(*belt))
+}
+
 // What a book tells is what a snapshot says.
 fn check_told(rt: &impl Abort, snapshot: &Snapshot, book: &Book) {
-    for station in STATIONS {
-        assert!(rt; snapshot.plate_at(station) == book.plate_at(station));
-    }
-    for axis in AXES {
-        assert!(rt; snapshot.pose(axis) == book.pose(axis));
-    }
-    for zone in ZONES {
-        assert!(rt; snapshot.holder(zone) == book.holder(zone));
-    }
-    for machine in MACHINES {
-        assert!(rt; snapshot.failed(machine) == book.failed(machine));
-        assert!(rt; snapshot.asked(machine) == book.asked(machine));
-    }
-    for belt in BELTS {
-        assert!(rt; snapshot.lamp(belt) == book.lamp(belt));
-    }
+    assert!(rt; tells_places(snapshot, book));
+    assert!(rt; tells_signs(snapshot, book));
     assert!(rt; snapshot.expected == book.expected());
     assert!(rt; snapshot.totals == book.totals());
 }
@@ -204,12 +220,13 @@ fn all_answer(rt: &impl Abort, alloc: Global, book: &Book, cases: &[&str]) {
 
 // A book of 300 entries that switch the feed light.
 fn switched(rt: &impl Abort, alloc: Global) -> Book {
-    let mut book = book_with(rt, alloc, [300, 1], &[]);
+    let mut records = Vec::new(alloc);
     for _ in 0..150 {
-        book_records(rt, &mut book, &["lamp,feed,green,", "lamp,feed,red,"]);
+        records
+            .extend_from_slice(&["lamp,feed,green,", "lamp,feed,red,"])
+            .expect(rt, "memory");
     }
-    assert!(rt; book.journal().len() == 300);
-    book
+    book_with(rt, alloc, [300, 1], records.as_slice())
 }
 
 #[test]

@@ -177,21 +177,25 @@ fn part(case: &str, place: usize) -> &str {
     case.split('|').nth(place).unwrap_or("")
 }
 
+/// The bits that a word shows.
+fn shown(rt: &impl Abort, word: &str) -> (u8, u8) {
+    for (name, switch, station) in SHOWN {
+        if name == word {
+            return (switch, station);
+        }
+    }
+    panic!(rt; "{word}")
+}
+
 fn reading_of(rt: &impl Abort, text: &str) -> Option<Reading> {
     if text == "missing" {
         return None;
     }
     let (mut switches, mut presence) = (0u8, 0u8);
     for word in text.split('+') {
-        let mut is_known = false;
-        for (name, switch, station) in SHOWN {
-            if name == word {
-                is_known = true;
-                switches |= switch;
-                presence |= station;
-            }
-        }
-        assert!(rt; is_known, "{text}");
+        let (switch, station) = shown(rt, word);
+        switches |= switch;
+        presence |= station;
     }
     Some(Reading {
         switches: [switches, 0, 0],
@@ -208,27 +212,33 @@ fn verdict_of(rt: &impl Abort, word: &str) -> Verdict {
     panic!(rt; "{word}")
 }
 
-/// The watch of a name.
-fn watcher_of(rt: &impl Abort, wanted: &str) -> Watcher {
+/// The motion of a name.
+fn motion_of(rt: &impl Abort, wanted: &str) -> Motion {
     for (name, axis, from, to, [leave, limit]) in MOTIONS {
         if name == wanted {
-            let limits = Limits::new(leave, limit).expect(rt, name);
-            let watch = AxisWatch::start(axis, from, to, limits);
-            let motion = Motion {
+            return Motion {
                 axis,
                 from,
                 to,
-                limits,
+                limits: Limits::new(leave, limit).expect(rt, name),
             };
-            assert!(rt; watch.motion() == motion, "{name}");
-            return Watcher::Moving(watch);
         }
     }
+    panic!(rt; "{wanted}")
+}
+
+/// The watch of a name.
+fn watcher_of(rt: &impl Abort, wanted: &str) -> Watcher {
     let watch = RestWatch::start(Machine::Press1);
     match wanted {
         "press1 rests empty" => Watcher::Resting(watch, MIDDLE_EMPTY),
         "press1 rests full" => Watcher::Resting(watch, MIDDLE_FULL),
-        _ => panic!(rt; "{wanted}"),
+        _ => {
+            let motion = motion_of(rt, wanted);
+            let watch = AxisWatch::start(motion.axis, motion.from, motion.to, motion.limits);
+            assert!(rt; watch.motion() == motion, "{wanted}");
+            Watcher::Moving(watch)
+        }
     }
 }
 

@@ -3,6 +3,7 @@ use crate::said::check_said;
 use cell_explain::endings::write_ending;
 use cell_measures::Durations;
 use cell_runs::{Left, run_texts_kept};
+use std::alloc::Global;
 use std::process::Abort;
 use std::sync::Wait;
 use std::thread::Threads;
@@ -41,6 +42,24 @@ const RUNS: [(&str, &str, &str, &str); 3] = [
     ("x", "", "faults unreadable 1\n", ""),
 ];
 
+// What is said of the run that is left, if one is.
+fn said_of(rt: &impl Abort, alloc: Global, left: &Left, faults: &[u8], script: &[u8]) -> Vec<u8> {
+    let mut said = Vec::new(alloc);
+    if let Left::Run(run) = left {
+        let answer = write_ending(
+            alloc,
+            &run.journal,
+            run.end,
+            &run.plan,
+            faults,
+            script,
+            &mut said,
+        );
+        assert!(rt; answer.is_ok(), "what is said");
+    }
+    said
+}
+
 // What is written and said of a run in rounds, and its status.
 fn check_run<R: AllocGlobal + Abort + Threads + Wait + Sync>(
     rt: &R,
@@ -73,19 +92,7 @@ fn check_run<R: AllocGlobal + Abort + Threads + Wait + Sync>(
         matches!(&left, Left::Run(_)) != wanted.is_empty(),
         "what is left of {operator}"
     );
-    let mut said = Vec::new(alloc);
-    if let Left::Run(run) = left {
-        let answer = write_ending(
-            alloc,
-            &run.journal,
-            run.end,
-            &run.plan,
-            faults,
-            script,
-            &mut said,
-        );
-        assert!(rt; answer.is_ok(), "what is said of {operator}");
-    }
+    let said = said_of(rt, alloc, &left, faults, script);
     check_said(rt, operator, said.as_slice(), wanted);
 }
 

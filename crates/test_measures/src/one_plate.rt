@@ -39,35 +39,40 @@ const fn same(time: u64) -> Option<Spread> {
 #[test]
 fn one_plate_takes_the_sum_of_its_motions(rt: HostRuntime) {
     let measures = measured(&rt, &ONE_PLATE, &Durations::ONE);
-    assert_eq!(&rt; measures.entries, 62);
-    assert_eq!(&rt; measures.time, 18);
-    assert_eq!(&rt; measures.delivered, 1);
-    assert_eq!(&rt; measures.plate, same(18));
-    assert_eq!(&rt; measures.rate, None);
-    assert_eq!(&rt; measures.declared, 0);
-    assert_eq!(&rt; measures.to_delivery, None);
-    assert_eq!(&rt; measures.to_repair, None);
+    let counted = (measures.entries, measures.delivered, measures.declared);
+    assert_eq!(&rt; counted, (62, 1, 0));
+    assert_eq!(&rt; (measures.time, measures.rate), (18, None));
+    let spreads = [measures.plate, measures.to_delivery, measures.to_repair];
+    assert_eq!(&rt; spreads, [same(18), None, None]);
 }
 
 #[test]
 fn the_machines_of_one_plate(rt: HostRuntime) {
     let measures = measured(&rt, &ONE_PLATE, &Durations::ONE);
-    assert_eq!(&rt; measures.of_machine(Machine::Feed), spent(2, 0, 16));
-    assert_eq!(&rt; measures.of_machine(Machine::Table), spent(2, 1, 15));
-    assert_eq!(&rt; measures.of_machine(Machine::Robot), spent(11, 4, 3));
-    assert_eq!(&rt; measures.of_machine(Machine::Press1), spent(2, 3, 13));
-    assert_eq!(&rt; measures.of_machine(Machine::Press2), spent(0, 0, 18));
-    assert_eq!(&rt; measures.of_machine(Machine::Deposit), spent(1, 3, 14));
+    for (machine, wanted) in [
+        (Machine::Feed, spent(2, 0, 16)),
+        (Machine::Table, spent(2, 1, 15)),
+        (Machine::Robot, spent(11, 4, 3)),
+        (Machine::Press1, spent(2, 3, 13)),
+        (Machine::Press2, spent(0, 0, 18)),
+        (Machine::Deposit, spent(1, 3, 14)),
+    ] {
+        assert_eq!(&rt; measures.of_machine(machine), wanted, "{machine:?}");
+    }
 }
 
 #[test]
 fn the_zones_of_one_plate(rt: HostRuntime) {
     let measures = measured(&rt, &ONE_PLATE, &Durations::ONE);
-    assert_eq!(&rt; measures.of_zone(Zone::Z1), held(2, 1));
-    assert_eq!(&rt; measures.of_zone(Zone::Z2), held(2, 2));
-    assert_eq!(&rt; measures.of_zone(Zone::Z3), held(2, 6));
-    assert_eq!(&rt; measures.of_zone(Zone::Z4), held(0, 0));
-    assert_eq!(&rt; measures.of_zone(Zone::Z5), held(1, 3));
+    for (zone, wanted) in [
+        (Zone::Z1, held(2, 1)),
+        (Zone::Z2, held(2, 2)),
+        (Zone::Z3, held(2, 6)),
+        (Zone::Z4, held(0, 0)),
+        (Zone::Z5, held(1, 3)),
+    ] {
+        assert_eq!(&rt; measures.of_zone(zone), wanted, "{zone:?}");
+    }
 }
 
 // A slower motion makes all later that much later.
@@ -78,9 +83,9 @@ fn durations_count(rt: HostRuntime) {
     durations.set(Axis::PressOne, Pose::Top, 6);
     durations.set_axis(Axis::DepositBelt, 0);
     let measures = measured(&rt, &ONE_PLATE, &durations);
-    assert_eq!(&rt; measures.time, 25);
-    assert_eq!(&rt; measures.of_machine(Machine::Press1).moving, 10);
-    assert_eq!(&rt; measures.of_machine(Machine::Deposit).moving, 0);
+    let press = measures.of_machine(Machine::Press1).moving;
+    let deposit = measures.of_machine(Machine::Deposit).moving;
+    assert_eq!(&rt; [measures.time, press, deposit], [25, 10, 0]);
 }
 
 // Two axes of a machine that move at once take as long as the slower one.
@@ -119,10 +124,9 @@ fn a_failure(rt: HostRuntime) {
     let mut durations = Durations::ONE;
     durations.set_axis(Axis::TableLift, 9);
     let measures = measured(&rt, &records, &durations);
-    assert_eq!(&rt; measures.time, 9);
-    assert_eq!(&rt; measures.declared, 1);
-    assert_eq!(&rt; measures.to_repair, same(0));
-    assert_eq!(&rt; measures.to_delivery, None);
+    assert_eq!(&rt; (measures.time, measures.declared), (9, 1));
+    let spreads = [measures.to_repair, measures.to_delivery];
+    assert_eq!(&rt; spreads, [same(0), None]);
     assert_eq!(&rt; measures.of_zone(Zone::Z3), held(1, 8));
     assert_eq!(&rt; measures.of_machine(Machine::Press1), spent(1, 0, 8));
 }

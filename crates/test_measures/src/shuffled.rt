@@ -73,21 +73,19 @@ fn two_deliveries(rt: HostRuntime) {
     durations.set_axis(Axis::DepositBelt, 4);
     durations.set_axis(Axis::PressTwo, 2);
     let measures = measured(&rt, &records, &durations);
-    assert_eq!(&rt; measures.time, 4);
-    assert_eq!(&rt; measures.delivered, 2);
-    assert_eq!(&rt; measures.rate, Some(250_000));
+    let counted = (measures.time, measures.delivered, measures.rate);
+    assert_eq!(&rt; counted, (4, 2, Some(250_000)));
     let plate = Spread {
         least: 0,
         median: 0,
         most: 4,
     };
-    assert_eq!(&rt; measures.plate, Some(plate));
     let two = Spread {
         least: 2,
         median: 2,
         most: 2,
     };
-    assert_eq!(&rt; measures.to_delivery, Some(two));
-    assert_eq!(&rt; measures.to_repair, None);
+    let spreads = [measures.plate, measures.to_delivery, measures.to_repair];
+    assert_eq!(&rt; spreads, [Some(plate), Some(two), None]);
     assert_eq!(&rt; measures.of_machine(Machine::Press2).failed, 2);
 }

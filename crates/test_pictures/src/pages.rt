@@ -3,7 +3,7 @@ use crate::states::{drawn, drawn_after, largest, longest};
 use cell_audit::AuditError;
 use cell_show::Form;
 use cell_show::page::{MAX_PAGE_ENTRIES, PageError, write_beside, write_page};
-use cell_types::{Axis, Belt, Machine, Station, Zone};
+use cell_types::{Axis, Belt, Entry, Machine, Station, Zone};
 use plate_book::{Book, Refusal};
 use std::alloc::Global;
 use std::io::Write;
@@ -154,24 +154,31 @@ const STEPS: [(Option<AuditError>, bool, &str); 9] = [
     (Some(AuditError::ReadFault), false, "null"),
 ];
 
+// The page of a book with this answer and this entry that is refused has the line of that step.
+fn has_step(
+    rt: &impl Abort,
+    alloc: Global,
+    book: &Book,
+    answer: Option<AuditError>,
+    refused: Option<Entry>,
+    line: &str,
+) {
+    let mut page = Vec::new(alloc);
+    assert!(rt; write_page(&mut page, book, answer, refused, None) == Ok(()));
+    let page = String::from_utf8(page).ok().expect(rt, "the page is UTF-8");
+    let (_, rest) = page.as_str().split_once("\"refused\":").unwrap_or(("", ""));
+    let (step, _) = rest.split_once(",\n\"rows\":[\n").unwrap_or(("", ""));
+    assert!(rt; step == line, "{line}");
+}
+
 // The page has a last step for the record that isn't booked.
 #[test]
 fn has_a_step_for_the_record_that_is_not_booked(rt: HostRuntime) {
     let book = begun(rt.alloc(), 100, 10, 4).expect(&rt, "a book");
+    let second = entry_of("admitted,2,,");
     for (answer, is_given, line) in STEPS {
-        let refused = if is_given {
-            entry_of("admitted,2,,")
-        } else {
-            None
-        };
-        let mut page = Vec::new(rt.alloc());
-        assert!(rt; write_page(&mut page, &book, answer, refused, None) == Ok(()));
-        let page = String::from_utf8(page)
-            .ok()
-            .expect(&rt, "the page is UTF-8");
-        let (_, rest) = page.as_str().split_once("\"refused\":").unwrap_or(("", ""));
-        let (step, _) = rest.split_once(",\n\"rows\":[\n").unwrap_or(("", ""));
-        assert!(rt; step == line, "{step}");
+        let refused = if is_given { second } else { None };
+        has_step(&rt, rt.alloc(), &book, answer, refused, line);
     }
 }
 

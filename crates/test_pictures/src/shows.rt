@@ -190,6 +190,16 @@ fn shown_as(rt: &impl Abort, alloc: Global, form: Form, entry: Option<u32>) -> S
     String::from_utf8(written).ok().expect(rt, "text")
 }
 
+// A page with durations is the page without, and a chart in it.
+fn has_chart(rt: &impl Abort, timed: &str, page: &str, chart: &str) {
+    let (before, rest) = timed.split_once(chart).unwrap_or(("", ""));
+    let (before, _) = before.split_once("<section").unwrap_or(("", ""));
+    let (_, after) = rest.split_once("</section>\n").unwrap_or(("", ""));
+    assert!(rt; page.starts_with(before) && !before.is_empty());
+    assert!(rt; page.ends_with(after) && !after.is_empty());
+    assert!(rt; page.len() == before.len().saturating_add(after.len()));
+}
+
 // A page with durations is the page without, and in it the chart of all entries with these, whatever entry is asked
 // for.
 #[test]
@@ -198,19 +208,10 @@ fn a_page_has_a_chart_of_all_entries(rt: HostRuntime) {
     durations.set(Axis::FeedBelt, Pose::ToTable, 4);
     let page = shown_as(&rt, rt.alloc(), Form::Page, None);
     let chart = shown_as(&rt, rt.alloc(), Form::Chart(durations), None);
+    assert!(rt; !page.as_str().contains(chart.as_str()));
     for entry in [None, Some(1)] {
         let timed = shown_as(&rt, rt.alloc(), Form::TimedPage(durations), entry);
-        let (before, rest) = timed
-            .as_str()
-            .split_once(chart.as_str())
-            .unwrap_or(("", ""));
-        assert!(rt; page.as_str().len() < timed.as_str().len());
-        assert!(rt; !page.as_str().contains(chart.as_str()));
-        let (before, _) = before.split_once("<section").unwrap_or(("", ""));
-        let (_, after) = rest.split_once("</section>\n").unwrap_or(("", ""));
-        assert!(rt; page.as_str().starts_with(before) && !before.is_empty());
-        assert!(rt; page.as_str().ends_with(after) && !after.is_empty());
-        assert!(rt; page.as_str().len() == before.len().saturating_add(after.len()));
+        has_chart(&rt, timed.as_str(), page.as_str(), chart.as_str());
     }
 }
 
@@ -286,6 +287,13 @@ fn shows_nothing_where_the_reader_fails(rt: HostRuntime) {
 }
 
 // The writer fails after so many bytes, and these are written.
+fn is_cut(rt: &impl Abort, alloc: Global, form: Form, left: usize) {
+    let mut writer = FailingWriter::new(Vec::new(alloc), left);
+    let answer = show_journal(alloc, LEGAL.as_bytes(), form, None, &mut writer);
+    assert!(rt; answer == Err(ShowError::WriteFault), "after {left} bytes");
+    assert!(rt; writer.inner().len() == left, "after {left} bytes");
+}
+
 #[test]
 fn tells_that_the_writer_failed(rt: HostRuntime) {
     for form in [
@@ -297,10 +305,7 @@ fn tells_that_the_writer_failed(rt: HostRuntime) {
         Form::TimedPage(Durations::ONE),
     ] {
         for left in [0, 1, 500] {
-            let mut writer = FailingWriter::new(Vec::new(rt.alloc()), left);
-            let answer = show_journal(rt.alloc(), LEGAL.as_bytes(), form, None, &mut writer);
-            assert!(rt; answer == Err(ShowError::WriteFault), "after {left} bytes");
-            assert!(rt; writer.inner().len() == left, "after {left} bytes");
+            is_cut(&rt, rt.alloc(), form, left);
         }
     }
 }

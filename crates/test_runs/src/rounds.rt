@@ -97,18 +97,30 @@ fn check_world(rt: &impl Abort, world: &World, case: &str) {
     );
 }
 
-// What a run over a watched world of its own comes to.
-fn run_in_world<R: AllocGlobal + Wait + Abort>(rt: &R, texts: [&[u8]; 3], case: &str) -> Outcome {
-    let [settings, lines, operator] = texts;
+// What a run in a world comes to.
+fn simulated<'a, R: AllocGlobal + Wait + Abort>(
+    rt: &'a R,
+    inputs: Inputs,
+    world: &'a Mutex<World>,
+    case: &str,
+) -> Outcome {
     let Inputs {
         plan,
         faults,
         script,
-        durations,
-    } = read_inputs(rt.alloc(), settings, lines, operator).expect(rt, case);
-    let world = Mutex::new(World::watched(plan.plates).with_durations(durations));
-    let mut hands = SimOperator::new(rt, &world);
-    let outcome = simulate(rt, &plan, &faults, script, &world, &mut hands).expect(rt, case);
+        ..
+    } = inputs;
+    let mut hands = SimOperator::new(rt, world);
+    simulate(rt, &plan, &faults, script, world, &mut hands).expect(rt, case)
+}
+
+// What a run over a watched world of its own comes to.
+fn run_in_world<R: AllocGlobal + Wait + Abort>(rt: &R, texts: [&[u8]; 3], case: &str) -> Outcome {
+    let [settings, lines, operator] = texts;
+    let inputs = read_inputs(rt.alloc(), settings, lines, operator).expect(rt, case);
+    let world = World::watched(inputs.plan.plates).with_durations(inputs.durations);
+    let world = Mutex::new(world);
+    let outcome = simulated(rt, inputs, &world, case);
     check_world(rt, &world.lock(rt), case);
     check_journal(rt, &outcome, case);
     outcome

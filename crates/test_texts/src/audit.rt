@@ -316,13 +316,18 @@ fn are_judged(rt: &impl Abort, alloc: Global, records: &[&str], cases: &[(Begin,
     }
 }
 
+// Texts are judged so.
+fn texts_are_judged(rt: &impl Abort, alloc: Global, cases: &[(&[u8], Answer)]) {
+    for (text, wanted) in cases {
+        is_judged(rt, alloc, text, *wanted);
+    }
+}
+
 #[test]
 fn judges_texts_and_the_ways_of_plates(rt: HostRuntime) {
-    for cases in [FIRST.as_slice(), REFUSED.as_slice(), UNREAD.as_slice()] {
-        for (text, wanted) in cases {
-            is_judged(&rt, rt.alloc(), text, *wanted);
-        }
-    }
+    texts_are_judged(&rt, rt.alloc(), &FIRST);
+    texts_are_judged(&rt, rt.alloc(), &REFUSED);
+    texts_are_judged(&rt, rt.alloc(), &UNREAD);
     are_judged(&rt, rt.alloc(), &ONE_PLATE, &OF_ONE_PLATE);
     are_judged(&rt, rt.alloc(), &LAID_BACK, &OF_LAID_BACK);
 }
@@ -463,20 +468,23 @@ fn is_written_slowly(rt: &impl Abort, alloc: Global, journal: &Journal, text: &[
     );
 }
 
+// A writer that fails after any number of bytes has taken the first part of the text.
+fn parts_are_written(rt: &impl Abort, alloc: Global, journal: &Journal, text: &[u8]) {
+    for left in 0..text.len() + 1 {
+        part_is_written(rt, alloc, journal, text, (usize::MAX, left));
+    }
+    part_is_written(rt, alloc, journal, text, (1, text.len()));
+}
+
 #[test]
 fn tells_of_writers_that_fail_after_any_number_of_bytes_are_slow_or_take_nothing(rt: HostRuntime) {
     let alloc = rt.alloc();
     let book = book_of(&rt, alloc, &ONE_PLATE);
     let whole = one_plate_text(alloc, 2).expect(&rt, "memory");
-    for left in 0..whole.len() + 1 {
-        let way = (usize::MAX, left);
-        part_is_written(&rt, alloc, book.journal(), whole.as_slice(), way);
-    }
-    let bytewise = (1, whole.len());
-    part_is_written(&rt, alloc, book.journal(), whole.as_slice(), bytewise);
-    for size in [1, usize::MAX] {
-        is_written_slowly(&rt, alloc, book.journal(), whole.as_slice(), size);
-    }
-    let answer = write_journal(alloc, book.journal(), &mut Unwilling);
+    let (journal, text) = (book.journal(), whole.as_slice());
+    parts_are_written(&rt, alloc, journal, text);
+    is_written_slowly(&rt, alloc, journal, text, 1);
+    is_written_slowly(&rt, alloc, journal, text, usize::MAX);
+    let answer = write_journal(alloc, journal, &mut Unwilling);
     assert!(rt; answer == Err(WriteError::WriteFault), "nothing was taken");
 }

@@ -236,8 +236,8 @@ fn prints<R: Read + Drop>(
     );
 }
 
-// The same is printed for a text byte by byte, and where reads and writes are interrupted.
-fn prints_slowly(
+// The same is printed for a text byte by byte.
+fn bytes_are_printed(
     rt: &impl Abort,
     alloc: Global,
     text: &[u8],
@@ -251,6 +251,17 @@ fn prints_slowly(
         writer.inner().as_slice() == lines.as_bytes(),
         "{name}, byte by byte"
     );
+}
+
+// The same is printed for a text byte by byte, and where reads and writes are interrupted.
+fn prints_slowly(
+    rt: &impl Abort,
+    alloc: Global,
+    text: &[u8],
+    (status, lines): (u8, &str),
+    name: &str,
+) {
+    bytes_are_printed(rt, alloc, text, (status, lines), name);
     let mut writer = Interrupted::new(Pieces::new(Vec::new(alloc), 1));
     let answer = audit_lines(alloc, Interrupted::new(text), &mut writer);
     assert!(rt; answer == Ok(status), "{name}, interrupted");
@@ -270,15 +281,19 @@ fn are_printed(rt: &impl Abort, alloc: Global, records: &[&str], cases: &[(Begin
     }
 }
 
+// These lines are printed for texts.
+fn texts_are_printed(rt: &impl Abort, alloc: Global, cases: &[Case]) {
+    for (name, text, status, lines) in cases {
+        let wanted = (*status, *lines);
+        prints(rt, alloc, *text, wanted, (*name, text.len()));
+        prints_slowly(rt, alloc, text, wanted, name);
+    }
+}
+
 #[test]
 fn prints_what_an_audit_finds(rt: HostRuntime) {
-    for cases in [TEXTS.as_slice(), OF_OTHER_MAKERS.as_slice()] {
-        for (name, text, status, lines) in cases {
-            let wanted = (*status, *lines);
-            prints(&rt, rt.alloc(), *text, wanted, (*name, text.len()));
-            prints_slowly(&rt, rt.alloc(), text, wanted, name);
-        }
-    }
+    texts_are_printed(&rt, rt.alloc(), &TEXTS);
+    texts_are_printed(&rt, rt.alloc(), &OF_OTHER_MAKERS);
     are_printed(&rt, rt.alloc(), &LAID_BACK, &OF_LAID_BACK);
     are_printed(&rt, rt.alloc(), &ONE_PLATE, &OF_ONE_PLATE);
 }

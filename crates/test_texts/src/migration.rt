@@ -142,18 +142,34 @@ fn part_is_written(rt: &impl Abort, alloc: Global, text: &[u8], whole: &[u8], le
     assert!(rt; writer.inner().as_slice() == part, "after {left} bytes");
 }
 
+// What is due is told where the text of one plate's journal is cut after so many bytes, or its reader or writer fails
+// then.
+fn tells_of_a_cut(rt: &impl Abort, alloc: Global, whole: &[u8], migrated: &[u8], left: usize) {
+    let (text, rest) = whole.split_at(left.min(whole.len()));
+    cut_is_migrated(rt, alloc, text, rest);
+    let failing = FailingReader::new(whole, left);
+    migrates(
+        rt,
+        alloc,
+        (failing, left),
+        Err(MigrateError::ReadFault),
+        b"",
+    );
+    part_is_written(rt, alloc, whole, migrated, left);
+}
+
 #[test]
 fn tells_what_is_due_where_the_text_is_cut_or_its_reader_or_writer_fails(rt: HostRuntime) {
     let carried = one_plate_text(rt.alloc(), 1).expect(&rt, "memory");
     let migrated = one_plate_text(rt.alloc(), 2).expect(&rt, "memory");
-    let whole = carried.as_slice();
-    for left in 0..whole.len() + 1 {
-        let (text, rest) = whole.split_at(left);
-        cut_is_migrated(&rt, rt.alloc(), text, rest);
-        let failing = FailingReader::new(whole, left);
-        let fault = Err(MigrateError::ReadFault);
-        migrates(&rt, rt.alloc(), (failing, left), fault, b"");
-        part_is_written(&rt, rt.alloc(), whole, migrated.as_slice(), left);
+    for left in 0..carried.len() + 1 {
+        tells_of_a_cut(
+            &rt,
+            rt.alloc(),
+            carried.as_slice(),
+            migrated.as_slice(),
+            left,
+        );
     }
 }
 

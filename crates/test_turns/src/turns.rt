@@ -76,8 +76,42 @@ fn check_turn<R: Run>(
     }
 }
 
-// The length of the journal after turns of one machine at these readings, each of which answers what is wanted. Before
-// turn number `fault` (counted from 0) the port's failure is told.
+// How many entries turns of one machine at these readings book, each of which answers what is wanted. Before turn
+// number `fault` (counted from 0) the port's failure is told.
+fn entries_of_turns<R: Run>(
+    rt: &impl Abort,
+    alloc: Global,
+    kept: &mut Kept<R>,
+    shares: &mut Shares<R>,
+    machine: Machine,
+    plan: &Plan,
+    fault: usize,
+    turns: &[(Option<Reading>, Result<Option<Command>, TurnError>)],
+) -> usize {
+    let mut watch = Watch::start(machine, kept.book());
+    let mut entries = Vec::new(alloc);
+    assert!(rt; !watch.quiet());
+    for i in 0..turns.len() {
+        if i == fault {
+            watch.command_failed();
+        }
+        check_turn(
+            rt,
+            alloc,
+            machine,
+            kept,
+            shares,
+            &mut watch,
+            &mut entries,
+            plan,
+            i,
+            &turns[i],
+        );
+    }
+    entries.len()
+}
+
+// The length of the journal after such turns.
 fn take_turns<R: Run>(
     rt: &impl Abort,
     alloc: Global,
@@ -93,29 +127,19 @@ fn take_turns<R: Run>(
     requires ledgers { AreBlank R.Run blanks }
 {
     let (mut kept, mut shares) = Kept::<R>::new(book, blanks);
-    let mut watch = Watch::start(machine, kept.book());
-    let mut entries = Vec::new(alloc);
     let before = kept.book().journal().len() as usize;
-    assert!(rt; !watch.quiet());
-    for i in 0..turns.len() {
-        if i == fault {
-            watch.command_failed();
-        }
-        check_turn(
-            rt,
-            alloc,
-            machine,
-            &mut kept,
-            &mut shares,
-            &mut watch,
-            &mut entries,
-            plan,
-            i,
-            &turns[i],
-        );
-    }
+    let booked = entries_of_turns(
+        rt,
+        alloc,
+        &mut kept,
+        &mut shares,
+        machine,
+        plan,
+        fault,
+        turns,
+    );
     let length = kept.book().journal().len() as usize;
-    assert!(rt; before <= length && length - before == entries.len());
+    assert!(rt; before <= length && length - before == booked);
     length
 }
 

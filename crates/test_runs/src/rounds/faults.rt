@@ -1,7 +1,7 @@
 //! Each motion of a run with each fault.
 use crate::rounds::{check_told, due_of, run_in_world};
 use cell_types::texts::axis_word;
-use cell_types::{AXES, Entry};
+use cell_types::{AXES, Axis, Entry};
 use cell_workers::End;
 use std::alloc::AllocError;
 use std::process::Abort;
@@ -11,15 +11,12 @@ use test_samples::entries_of;
 
 const TEN: &[u8] = b"plates = 10";
 
-// How many motions each axis began.
-fn motions_of(entries: &[Entry]) -> [u32; 9] {
-    let mut motions = [0u32; 9];
-    for entry in entries {
-        if let Entry::Started { axis, .. } = *entry {
-            motions[axis as usize] = motions[axis as usize].saturating_add(1);
-        }
-    }
-    motions
+// How many motions an axis began.
+fn motions_of(entries: &[Entry], wanted: Axis) -> usize {
+    entries
+        .iter()
+        .filter(|entry| matches!(entry, Entry::Started { axis, .. } if *axis == wanted))
+        .count()
 }
 
 // A run of ten plates with a line of faults. It finishes or stalls and prints that, its journal's text is legal with
@@ -39,6 +36,21 @@ fn check_line<R: AllocGlobal + Abort + Threads + Wait + Sync>(
     Ok(())
 }
 
+// Such runs with a fault in each of the first motions of an axis.
+fn check_axis<R: AllocGlobal + Abort + Threads + Wait + Sync>(
+    rt: &R,
+    axis: &str,
+    motions: usize,
+    fault: &str,
+) -> Result<(), AllocError> {
+    assert!(rt; motions > 0, "{axis}");
+    for motion in 0..motions {
+        let line = format!(in rt.alloc(); "{axis},{},{fault}\n", motion + 1)?;
+        check_line(rt, line.as_str())?;
+    }
+    Ok(())
+}
+
 // Runs of ten plates, each with this fault in another motion. Each finishes or stalls, its journal is legal, and no
 // machines meet.
 fn check_fault<R: AllocGlobal + Abort + Threads + Wait + Sync>(
@@ -47,14 +59,10 @@ fn check_fault<R: AllocGlobal + Abort + Threads + Wait + Sync>(
 ) -> Result<(), AllocError> {
     let whole = run_in_world(rt, [TEN, b"", b""], "plates = 10");
     assert!(rt; whole.end == End::Finished, "without {fault}");
-    let motions = motions_of(&entries_of(rt.alloc(), whole.book.journal())?);
+    let entries = entries_of(rt.alloc(), whole.book.journal())?;
     for axis in AXES {
-        let word = axis_word(axis);
-        assert!(rt; motions[axis as usize] > 0, "{word}");
-        for motion in 0..motions[axis as usize] {
-            let line = format!(in rt.alloc(); "{word},{},{fault}\n", u64::from(motion) + 1)?;
-            check_line(rt, line.as_str())?;
-        }
+        let motions = motions_of(entries.as_slice(), axis);
+        check_axis(rt, axis_word(axis), motions, fault)?;
     }
     Ok(())
 }

@@ -36,7 +36,22 @@ const DEVICES: Devices = Devices {
     room: ROOM as usize,
 };
 
-// So many rounds of turns of all machines but one that is left out, in their order, at what their ports show.
+// A turn of a machine at what its port shows, which isn't refused.
+fn take_turn<R: Run, P: Port + Drop, O: OperatorPort + Drop, W: AllocGlobal + Abort>(
+    rt: &W,
+    stage: &mut Stage<R, P, O>,
+    plan: &Plan,
+    machine: Machine,
+)
+    requires { (m : MachineValue) → machine_of_watch (at stage.old.watches m) ≡ m }
+    ensures { (m : MachineValue) → machine_of_watch (at stage.new.watches m) ≡ m }
+{
+    let reading = stage.ports.pick(machine).read();
+    let ran = stage.take(rt, &[Step::Turn(machine, reading)], plan);
+    assert!(rt; ran.refused == 0, "a turn of {machine:?} is refused");
+}
+
+// So many rounds of turns of all machines but one that is left out, in their order.
 fn take_rounds<R: Run, P: Port + Drop, O: OperatorPort + Drop, W: AllocGlobal + Abort>(
     rt: &W,
     stage: &mut Stage<R, P, O>,
@@ -50,9 +65,7 @@ fn take_rounds<R: Run, P: Port + Drop, O: OperatorPort + Drop, W: AllocGlobal + 
     for turn in 0..rounds.saturating_mul(6) {
         let machine = MACHINES[turn % 6];
         if left_out != Some(machine) {
-            let reading = stage.ports.pick(machine).read();
-            let ran = stage.take(rt, &[Step::Turn(machine, reading)], plan);
-            assert!(rt; ran.refused == 0, "a turn of {machine:?} is refused");
+            take_turn(rt, stage, plan, machine);
         }
     }
 }
