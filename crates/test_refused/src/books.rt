@@ -4,7 +4,7 @@ ghost use Rattle.cell_ledger.specs.New.{AreBlank};
 
 use crate::same::check_same;
 use cell_journal::{Journal, JournalError};
-use cell_ledger::{Blanks, Kept, Run};
+use cell_ledger::{Blanks, Kept, Run, Shares};
 use cell_types::{Machine, Place, PlateId, Station, Totals};
 use plate_book::{Book, OpenError, Records, Refusal};
 use std::alloc::Global;
@@ -115,27 +115,32 @@ fn book_apply(rt: HostRuntime) {
 }
 
 // Clears the plate in a book with ledgers, whose shares count its entries.
-fn clear_kept<R: Run>(rt: &impl Abort, alloc: Global, book: Book, blanks: Blanks)
-    requires parts { 0 < R.parts }
-    requires limits { book.limits ≡ R.limits }
-    requires ledgers { AreBlank R.Run blanks }
-{
-    let (mut kept, mut shares) = Kept::<R>::new(book, blanks);
+fn clear_with<R: Run>(rt: &impl Abort, alloc: Global, kept: &mut Kept<R>, shares: &mut Shares<R>) {
     let first = plate(1).expect(rt, "a plate");
     let entry = entry_of(CLEARED).expect(rt, "a record");
     call_begins(alloc);
-    let answer = kept.apply(&mut shares, entry);
+    let answer = kept.apply(shares, entry);
     call_ends(alloc, answer.is_err());
     if let Err(why) = answer {
         check_same(rt, &"why", &why, &Refusal::OutOfMemory);
         check_as_it_was(rt, kept.book(), first);
         check_same(rt, &"counts", &shares.counts(), &totals(9, 0));
         let entry = entry_of(CLEARED).expect(rt, "a record");
-        let again = kept.apply(&mut shares, entry);
+        let again = kept.apply(shares, entry);
         check_same(rt, &"again", &again, &Ok(()));
     }
     check_cleared(rt, kept.book(), first);
     check_same(rt, &"counts", &shares.counts(), &totals(10, 1));
+}
+
+// The same of a book with blank ledgers.
+fn clear_kept<R: Run>(rt: &impl Abort, alloc: Global, book: Book, blanks: Blanks)
+    requires parts { 0 < R.parts }
+    requires limits { book.limits ≡ R.limits }
+    requires ledgers { AreBlank R.Run blanks }
+{
+    let (mut kept, mut shares) = Kept::<R>::new(book, blanks);
+    clear_with(rt, alloc, &mut kept, &mut shares);
 }
 
 #[test]

@@ -72,27 +72,28 @@ fn check_counts<R: Run>(rt: &impl Abort, kept: &Kept<R>, shares: &Shares<R>, cou
 
 // The feed light is green, and a plate is shown for the second time: the turn admits it. Where its list is refused
 // memory nothing has changed, so the same turn admits it later.
-fn admit<R: Run>(rt: &impl Abort, alloc: Global, book: Book, blanks: Blanks, plan: &Plan)
-    requires parts { 0 < R.parts }
-    requires limits { book.limits ≡ R.limits }
-    requires ledgers { AreBlank R.Run blanks }
-{
+fn admit_with<R: Run>(
+    rt: &impl Abort,
+    alloc: Global,
+    kept: &mut Kept<R>,
+    shares: &mut Shares<R>,
+    plan: &Plan,
+) {
     let feed = Machine::Feed;
-    let (mut kept, mut shares) = Kept::<R>::new(book, blanks);
     let mut watch = Watch::start(feed, kept.book());
     let mut list = Vec::new(alloc);
-    let first = turn_at_plate(feed, &mut kept, &mut shares, &mut watch, &mut list, plan);
+    let first = turn_at_plate(feed, kept, shares, &mut watch, &mut list, plan);
     check_same(rt, &"first", &first, &Ok(None));
     let noted = watch;
     let mut list = Vec::new(alloc);
     call_begins(alloc);
-    let mut answer = turn_at_plate(feed, &mut kept, &mut shares, &mut watch, &mut list, plan);
+    let mut answer = turn_at_plate(feed, kept, shares, &mut watch, &mut list, plan);
     call_ends(alloc, answer.is_err());
     if let Err(why) = answer {
         check_same(rt, &"why", &why, &TurnError::OutOfMemory);
         assert!(rt; list.is_empty() && watch == noted);
-        check_counts(rt, &kept, &shares, 1);
-        answer = turn_at_plate(feed, &mut kept, &mut shares, &mut watch, &mut list, plan);
+        check_counts(rt, kept, shares, 1);
+        answer = turn_at_plate(feed, kept, shares, &mut watch, &mut list, plan);
     }
     let red = Command::Lamp(Belt::Feed, Colour::Red);
     check_same(rt, &"answer", &answer, &Ok(Some(red)));
@@ -102,7 +103,17 @@ fn admit<R: Run>(rt: &impl Abort, alloc: Global, book: Book, blanks: Blanks, pla
         &list.first().copied(),
         &entry_of("admitted,1,,"),
     );
-    check_counts(rt, &kept, &shares, 2);
+    check_counts(rt, kept, shares, 2);
+}
+
+// The same of a book with blank ledgers.
+fn admit<R: Run>(rt: &impl Abort, alloc: Global, book: Book, blanks: Blanks, plan: &Plan)
+    requires parts { 0 < R.parts }
+    requires limits { book.limits ≡ R.limits }
+    requires ledgers { AreBlank R.Run blanks }
+{
+    let (mut kept, mut shares) = Kept::<R>::new(book, blanks);
+    admit_with(rt, alloc, &mut kept, &mut shares, plan);
 }
 
 #[test]
@@ -200,26 +211,36 @@ fn schedule<R: Run, W: Wait>(
 }
 
 // Takes the steps. Where memory is refused, those before stand, and the others lead on from there.
+fn take_with<R: Run, W: Abort + Wait>(
+    rt: &W,
+    floor: &mut Floor<'_, W>,
+    kept: &mut Kept<R>,
+    shares: &mut Shares<R>,
+) {
+    let alloc = floor.alloc;
+    let mut watches = Watches::start(kept.book());
+    let steps = steps(rt);
+    call_begins(alloc);
+    let answer = schedule(floor, &steps, kept, shares, &mut watches);
+    call_ends(alloc, answer.is_err());
+    if answer.is_err() {
+        let taken = kept.book().journal().len().saturating_sub(2) as usize;
+        check_steps(rt, kept, shares, taken);
+        let rest = steps.get(taken..).expect(rt, "at most all were taken");
+        let again = schedule(floor, rest, kept, shares, &mut watches);
+        assert!(rt; matches!(&again, Ok(ran) if ran.refused == 0));
+    }
+    check_steps(rt, kept, shares, 5);
+}
+
+// The same of a book with blank ledgers.
 fn take_steps<R: Run, W: Abort + Wait>(rt: &W, floor: &mut Floor<'_, W>, book: Book, blanks: Blanks)
     requires parts { 0 < R.parts }
     requires limits { book.limits ≡ R.limits }
     requires ledgers { AreBlank R.Run blanks }
 {
-    let alloc = floor.alloc;
     let (mut kept, mut shares) = Kept::<R>::new(book, blanks);
-    let mut watches = Watches::start(kept.book());
-    let steps = steps(rt);
-    call_begins(alloc);
-    let answer = schedule(floor, &steps, &mut kept, &mut shares, &mut watches);
-    call_ends(alloc, answer.is_err());
-    if answer.is_err() {
-        let taken = kept.book().journal().len().saturating_sub(2) as usize;
-        check_steps(rt, &kept, &shares, taken);
-        let rest = steps.get(taken..).expect(rt, "at most all were taken");
-        let again = schedule(floor, rest, &mut kept, &mut shares, &mut watches);
-        assert!(rt; matches!(&again, Ok(ran) if ran.refused == 0));
-    }
-    check_steps(rt, &kept, &shares, 5);
+    take_with(rt, floor, &mut kept, &mut shares);
 }
 
 #[test]
