@@ -1,7 +1,7 @@
 //! The tests of calls that are refused memory. Each marks one call, so that a library below the program can refuse
 //! memory to that call alone (docs/HOSTILE.md). It says which answers are right with ample memory and which without,
-//! and that what the call was lent is as it was where memory was wanting. The tests of workers and of whole runs stand
-//! in test_workers, whose rooms they need, and those of the command line in test_texts.
+//! and that what the call was lent is as it was where memory was wanting. The tests of the calls of cell_workers stand
+//! in test_workers, whose rooms they need, and those of the command line in test_commands.
 #![tactic(auto)]
 
 #[cfg(test)]
