@@ -91,7 +91,7 @@ const ALL_DECLARED: [&str; 6] = [
 
 // Books these records.
 pub(crate) fn book_records(rt: &impl Abort, book: &mut Book, records: &[&str]) {
-    assert!(rt; book_all(book, records) == Ok(()));
+    assert!(rt; book_all(book, records).is_ok());
 }
 
 // A book of these limits of entries and plates, with these records.
@@ -141,8 +141,10 @@ fn is_answered(rt: &impl Abort, given: Result<(), Refusal>, case: &str) {
     match given {
         Ok(()) => assert!(rt; name == "Ok", "{case}"),
         Err(refusal) => {
-            assert!(rt; refusal.name() == name, "{case}");
-            assert!(rt; refusal.word() == words.next(), "{case}");
+            assert!(rt;
+                refusal.name() == name && refusal.word() == words.next(),
+                "{case}"
+            );
         }
     }
 }
@@ -196,7 +198,7 @@ fn one_plate_is_carried_through_the_cell(rt: HostRuntime) {
 
 #[test]
 fn limits_are_kept(rt: HostRuntime) {
-    for (limit, plates, error) in [
+    for &(limit, plates, error) in &[
         (0, 1, OpenError::BadLimit),
         (0, 0, OpenError::BadLimit),
         (1_000_001, 1, OpenError::BadLimit),
@@ -244,7 +246,7 @@ fn clear(rt: &impl Abort, book: &mut Book, first: PlateId) {
     if let Err(why) = book.apply(cleared) {
         assert!(rt; why == Refusal::OutOfMemory && book.quarantine().is_empty());
         assert!(rt; has_first(book, first, 9, Place::At(Station::Table), None));
-        assert!(rt; book.apply(cleared) == Ok(()));
+        assert!(rt; book.apply(cleared).is_ok());
     }
     let from = Some(Station::Table);
     assert!(rt; has_first(book, first, 10, Place::Quarantine, from));
@@ -263,7 +265,7 @@ fn a_refused_growth_leaves_the_book(rt: HostRuntime) {
 
 #[test]
 fn a_refusal_is_printed_with_its_word(rt: HostRuntime) {
-    for (refusal, name, word) in [
+    for &(refusal, name, word) in &[
         (Refusal::LampRed(Belt::Feed), "LampRed", Some("feed")),
         (Refusal::WrongPlate, "WrongPlate", None),
         (Refusal::PlateExpected, "PlateExpected", None),

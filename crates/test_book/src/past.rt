@@ -64,10 +64,10 @@ fn is_packed(rt: &impl Abort, record: &str, word: u32) {
 
 #[test]
 fn entries_are_packed_by_the_table_of_bits(rt: HostRuntime) {
-    for (record, word) in PACKED {
+    for &(record, word) in &PACKED {
         is_packed(&rt, record, word);
     }
-    for word in NO_ENTRY {
+    for &word in &NO_ENTRY {
         assert!(rt; unpack(word).is_none(), "{word}");
     }
     for record in ONE_PLATE.iter().chain(OTHERS.iter()) {
@@ -251,7 +251,7 @@ fn past_states_are_seen_and_replayed_from_the_last_checkpoint(rt: HostRuntime) {
 #[test]
 fn a_journal_tells_the_effects_of_any_entries(rt: HostRuntime) {
     let mut journal = Journal::with_limit(rt.alloc(), 3).expect(&rt, "a journal");
-    for record in [
+    for &record in &[
         "claimed,robot,z3,",
         "gripped,arm1,7,table",
         "repaired,robot,,",
@@ -262,7 +262,7 @@ fn a_journal_tells_the_effects_of_any_entries(rt: HostRuntime) {
     }
     assert!(rt; journal.len() == 3);
     assert!(rt; journal.at(2) == entry(&rt, "repaired,robot,,"));
-    for case in EFFECTS {
+    for &case in &EFFECTS {
         let count = number(&rt, part(case, 0));
         assert!(rt; count <= journal.len(), "{case}");
         let state = journal.state_at(count);

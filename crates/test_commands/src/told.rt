@@ -32,7 +32,7 @@ const NUMBERS: [(&str, Option<Count>); 17] = [
 
 #[test]
 fn reads_numbers_of_entries(rt: HostRuntime) {
-    for (word, due) in NUMBERS {
+    for &(word, due) in &NUMBERS {
         assert!(rt; read_count(word) == due, "{word}");
     }
 }
@@ -52,7 +52,7 @@ const PRINTED: [(&str, &str); 6] = [
 
 #[test]
 fn prints_control_characters_as_escapes(rt: HostRuntime) -> Result<(), Fail> {
-    for (text, due) in PRINTED {
+    for &(text, due) in &PRINTED {
         let printed = format!(in rt.alloc(); "{}", Escaped(text))?;
         assert!(rt; printed.as_str() == due, "{due}");
     }
@@ -96,7 +96,7 @@ const NUMBERED: [(i32, &str); 12] = [
 
 #[test]
 fn tells_errors_of_the_system(rt: HostRuntime) -> Result<(), Fail> {
-    for (number, due) in NUMBERED {
+    for &(number, due) in &NUMBERED {
         check(
             &rt,
             &Place::File("a"),
@@ -139,8 +139,8 @@ fn tells_what_failed(rt: HostRuntime) -> Result<(), Fail> {
         ),
         (named, full, "cellctl: \\u001B[31m: no space left\n"),
     ];
-    for (place, error, due) in cases {
-        check(&rt, &place, error, due)?;
+    for (place, error, due) in &cases {
+        check(&rt, place, *error, due)?;
     }
     Ok(())
 }
@@ -166,8 +166,8 @@ fn tells_how_a_stream_is_shut(rt: HostRuntime) -> Result<(), Fail> {
             "cellctl: standard input: can't be read\n",
         ),
     ];
-    for (place, error, due) in cases {
-        check(&rt, &place, error, due)?;
+    for (place, error, due) in &cases {
+        check(&rt, place, *error, due)?;
     }
     Ok(())
 }
@@ -205,7 +205,7 @@ fn tells_each_kind_in_words(rt: HostRuntime) -> Result<(), Fail> {
             "cellctl: standard output: interrupted too often\n",
         ),
     ];
-    for (kind, due) in kinds {
+    for &(kind, due) in &kinds {
         check(&rt, &Place::Output, Some(io::Error::from(kind)), due)?;
     }
     Ok(())

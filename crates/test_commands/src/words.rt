@@ -169,7 +169,7 @@ fn check<R: AllocGlobal + Abort>(rt: &R, case: &str) -> Result<(), Fail> {
 
 #[test]
 fn reads_the_words_of_the_command_line(rt: HostRuntime) -> Result<(), Fail> {
-    for cases in [
+    for &cases in &[
         ORDERS.as_slice(),
         &REFUSED,
         &RUNS,
@@ -202,7 +202,7 @@ fn lists_the_commands_in_the_help(rt: HostRuntime) -> Result<(), Fail> {
         panic!(&rt; "there is an order for help");
     };
     let text = help.to_string(rt.alloc())?;
-    for command in COMMANDS {
+    for &command in &COMMANDS {
         let is_listed = text
             .as_str()
             .lines()

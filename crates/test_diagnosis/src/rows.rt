@@ -179,7 +179,7 @@ fn part(case: &str, place: usize) -> &str {
 
 /// The bits that a word shows.
 fn shown(rt: &impl Abort, word: &str) -> (u8, u8) {
-    for (name, switch, station) in SHOWN {
+    for &(name, switch, station) in &SHOWN {
         if name == word {
             return (switch, station);
         }
@@ -204,7 +204,7 @@ fn reading_of(rt: &impl Abort, text: &str) -> Option<Reading> {
 }
 
 fn verdict_of(rt: &impl Abort, word: &str) -> Verdict {
-    for (name, verdict) in VERDICTS {
+    for &(name, verdict) in &VERDICTS {
         if name == word {
             return verdict;
         }
@@ -214,7 +214,7 @@ fn verdict_of(rt: &impl Abort, word: &str) -> Verdict {
 
 /// The motion of a name.
 fn motion_of(rt: &impl Abort, wanted: &str) -> Motion {
-    for (name, axis, from, to, [leave, limit]) in MOTIONS {
+    for &(name, axis, from, to, [leave, limit]) in &MOTIONS {
         if name == wanted {
             return Motion {
                 axis,
@@ -263,10 +263,10 @@ fn check(rt: &impl Abort, case: &str) {
 
 #[test]
 fn readings_are_followed_to_their_verdict_which_stays(rt: HostRuntime) {
-    for case in FOLLOWED {
+    for &case in &FOLLOWED {
         check(&rt, case);
     }
-    for case in AT_REST {
+    for &case in &AT_REST {
         check(&rt, case);
     }
 }
@@ -277,14 +277,16 @@ fn a_rest_watch_tells_whether_the_last_reading_agreed(rt: HostRuntime) {
     assert!(rt; !watch.agreed());
     for (place, (text, wanted, agreed)) in AGREED.iter().enumerate() {
         let verdict = watch.note(&MIDDLE_EMPTY, reading_of(&rt, text));
-        assert!(rt; verdict == verdict_of(&rt, wanted), "reading {place}");
-        assert!(rt; watch.agreed() == *agreed, "reading {place}");
+        assert!(rt;
+            verdict == verdict_of(&rt, wanted) && watch.agreed() == *agreed,
+            "reading {place}"
+        );
     }
 }
 
 #[test]
 fn limits_have_ranges(rt: HostRuntime) {
-    for (leave, limit, wanted) in RANGES {
+    for &(leave, limit, wanted) in &RANGES {
         let is_met = match Limits::new(leave, limit) {
             Some(limits) => wanted && limits.leave() == leave && limits.limit() == limit,
             None => !wanted,

@@ -130,6 +130,15 @@ fn table(lift: u8, turn: u8, plate: u8) -> Option<Reading> {
     })
 }
 
+/// The table is expected to rest so: its lift, its turn, and the bits of its plate that have to be there and that may.
+fn expect_of(lift: Option<Pose>, turn: Option<Pose>, must: u8, may: u8) -> Expect {
+    Expect {
+        poses: [lift, turn, Some(Pose::Out)],
+        must: must | 0xFE,
+        may: may & 0xFD,
+    }
+}
+
 /// One sequence of the table at rest, by its number.
 fn follow_rest(
     rt: &impl Abort,
@@ -154,15 +163,10 @@ fn follow_rest(
 #[test]
 fn a_table_at_rest_is_followed_as_the_plain_program_says(rt: HostRuntime) {
     let expects = [
-        (Some(Pose::Low), Some(Pose::Belt), 0, 0),
-        (None, Some(Pose::Robot), 1, 0),
-        (Some(Pose::High), Some(Pose::Robot), 1, 1),
-    ]
-    .map(|(lift, turn, must, may)| Expect {
-        poses: [lift, turn, Some(Pose::Out)],
-        must: must | 0xFE,
-        may: may & 0xFD,
-    });
+        expect_of(Some(Pose::Low), Some(Pose::Belt), 0, 0),
+        expect_of(None, Some(Pose::Robot), 1, 0),
+        expect_of(Some(Pose::High), Some(Pose::Robot), 1, 1),
+    ];
     let readings = [
         None,
         table(1, 1, 0),

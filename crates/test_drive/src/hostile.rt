@@ -11,7 +11,7 @@ const ONE_PLATE: [&str; 3] = ["plates = 1\n", "", ""];
 
 #[test]
 fn a_method_that_ends_quits(rt: HostRuntime) -> Result<(), Fail> {
-    for driving in [ENTRIES, COMMANDS] {
+    for &driving in &[ENTRIES, COMMANDS] {
         let written = driven(&rt, ONE_PLATE, driving, b"".as_slice(), 1);
         assert!(rt; has_line(written.output.as_slice(), "end,quit,,"));
     }
@@ -42,7 +42,7 @@ fn bytes_that_are_no_text_are_answered(rt: HostRuntime) -> Result<(), Fail> {
     let lines = [
         0xFF, 0x00, b',', 0xC3, b',', b',', b'\n', 0xEF, 0xBB, 0xBF, b'\n',
     ];
-    for driving in [ENTRIES, COMMANDS] {
+    for &driving in &[ENTRIES, COMMANDS] {
         let written = driven(&rt, ONE_PLATE, driving, lines.as_slice(), 1);
         assert!(rt; has_line(written.output.as_slice(), "unreadable,,,"));
     }
@@ -52,7 +52,7 @@ fn bytes_that_are_no_text_are_answered(rt: HostRuntime) -> Result<(), Fail> {
 #[test]
 fn a_round_has_ten_thousand_lines_at_most(rt: HostRuntime) -> Result<(), Fail> {
     let lines = repeated(&rt, b"x\n".as_slice(), 10_001)?;
-    for driving in [ENTRIES, COMMANDS] {
+    for &driving in &[ENTRIES, COMMANDS] {
         let written = driven(&rt, ONE_PLATE, driving, lines.as_slice(), 1);
         assert!(rt; has_line(written.output.as_slice(), "end,too many lines,,"));
     }
@@ -86,7 +86,7 @@ fn a_reader_that_fails_ends_the_run(rt: HostRuntime) {
 #[test]
 fn a_closed_output_ends_the_run(rt: HostRuntime) {
     let mut errors = Vec::new(rt.alloc());
-    for driving in [ENTRIES, COMMANDS] {
+    for &driving in &[ENTRIES, COMMANDS] {
         let answer = drive_texts(
             &rt,
             b"plates = 1\n".as_slice(),

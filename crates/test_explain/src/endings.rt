@@ -98,7 +98,7 @@ fn check_run<R: AllocGlobal + Abort + Threads + Wait + Sync>(
 
 #[test]
 fn a_run_that_stalled_is_told_by_what_it_waits_for(rt: HostRuntime) {
-    for (faults, operator, lines, wanted) in RUNS {
+    for &(faults, operator, lines, wanted) in &RUNS {
         check_run(&rt, SIX, faults, operator, 1, lines, wanted);
     }
 }
@@ -119,7 +119,7 @@ const LIMITED: [(&str, &str, &str); 2] = [
 
 #[test]
 fn the_limit_that_ended_a_run_is_told_first(rt: HostRuntime) {
-    for (settings, lines, wanted) in LIMITED {
+    for &(settings, lines, wanted) in &LIMITED {
         check_run(&rt, settings, "", "", 1, lines, wanted);
     }
 }
@@ -167,7 +167,7 @@ const COUNTED: [(&str, &str, u8, &str, &str); 3] = [
 
 #[test]
 fn plates_are_counted_and_a_record_waits_by_its_number(rt: HostRuntime) {
-    for (faults, operator, status, lines, wanted) in COUNTED {
+    for &(faults, operator, status, lines, wanted) in &COUNTED {
         check_run(&rt, "plates = 4", faults, operator, status, lines, wanted);
     }
 }

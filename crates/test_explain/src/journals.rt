@@ -207,7 +207,7 @@ fn a_journal_is_explained(rt: HostRuntime) {
 #[test]
 fn a_writer_that_fails_is_told_of(rt: HostRuntime) {
     let text = b"profile,1,,\nadmitted,1,,\n".as_slice();
-    for len in [0, 1, 10, 60] {
+    for &len in &[0, 1, 10, 60] {
         let mut room = [0; 60];
         let mut writer = &mut room[..len];
         let answer = explain_journal(rt.alloc(), text, &mut writer);

@@ -60,7 +60,7 @@ fn is_read<R: Read + Drop, W: AllocGlobal + Abort>(rt: &W, text: R, what: &str, 
 
 #[test]
 fn a_journal_is_read_up_to_its_last_good_entry(rt: HostRuntime) {
-    for (text, wanted) in CASES {
+    for &(text, wanted) in &CASES {
         is_read(&rt, text.as_bytes(), text, wanted);
     }
     let text = b"profile,1,,\nlamp,feed,green,\n".as_slice();

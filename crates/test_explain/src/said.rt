@@ -21,6 +21,21 @@ pub(crate) fn check_said<W: AllocGlobal + Abort>(rt: &W, what: &str, said: &[u8]
     assert!(rt; is_said, "of {what}: {said}, and not: {wanted}");
 }
 
+// Checks what is said of a text, and this status.
+fn check_text<W: AllocGlobal + Abort>(rt: &W, kind: Kind, status: u8, text: &str, wanted: &str) {
+    let alloc = rt.alloc();
+    let mut written = Vec::new(alloc);
+    let bytes = text.as_bytes();
+    let answer = match kind {
+        Kind::Journal => explain_journal(alloc, bytes, &mut written),
+        Kind::Settings => explain_settings(alloc, bytes, &mut written),
+        Kind::Faults => explain_faults(alloc, bytes, &mut written),
+        Kind::Operator => explain_operator(alloc, bytes, &mut written),
+    };
+    check_said(rt, text, written.as_slice(), wanted);
+    assert!(rt; answer == Ok(status), "the status of {text}");
+}
+
 /// Checks of each of these texts what is said of it, and this status.
 pub(crate) fn check_texts<W: AllocGlobal + Abort>(
     rt: &W,
@@ -28,17 +43,7 @@ pub(crate) fn check_texts<W: AllocGlobal + Abort>(
     status: u8,
     cases: &[(&str, &str)],
 ) {
-    let alloc = rt.alloc();
     for (text, wanted) in cases {
-        let mut written = Vec::new(alloc);
-        let bytes = text.as_bytes();
-        let answer = match kind {
-            Kind::Journal => explain_journal(alloc, bytes, &mut written),
-            Kind::Settings => explain_settings(alloc, bytes, &mut written),
-            Kind::Faults => explain_faults(alloc, bytes, &mut written),
-            Kind::Operator => explain_operator(alloc, bytes, &mut written),
-        };
-        check_said(rt, text, written.as_slice(), wanted);
-        assert!(rt; answer == Ok(status), "the status of {text}");
+        check_text(rt, kind, status, text, wanted);
     }
 }

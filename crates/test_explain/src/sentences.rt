@@ -124,14 +124,14 @@ fn is_shown<S: Display, W: AllocGlobal + Abort>(rt: &W, shown: &S, wanted: &str)
 
 #[test]
 fn entries_and_refusals_are_sentences(rt: HostRuntime) {
-    for (record, wanted) in ENTRIES {
+    for &(record, wanted) in &ENTRIES {
         let entry = entry_of(record).expect(&rt, record);
         is_shown(&rt, &EntrySentence(entry), wanted);
     }
-    for (why, wanted) in REFUSALS {
+    for &(why, wanted) in &REFUSALS {
         is_shown(&rt, &RefusalSentence(why), wanted);
     }
-    for (pose, wanted) in POSES {
+    for &(pose, wanted) in &POSES {
         is_shown(&rt, &pose_name(pose), wanted);
     }
 }

@@ -40,16 +40,16 @@ const fn same(time: u64) -> Option<Spread> {
 fn one_plate_takes_the_sum_of_its_motions(rt: HostRuntime) {
     let measures = measured(&rt, &ONE_PLATE, &Durations::ONE);
     let counted = (measures.entries, measures.delivered, measures.declared);
-    assert_eq!(&rt; counted, (62, 1, 0));
-    assert_eq!(&rt; (measures.time, measures.rate), (18, None));
+    assert!(&rt; counted == (62, 1, 0));
+    assert!(&rt; (measures.time, measures.rate) == (18, None));
     let spreads = [measures.plate, measures.to_delivery, measures.to_repair];
-    assert_eq!(&rt; spreads, [same(18), None, None]);
+    assert!(&rt; spreads == [same(18), None, None]);
 }
 
 #[test]
 fn the_machines_of_one_plate(rt: HostRuntime) {
     let measures = measured(&rt, &ONE_PLATE, &Durations::ONE);
-    for (machine, wanted) in [
+    for &(machine, wanted) in &[
         (Machine::Feed, spent(2, 0, 16)),
         (Machine::Table, spent(2, 1, 15)),
         (Machine::Robot, spent(11, 4, 3)),
@@ -57,21 +57,21 @@ fn the_machines_of_one_plate(rt: HostRuntime) {
         (Machine::Press2, spent(0, 0, 18)),
         (Machine::Deposit, spent(1, 3, 14)),
     ] {
-        assert_eq!(&rt; measures.of_machine(machine), wanted, "{machine:?}");
+        assert!(&rt; measures.of_machine(machine) == wanted, "{machine:?}");
     }
 }
 
 #[test]
 fn the_zones_of_one_plate(rt: HostRuntime) {
     let measures = measured(&rt, &ONE_PLATE, &Durations::ONE);
-    for (zone, wanted) in [
+    for &(zone, wanted) in &[
         (Zone::Z1, held(2, 1)),
         (Zone::Z2, held(2, 2)),
         (Zone::Z3, held(2, 6)),
         (Zone::Z4, held(0, 0)),
         (Zone::Z5, held(1, 3)),
     ] {
-        assert_eq!(&rt; measures.of_zone(zone), wanted, "{zone:?}");
+        assert!(&rt; measures.of_zone(zone) == wanted, "{zone:?}");
     }
 }
 
@@ -85,7 +85,7 @@ fn durations_count(rt: HostRuntime) {
     let measures = measured(&rt, &ONE_PLATE, &durations);
     let press = measures.of_machine(Machine::Press1).moving;
     let deposit = measures.of_machine(Machine::Deposit).moving;
-    assert_eq!(&rt; [measures.time, press, deposit], [25, 10, 0]);
+    assert!(&rt; [measures.time, press, deposit] == [25, 10, 0]);
 }
 
 // Two axes of a machine that move at once take as long as the slower one.
@@ -104,7 +104,7 @@ fn motions_at_once(rt: HostRuntime) {
     let ends = times_of(rt.alloc(), &journal, &durations).expect(&rt, "memory");
     assert!(&rt; ends.as_slice() == [0, 0, 3, 5].as_slice());
     let measures = measured(&rt, &records, &durations);
-    assert_eq!(&rt; measures.of_machine(Machine::Table), spent(5, 0, 0));
+    assert!(&rt; measures.of_machine(Machine::Table) == spent(5, 0, 0));
 }
 
 // A machine is failed from its declaration to its repair, and holds no zone from then on.
@@ -124,9 +124,9 @@ fn a_failure(rt: HostRuntime) {
     let mut durations = Durations::ONE;
     durations.set_axis(Axis::TableLift, 9);
     let measures = measured(&rt, &records, &durations);
-    assert_eq!(&rt; (measures.time, measures.declared), (9, 1));
+    assert!(&rt; (measures.time, measures.declared) == (9, 1));
     let spreads = [measures.to_repair, measures.to_delivery];
-    assert_eq!(&rt; spreads, [same(0), None]);
-    assert_eq!(&rt; measures.of_zone(Zone::Z3), held(1, 8));
-    assert_eq!(&rt; measures.of_machine(Machine::Press1), spent(1, 0, 8));
+    assert!(&rt; spreads == [same(0), None]);
+    assert!(&rt; measures.of_zone(Zone::Z3) == held(1, 8));
+    assert!(&rt; measures.of_machine(Machine::Press1) == spent(1, 0, 8));
 }

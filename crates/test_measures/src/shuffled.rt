@@ -39,7 +39,7 @@ fn measured<R: AllocGlobal + Abort>(rt: &R, records: &[&str], durations: &Durati
 fn another_order(rt: HostRuntime) {
     let first = with_second_press(&rt, 0).expect(&rt, "memory");
     let first = measured(&rt, first.as_slice(), &Durations::ONE);
-    assert_eq!(&rt; first.time, 18);
+    assert!(&rt; first.time == 18);
     let moved = Spent {
         failed: 0,
         moving: 1,
@@ -47,11 +47,11 @@ fn another_order(rt: HostRuntime) {
         holding: 0,
         idle: 17,
     };
-    assert_eq!(&rt; first.of_machine(Machine::Press2), moved);
+    assert!(&rt; first.of_machine(Machine::Press2) == moved);
     for place in 1..62 {
         let records = with_second_press(&rt, place).expect(&rt, "memory");
         let other = measured(&rt, records.as_slice(), &Durations::ONE);
-        assert_eq!(&rt; other, first);
+        assert!(&rt; other == first);
     }
 }
 
@@ -74,7 +74,7 @@ fn two_deliveries(rt: HostRuntime) {
     durations.set_axis(Axis::PressTwo, 2);
     let measures = measured(&rt, &records, &durations);
     let counted = (measures.time, measures.delivered, measures.rate);
-    assert_eq!(&rt; counted, (4, 2, Some(250_000)));
+    assert!(&rt; counted == (4, 2, Some(250_000)));
     let plate = Spread {
         least: 0,
         median: 0,
@@ -86,6 +86,6 @@ fn two_deliveries(rt: HostRuntime) {
         most: 2,
     };
     let spreads = [measures.plate, measures.to_delivery, measures.to_repair];
-    assert_eq!(&rt; spreads, [Some(plate), Some(two), None]);
-    assert_eq!(&rt; measures.of_machine(Machine::Press2).failed, 2);
+    assert!(&rt; spreads == [Some(plate), Some(two), None]);
+    assert!(&rt; measures.of_machine(Machine::Press2).failed == 2);
 }

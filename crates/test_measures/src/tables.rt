@@ -25,7 +25,7 @@ fn one_alone(rt: HostRuntime) {
     let measures = one_plate(&rt);
     let table = table_of(rt.alloc(), &[named("a", measures)]).expect(&rt, "memory");
     assert!(&rt; table.as_str().starts_with(ALONE));
-    assert_eq!(&rt; table.as_str().lines().count(), 54);
+    assert!(&rt; table.as_str().lines().count() == 54);
 }
 
 // Five stand side by side in 79 columns, and the sixth below.
@@ -45,7 +45,7 @@ fn six_journals(rt: HostRuntime) {
     assert!(&rt; table.as_str().lines().all(|line| line.len() <= 79));
     assert!(&rt; table.as_str().lines().any(|line| line.len() == 79));
     assert!(&rt; table.as_str().contains("\n\n6: f\n"));
-    assert_eq!(&rt; table.as_str().lines().count(), 5 + 1 + 54 + 1 + 1 + 1 + 54);
+    assert!(&rt; table.as_str().lines().count() == 5 + 1 + 54 + 1 + 1 + 1 + 54);
 }
 
 const FIRST_LINES: &str = "\
@@ -62,7 +62,7 @@ fn lines_of_words(rt: HostRuntime) {
     let lines = lines_of(rt.alloc(), &one_plate(&rt)).expect(&rt, "memory");
     assert!(&rt; lines.as_str().starts_with(FIRST_LINES));
     assert!(&rt; lines.as_str().contains("\ntime feed moving 2\n"));
-    assert_eq!(&rt; lines.as_str().lines().count(), 54);
+    assert!(&rt; lines.as_str().lines().count() == 54);
     let none = lines_of(rt.alloc(), &Measures::NONE).expect(&rt, "memory");
     assert!(&rt; none.as_str().ends_with("\ntime to_repair most -\n"));
 }
@@ -81,5 +81,5 @@ fn lines_of_csv(rt: HostRuntime) {
         )
     );
     assert!(&rt; csv.as_str().contains("\ne,0,0,0,,,,,0,"));
-    assert_eq!(&rt; csv.as_str().lines().count(), 3);
+    assert!(&rt; csv.as_str().lines().count() == 3);
 }

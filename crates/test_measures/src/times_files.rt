@@ -29,16 +29,23 @@ table_lift.high = 0
 feed_belt.to_table = 1000
 ";
 
+// Texts, motions, and how long each takes.
+const READ: [(&str, Axis, Pose, u16); 8] = [
+    ("", Axis::PressOne, Pose::Top, 1),
+    (TIMES, Axis::PressOne, Pose::Top, 4),
+    (TIMES, Axis::PressOne, Pose::Bottom, 4),
+    (TIMES, Axis::PressTwo, Pose::Bottom, 1),
+    (TIMES, Axis::TableLift, Pose::High, 0),
+    (TIMES, Axis::TableLift, Pose::Low, 1),
+    (TIMES, Axis::FeedBelt, Pose::ToTable, 1000),
+    (TIMES, Axis::FeedBelt, Pose::ToEnd, 1),
+];
+
 #[test]
 fn times_are_read(rt: HostRuntime) {
-    assert_eq!(&rt; time_of(&rt, "", Axis::PressOne, Pose::Top), 1);
-    assert_eq!(&rt; time_of(&rt, TIMES, Axis::PressOne, Pose::Top), 4);
-    assert_eq!(&rt; time_of(&rt, TIMES, Axis::PressOne, Pose::Bottom), 4);
-    assert_eq!(&rt; time_of(&rt, TIMES, Axis::PressTwo, Pose::Bottom), 1);
-    assert_eq!(&rt; time_of(&rt, TIMES, Axis::TableLift, Pose::High), 0);
-    assert_eq!(&rt; time_of(&rt, TIMES, Axis::TableLift, Pose::Low), 1);
-    assert_eq!(&rt; time_of(&rt, TIMES, Axis::FeedBelt, Pose::ToTable), 1000);
-    assert_eq!(&rt; time_of(&rt, TIMES, Axis::FeedBelt, Pose::ToEnd), 1);
+    for &(text, axis, to, wanted) in &READ {
+        assert!(&rt; time_of(&rt, text, axis, to) == wanted, "{axis:?}");
+    }
 }
 
 #[test]

@@ -27,7 +27,7 @@ fn shows(
         durations,
         answer,
     );
-    assert!(rt; drawn == Ok(()));
+    assert!(rt; drawn.is_ok());
     let file = String::from_utf8_lossy(alloc, bytes.as_slice()).expect(rt, "memory");
     let chart = file.as_str();
     assert!(rt; chart.starts_with("<svg xmlns=\"http://www.w3.org/2000/svg\""));

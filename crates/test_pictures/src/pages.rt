@@ -49,7 +49,7 @@ fn first_page(
     chart: Option<&[u8]>,
 ) -> String {
     let mut page = Vec::new(alloc);
-    assert!(rt; write_first(rt, alloc, &mut page, answer, chart) == Ok(()));
+    assert!(rt; write_first(rt, alloc, &mut page, answer, chart).is_ok());
     String::from_utf8(page).ok().expect(rt, "the page is UTF-8")
 }
 
@@ -70,14 +70,15 @@ fn is_page(
     let (_, rest) = text.split_once("\"rows\":[\n").unwrap_or(("", ""));
     let (rows, _) = rest.split_once("\n]}\n</script>\n").unwrap_or(("", ""));
     let mut left = rows;
-    for piece in ROWS {
+    for &piece in &ROWS {
         let rest = left.strip_prefix(piece);
         assert!(rt; rest.is_some(), "{words}: {piece}");
         left = rest.unwrap_or("");
     }
-    assert!(rt; left == "", "{words}");
-    assert!(rt; text.contains(words), "{words}");
-    assert!(rt; text.ends_with("</script>\n</body>\n</html>\n"), "{words}");
+    assert!(rt;
+        left == "" && text.contains(words) && text.ends_with("</script>\n</body>\n</html>\n"),
+        "{words}"
+    );
 }
 
 #[test]
@@ -164,7 +165,7 @@ fn has_step(
     line: &str,
 ) {
     let mut page = Vec::new(alloc);
-    assert!(rt; write_page(&mut page, book, answer, refused, None) == Ok(()));
+    assert!(rt; write_page(&mut page, book, answer, refused, None).is_ok());
     let page = String::from_utf8(page).ok().expect(rt, "the page is UTF-8");
     let (_, rest) = page.as_str().split_once("\"refused\":").unwrap_or(("", ""));
     let (step, _) = rest.split_once(",\n\"rows\":[\n").unwrap_or(("", ""));
@@ -176,7 +177,7 @@ fn has_step(
 fn has_a_step_for_the_record_that_is_not_booked(rt: HostRuntime) {
     let book = begun(rt.alloc(), 100, 10, 4).expect(&rt, "a book");
     let second = entry_of("admitted,2,,");
-    for (answer, is_given, line) in STEPS {
+    for &(answer, is_given, line) in &STEPS {
         let refused = if is_given { second } else { None };
         has_step(&rt, rt.alloc(), &book, answer, refused, line);
     }
@@ -188,7 +189,7 @@ fn writes_two_pages_in_one(rt: HostRuntime) {
     let mut written = Vec::new(rt.alloc());
     let first = b"<p class=\"a\">one &amp; two</p>".as_slice();
     let second = b"\"&\"".as_slice();
-    assert!(rt; write_beside(&mut written, first, second) == Ok(()));
+    assert!(rt; write_beside(&mut written, first, second).is_ok());
     let page = String::from_utf8(written)
         .ok()
         .expect(&rt, "the page is UTF-8");
@@ -244,17 +245,17 @@ fn write_switching(
 fn refuses_a_journal_that_is_too_long(rt: HostRuntime) {
     let mut page = Vec::new(rt.alloc());
     let refused = write_switching(&rt, rt.alloc(), &mut page, MAX_PAGE_ENTRIES + 1);
-    assert_eq!(rt; refused, Err(PageError::TooManyEntries));
+    assert!(rt; refused == Err(PageError::TooManyEntries));
     assert!(rt; page.is_empty());
     let longest = write_switching(&rt, rt.alloc(), &mut page, MAX_PAGE_ENTRIES);
-    assert_eq!(rt; longest, Ok(()));
+    assert!(rt; longest.is_ok());
     assert!(rt; page.len() < 5_000_000);
 }
 
 // A page isn't written whole into so many bytes.
 #[test]
 fn tells_that_the_writer_failed(rt: HostRuntime) {
-    for room in [0, 1000, 30_000] {
+    for &room in &[0, 1000, 30_000] {
         let mut bytes = vec![in rt.alloc(); 0u8; room].expect(&rt, "memory");
         let mut rest = bytes.as_mut_slice();
         let answer = write_first(&rt, rt.alloc(), &mut rest, None, None);

@@ -163,8 +163,10 @@ fn is_shown(rt: &impl Abort, alloc: Global, case: Case) {
     assert!(rt; answered == answer, "{form:?} {entry:?} of {text}");
     let shown = String::from_utf8_lossy(alloc, written.as_slice()).expect(rt, "memory");
     let shown = shown.as_str();
-    assert!(rt; shown.starts_with(first), "{form:?} {entry:?} of {text}");
-    assert!(rt; shown.ends_with(last), "{form:?} {entry:?} of {text}");
+    assert!(rt;
+        shown.starts_with(first) && shown.ends_with(last),
+        "{form:?} {entry:?} of {text}"
+    );
     let length = first.len().saturating_add(last.len());
     assert!(rt;
         form != Form::Text || shown.len() == length,
@@ -174,10 +176,10 @@ fn is_shown(rt: &impl Abort, alloc: Global, case: Case) {
 
 #[test]
 fn shows_journals_in_each_form(rt: HostRuntime) {
-    for case in LEGAL_CASES {
+    for &case in &LEGAL_CASES {
         is_shown(&rt, rt.alloc(), case);
     }
-    for case in OTHER_CASES {
+    for &case in &OTHER_CASES {
         is_shown(&rt, rt.alloc(), case);
     }
 }
@@ -209,7 +211,7 @@ fn a_page_has_a_chart_of_all_entries(rt: HostRuntime) {
     let page = shown_as(&rt, rt.alloc(), Form::Page, None);
     let chart = shown_as(&rt, rt.alloc(), Form::Chart(durations), None);
     assert!(rt; !page.as_str().contains(chart.as_str()));
-    for entry in [None, Some(1)] {
+    for &entry in &[None, Some(1)] {
         let timed = shown_as(&rt, rt.alloc(), Form::TimedPage(durations), entry);
         has_chart(&rt, timed.as_str(), page.as_str(), chart.as_str());
     }
@@ -277,12 +279,11 @@ fn shows_two_journals_side_by_side(rt: HostRuntime) {
 
 #[test]
 fn shows_nothing_where_the_reader_fails(rt: HostRuntime) {
-    for left in [0, 1, 20, LEGAL.len()] {
+    for &left in &[0, 1, 20, LEGAL.len()] {
         let reader = FailingReader::new(LEGAL.as_bytes(), left);
         let mut written = Vec::new(rt.alloc());
         let answer = show_journal(rt.alloc(), reader, Form::Text, None, &mut written);
-        assert!(rt; answer == Ok(3), "after {left} bytes");
-        assert!(rt; written.is_empty(), "after {left} bytes");
+        assert!(rt; answer == Ok(3) && written.is_empty(), "after {left} bytes");
     }
 }
 
@@ -290,13 +291,15 @@ fn shows_nothing_where_the_reader_fails(rt: HostRuntime) {
 fn is_cut(rt: &impl Abort, alloc: Global, form: Form, left: usize) {
     let mut writer = FailingWriter::new(Vec::new(alloc), left);
     let answer = show_journal(alloc, LEGAL.as_bytes(), form, None, &mut writer);
-    assert!(rt; answer == Err(ShowError::WriteFault), "after {left} bytes");
-    assert!(rt; writer.inner().len() == left, "after {left} bytes");
+    assert!(rt;
+        answer == Err(ShowError::WriteFault) && writer.inner().len() == left,
+        "after {left} bytes"
+    );
 }
 
 #[test]
 fn tells_that_the_writer_failed(rt: HostRuntime) {
-    for form in [
+    for &form in &[
         Form::Text,
         Form::Unicode,
         Form::Picture,
@@ -304,7 +307,7 @@ fn tells_that_the_writer_failed(rt: HostRuntime) {
         Form::Chart(Durations::ONE),
         Form::TimedPage(Durations::ONE),
     ] {
-        for left in [0, 1, 500] {
+        for &left in &[0, 1, 500] {
             is_cut(&rt, rt.alloc(), form, left);
         }
     }

@@ -185,7 +185,7 @@ fn is_cut(rt: &impl Abort, alloc: Global, scene: &Scene, form: Form) {
     let file = drawn(rt, alloc, scene, form);
     let whole = file.as_bytes();
     let length = whole.len();
-    for left in [0, 1, 500, 1000, length.saturating_sub(1), length] {
+    for &left in &[0, 1, 500, 1000, length.saturating_sub(1), length] {
         let mut writer = FailingWriter::new(Vec::new(alloc), left);
         let is_whole = draws(&mut writer, scene, form);
         assert!(rt; is_whole == (left == length), "after {left} bytes");

@@ -126,14 +126,14 @@ fn draws_the_opening_and_what_records_lead_to(rt: HostRuntime) {
         answer: None,
     };
     let opening = drawn(&rt, rt.alloc(), &scene, Form::Text);
-    assert_eq!(rt; opening.as_str(), OPENING);
+    assert!(rt; opening.as_str() == OPENING);
     let refused = AuditError::Refused(15, Refusal::PlateExpected);
-    for (records, answer, wanted) in [
+    for &(records, answer, wanted) in &[
         (TWO_PLATES.as_slice(), None, WITH_TWO_PLATES),
         (FAILED_PRESS.as_slice(), Some(refused), WITH_A_FAILED_PRESS),
     ] {
         let text = drawn_after(&rt, rt.alloc(), records, answer, Form::Text);
-        assert_eq!(rt; text.as_str(), wanted);
+        assert!(rt; text.as_str() == wanted);
     }
 }
 
@@ -142,7 +142,7 @@ fn draws_the_opening_and_what_records_lead_to(rt: HostRuntime) {
 fn draws_the_longest_words(rt: HostRuntime) {
     let facts = largest();
     let text = drawn(&rt, rt.alloc(), &longest(&facts), Form::Unicode);
-    assert_eq!(rt; text.as_str(), WITH_THE_LONGEST_WORDS);
+    assert!(rt; text.as_str() == WITH_THE_LONGEST_WORDS);
     let mut lines = 0u32;
     for line in text.as_str().lines() {
         assert!(rt; line.chars().count() <= 78, "{line}");

@@ -75,7 +75,7 @@ const RUNS: [&str; 9] = [
 
 #[test]
 fn a_run_in_rounds_is_followed(rt: HostRuntime) -> Result<(), Fail> {
-    for case in RUNS {
+    for &case in &RUNS {
         check_run(&rt, false, case)?;
     }
     Ok(())
@@ -127,7 +127,7 @@ fn check_parted<R: AllocGlobal + Abort + Wait>(rt: &R, case: &str) -> Result<(),
 
 #[test]
 fn a_journal_parts_at_the_first_entry_that_is_not_booked(rt: HostRuntime) -> Result<(), Fail> {
-    for case in PARTED {
+    for &case in &PARTED {
         check_parted(&rt, case)?;
     }
     Ok(())
@@ -143,20 +143,23 @@ const REFUSED: [&str; 6] = [
     "profile,1,,\nlamp,feed,green,\nadmitted,1,,\nadmitted,2,,\n|plates = 1|||refused 3 LampRed feed\n",
 ];
 
+// The line of a case has to be printed, whether the journal is wanted or not.
+fn check_first<R: AllocGlobal + Abort + Wait>(rt: &R, case: &str, alone: bool) {
+    let mut parts = case.split('|');
+    let journal = parts.next().unwrap_or("").as_bytes();
+    let settings = parts.next().unwrap_or("").as_bytes();
+    let faults = parts.next().unwrap_or("").as_bytes();
+    let operator = parts.next().unwrap_or("").as_bytes();
+    let line = parts.next().unwrap_or("").as_bytes();
+    let written = followed(rt, journal, [settings, faults, operator], alone, 1, case);
+    assert!(rt; written.as_slice() == line, "{case}");
+}
+
 #[test]
 fn the_first_text_that_is_refused_is_told(rt: HostRuntime) {
-    for case in REFUSED {
-        let mut parts = case.split('|');
-        let journal = parts.next().unwrap_or("").as_bytes();
-        let settings = parts.next().unwrap_or("").as_bytes();
-        let faults = parts.next().unwrap_or("").as_bytes();
-        let operator = parts.next().unwrap_or("").as_bytes();
-        let line = parts.next().unwrap_or("").as_bytes();
-        for alone in [false, true] {
-            let texts = [settings, faults, operator];
-            let written = followed(&rt, journal, texts, alone, 1, case);
-            assert!(rt; written.as_slice() == line, "{case}");
-        }
+    for &case in &REFUSED {
+        check_first(&rt, case, false);
+        check_first(&rt, case, true);
     }
 }
 

@@ -19,7 +19,7 @@ fn check_refused<R: AllocGlobal + Abort + Threads + Wait + Sync>(
     operator: &[u8],
     line: &str,
 ) {
-    for (threads, journal) in FORMS {
+    for &(threads, journal) in &FORMS {
         let texts = [settings, faults, operator];
         let written = told(rt, texts, threads, journal, 1, line);
         assert!(rt; written.as_slice() == line.as_bytes(), "{line}");
@@ -43,7 +43,7 @@ const REFUSED: [&str; 6] = [
 
 #[test]
 fn the_first_text_that_is_refused_is_told(rt: HostRuntime) {
-    for case in REFUSED {
+    for &case in &REFUSED {
         let ([settings, faults, operator], _, line, _) = read_case(case);
         check_refused(&rt, settings, faults, operator, line);
     }
@@ -79,7 +79,7 @@ fn check_cut<R: AllocGlobal + Abort + Threads + Wait + Sync>(
 
 #[test]
 fn a_failed_write_is_told(rt: HostRuntime) {
-    for (threads, journal) in FORMS {
+    for &(threads, journal) in &FORMS {
         let answer = run_texts(&rt, GOOD, b"", b"", threads, journal, &mut Unwilling);
         assert!(rt; answer == Err(WriteFault), "nothing was taken");
         check_cut(&rt, (threads, journal), 0, Err(WriteFault));

@@ -72,7 +72,7 @@ fn check_journal<R: AllocGlobal + Abort>(rt: &R, outcome: &Outcome, case: &str) 
 // How many plates are at the stations of a world.
 fn count_inside(world: &World) -> u32 {
     let mut count = 0u32;
-    for station in STATIONS {
+    for &station in &STATIONS {
         if world.plate_at(station).is_some() {
             count = count.saturating_add(1);
         }
@@ -84,7 +84,7 @@ fn count_inside(world: &World) -> u32 {
 // station, or taken out, removed or lost.
 fn check_world(rt: &impl Abort, world: &World, case: &str) {
     assert!(rt; world.collisions() == 0, "{case}");
-    for rule in SAFETY_RULES {
+    for &rule in &SAFETY_RULES {
         assert!(rt; world.broken(rule) == 0, "{case}: {rule}");
     }
     let gone = world

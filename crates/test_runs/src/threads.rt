@@ -59,7 +59,7 @@ const RUNS: [&str; 5] = [
 
 #[test]
 fn writes_how_a_run_ends(rt: HostRuntime) -> Result<(), Fail> {
-    for case in RUNS {
+    for &case in &RUNS {
         check_case(&rt, case)?;
     }
     Ok(())

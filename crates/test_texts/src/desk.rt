@@ -135,18 +135,18 @@ fn is_refused(rt: &impl Abort, alloc: Global, count: usize, last: &[u8], wanted:
     text.extend_from_slice(last).expect(rt, "memory");
     let given = Script::read(alloc, text.as_slice()).err();
     let shown = String::from_utf8_lossy(alloc, last).expect(rt, "memory");
-    assert_eq!(rt; given, wanted, "{count} stops and {shown}");
+    assert!(rt; given == wanted, "{count} stops and {shown}");
 }
 
 #[test]
 fn reads_the_words_of_lines_and_takes_a_thousand(rt: HostRuntime) {
-    for text in RIGHT {
+    for &text in &RIGHT {
         is_refused(&rt, rt.alloc(), 0, text, None);
     }
-    for text in WRONG {
+    for &text in &WRONG {
         is_refused(&rt, rt.alloc(), 0, text, Some(ScriptError::Unreadable(1)));
     }
-    for (count, last, wanted) in AFTER_STOPS {
+    for &(count, last, wanted) in &AFTER_STOPS {
         is_refused(&rt, rt.alloc(), count, last, wanted);
     }
 }
@@ -171,18 +171,18 @@ fn holds(book: &Book, question: &str, name: &str) -> bool {
 fn has_next(rt: &impl Abort, script: &Script, book: &Book, record: &str, story: &str) {
     let action = script.next(book).expect(rt, story);
     let wanted = entry(record).expect(rt, story);
-    assert_eq!(rt; entry_of(action), wanted, "{record} in {story}");
+    assert!(rt; entry_of(action) == wanted, "{record} in {story}");
 }
 
 fn take_step(rt: &impl Abort, script: &mut Script, book: &mut Book, step: &str, story: &str) {
     let (word, rest) = step.split_once(' ').unwrap_or((step, ""));
     match word {
-        "book" => assert_eq!(rt; book_all(book, &[rest]), Ok(())),
+        "book" => assert!(rt; book_all(book, &[rest]).is_ok()),
         "next" => has_next(rt, script, book, rest, story),
-        "nothing" => assert_eq!(rt; script.next(book), None, "{story}"),
+        "nothing" => assert!(rt; script.next(book).is_none(), "{story}"),
         "does" => {
             has_next(rt, script, book, rest, story);
-            assert_eq!(rt; book_all(book, &[rest]), Ok(()));
+            assert!(rt; book_all(book, &[rest]).is_ok());
             script.done();
         }
         "done" => script.done(),
@@ -203,14 +203,14 @@ fn tell(rt: &impl Abort, alloc: Global, story: &str) {
 
 #[test]
 fn does_what_is_next_where_its_trigger_holds_and_its_entry_is_allowed(rt: HostRuntime) {
-    for story in STORIES {
+    for &story in &STORIES {
         tell(&rt, rt.alloc(), story);
     }
 }
 
 #[test]
 fn books_actions_by_their_entries(rt: HostRuntime) {
-    for (action, record) in [
+    for &(action, record) in &[
         (Action::Stop(Machine::Robot), "stop_asked,robot,,"),
         (Action::Repair(Machine::Robot), "repaired,robot,,"),
         (

@@ -15,8 +15,8 @@ const BEGINS: [(&[u8], u32); 5] = [
 
 #[test]
 fn judges_a_line_without_an_end(rt: HostRuntime) {
-    for byte in [b',', b'a', b'0', 0, 0xFF] {
-        for (begin, place) in BEGINS {
+    for &byte in &[b',', b'a', b'0', 0, 0xFF] {
+        for &(begin, place) in &BEGINS {
             let endless = begin.chain(io::repeat(byte));
             let wanted = Err(AuditError::Unreadable(place));
             judges(&rt, rt.alloc(), endless, wanted, ("endless", begin.len()));

@@ -228,10 +228,8 @@ fn prints<R: Read + Drop>(
 ) {
     let mut written = Vec::new(alloc);
     let answer = audit_lines(alloc, reader, &mut written);
-    assert_eq!(rt; answer, Ok(status), "{name}: {bytes} bytes");
-    assert_eq!(rt;
-        written.as_slice(),
-        lines.as_bytes(),
+    assert!(rt;
+        answer == Ok(status) && written.as_slice() == lines.as_bytes(),
         "{name}: {bytes} bytes"
     );
 }
@@ -246,9 +244,8 @@ fn bytes_are_printed(
 ) {
     let mut writer = Pieces::new(Vec::new(alloc), 1);
     let answer = audit_lines(alloc, Pieces::new(text, 1), &mut writer);
-    assert!(rt; answer == Ok(status), "{name}, byte by byte");
     assert!(rt;
-        writer.inner().as_slice() == lines.as_bytes(),
+        answer == Ok(status) && writer.inner().as_slice() == lines.as_bytes(),
         "{name}, byte by byte"
     );
 }
@@ -264,9 +261,8 @@ fn prints_slowly(
     bytes_are_printed(rt, alloc, text, (status, lines), name);
     let mut writer = Interrupted::new(Pieces::new(Vec::new(alloc), 1));
     let answer = audit_lines(alloc, Interrupted::new(text), &mut writer);
-    assert!(rt; answer == Ok(status), "{name}, interrupted");
     assert!(rt;
-        writer.inner().inner().as_slice() == lines.as_bytes(),
+        answer == Ok(status) && writer.inner().inner().as_slice() == lines.as_bytes(),
         "{name}, interrupted"
     );
 }
@@ -307,7 +303,7 @@ fn writer_of(rt: &impl Abort, alloc: Global, text: &[u8], length: usize, left: u
     } else {
         Ok(0)
     };
-    assert_eq!(rt; answer, wanted, "after {left} bytes");
+    assert!(rt; answer == wanted, "after {left} bytes");
 }
 
 // Legal texts without entries, and how long the lines are that are printed for them.
@@ -320,7 +316,7 @@ fn prints_nothing_where_the_reader_fails_and_tells_that_the_writer_failed(rt: Ho
         let reader = FailingReader::new(Pieces::new(carried.as_slice(), 1), left);
         prints(&rt, rt.alloc(), reader, (3, ""), ("a fault", left));
     }
-    for (text, length) in LENGTHS {
+    for &(text, length) in &LENGTHS {
         for left in 0..length + 1 {
             writer_of(&rt, rt.alloc(), text, length, left);
         }

@@ -81,8 +81,10 @@ fn migrates<R: Read + Drop>(
 ) {
     let mut written = Vec::new(alloc);
     let answer = migrate(alloc, reader, &mut written);
-    assert_eq!(rt; answer, wanted, "{length} bytes");
-    assert!(rt; written.as_slice() == text, "{length} bytes");
+    assert!(rt;
+        answer == wanted && written.as_slice() == text,
+        "{length} bytes"
+    );
 }
 
 // The same for a text at once and byte by byte, and where reads and writes are interrupted.
@@ -91,9 +93,8 @@ fn is_migrated(rt: &impl Abort, alloc: Global, text: &[u8], wanted: Answer, migr
     let slow = Interrupted::new(Pieces::new(text, 1));
     let mut writer = Interrupted::new(Pieces::new(Vec::new(alloc), 1));
     let answer = migrate(alloc, slow, &mut writer);
-    assert!(rt; answer == wanted, "{} bytes, slowly", text.len());
     assert!(rt;
-        writer.inner().inner().as_slice() == migrated,
+        answer == wanted && writer.inner().inner().as_slice() == migrated,
         "{} bytes, slowly",
         text.len()
     );
@@ -102,7 +103,7 @@ fn is_migrated(rt: &impl Abort, alloc: Global, text: &[u8], wanted: Answer, migr
 #[test]
 fn migrates_texts_of_profile_1_and_writes_nothing_of_others(rt: HostRuntime) {
     let alloc = rt.alloc();
-    for (text, wanted, migrated) in TEXTS {
+    for &(text, wanted, migrated) in &TEXTS {
         is_migrated(&rt, alloc, text, wanted, migrated);
     }
     let due = Ok((2, FOUR_ENTRIES));
@@ -137,7 +138,7 @@ fn part_is_written(rt: &impl Abort, alloc: Global, text: &[u8], whole: &[u8], le
     } else {
         Ok(CARRIED)
     };
-    assert_eq!(rt; answer, wanted, "after {left} bytes");
+    assert!(rt; answer == wanted, "after {left} bytes");
     let part = &whole[..left.min(whole.len())];
     assert!(rt; writer.inner().as_slice() == part, "after {left} bytes");
 }
@@ -187,17 +188,17 @@ fn entries_in(rt: &impl Abort, alloc: Global, text: &[u8]) -> Vec<Entry> {
 
 // The views tell the same of the first two plates, of each axis and each light, and of the whole.
 fn place_the_same(rt: &impl Abort, old: &[Entry], new: &[Entry]) {
-    for number in [1, 2] {
+    for &number in &[1, 2] {
         let plate = plate(number).expect(rt, "a plate");
         assert!(rt;
             place_of(new, plate) == place_of(old, plate),
             "plate {number}"
         );
     }
-    for axis in AXES {
+    for &axis in &AXES {
         assert!(rt; pose_of(new, axis) == pose_of(old, axis), "an axis");
     }
-    for belt in BELTS {
+    for &belt in &BELTS {
         assert!(rt; lamp_of(new, belt) == lamp_of(old, belt), "a light");
     }
     assert!(rt; count_of(new) == count_of(old), "the totals");
@@ -209,10 +210,10 @@ fn place_the_same(rt: &impl Abort, old: &[Entry], new: &[Entry]) {
 
 // The views tell the same of each zone and each machine.
 fn hold_the_same(rt: &impl Abort, old: &[Entry], new: &[Entry]) {
-    for zone in ZONES {
+    for &zone in &ZONES {
         assert!(rt; holder_of(new, zone) == holder_of(old, zone), "a zone");
     }
-    for machine in MACHINES {
+    for &machine in &MACHINES {
         assert!(rt;
             is_failed(new, machine) == is_failed(old, machine),
             "a failure"
@@ -226,7 +227,7 @@ fn check_views(rt: &impl Abort, alloc: Global, text: &[u8], count: usize) {
     let mut written = Vec::new(alloc);
     let old = entries_in(rt, alloc, text);
     let answer = migrate(alloc, text, &mut written);
-    assert_eq!(rt; answer, Ok(count_of(old.as_slice())), "{count} entries");
+    assert!(rt; answer == Ok(count_of(old.as_slice())), "{count} entries");
     let new = entries_in(rt, alloc, written.as_slice());
     assert!(rt; old.len() == count && new.len() == count, "{count} entries");
     place_the_same(rt, old.as_slice(), new.as_slice());
@@ -235,7 +236,7 @@ fn check_views(rt: &impl Abort, alloc: Global, text: &[u8], count: usize) {
 
 #[test]
 fn keeps_what_the_views_tell(rt: HostRuntime) {
-    for records in [ONE_PLATE.as_slice(), &LAID_BACK[..10]] {
+    for &records in &[ONE_PLATE.as_slice(), &LAID_BACK[..10]] {
         for place in 0..records.len() + 1 {
             let text = text_of(rt.alloc(), 1, &records[..place]).expect(&rt, "memory");
             check_views(&rt, rt.alloc(), text.as_slice(), place);
@@ -254,16 +255,19 @@ fn prints<R: Read + Drop>(
     let mut written = Vec::new(alloc);
     let mut errors = Vec::new(alloc);
     let answer = migrate_lines(alloc, reader, &mut written, &mut errors);
-    assert_eq!(rt; answer, Ok(status), "{migrated}{line}");
-    assert_eq!(rt; written.as_slice(), migrated.as_bytes(), "{migrated}{line}");
-    assert_eq!(rt; errors.as_slice(), line.as_bytes(), "{migrated}{line}");
+    assert!(rt;
+        answer == Ok(status)
+            && written.as_slice() == migrated.as_bytes()
+            && errors.as_slice() == line.as_bytes(),
+        "{migrated}{line}"
+    );
 }
 
 #[test]
 fn prints_the_line_of_a_refusal_elsewhere_and_ends_with_a_fault_of_its_reader_or_writers(
     rt: HostRuntime,
 ) {
-    for (text, status, migrated, line) in PRINTED {
+    for &(text, status, migrated, line) in &PRINTED {
         prints(&rt, rt.alloc(), text, status, [migrated, line]);
     }
     let text = b"profile,1,,\nlamp,feed,green,\n".as_slice();

@@ -128,7 +128,7 @@ const SIZES: [usize; 9] = [1, 2, 17, 18, 1000, 16_383, 16_384, 16_385, 100_000];
 fn write_row(list: &mut Vec<u8>, row: Option<Four<'_>>) -> Result<(), AllocError> {
     match row {
         Some(four) => {
-            for field in [four.first, four.second, four.third, four.fourth] {
+            for &field in &[four.first, four.second, four.third, four.fourth] {
                 list.extend_from_slice(field)?;
                 list.push(b'|')?;
             }
@@ -164,7 +164,7 @@ fn lists<R: Read + Drop>(
             }
         }
     }
-    assert_eq!(rt; list.as_slice(), wanted, "{name}, {bytes} bytes");
+    assert!(rt; list.as_slice() == wanted, "{name}, {bytes} bytes");
 }
 
 // A reader of a text that hands out one byte at a time, is interrupted before each, and fails after a number of bytes.
@@ -174,13 +174,13 @@ fn slow(text: &[u8], fails_at: usize) -> FailingReader<Interrupted<Pieces<&[u8]>
 
 #[test]
 fn reads_the_records_of_texts_and_tells_that_the_reader_failed(rt: HostRuntime) {
-    for cases in [RECORDS.as_slice(), UNFIT.as_slice()] {
+    for &cases in &[RECORDS.as_slice(), UNFIT.as_slice()] {
         for (name, text, wanted) in cases {
             lists(&rt, rt.alloc(), *text, wanted, (*name, text.len()));
             lists(&rt, rt.alloc(), slow(text, usize::MAX), wanted, (*name, 1));
         }
     }
-    for (fails_at, wanted) in FAILING {
+    for &(fails_at, wanted) in &FAILING {
         let reader = slow(TWO_LINES, fails_at);
         lists(&rt, rt.alloc(), reader, wanted, ("a fault", fails_at));
     }
@@ -215,7 +215,7 @@ fn pieces_of_any_size_give_the_same_records(rt: HostRuntime) {
     ];
     let text = long_text(&rt, rt.alloc(), lines);
     let wanted = long_text(&rt, rt.alloc(), rows);
-    for size in SIZES {
+    for &size in &SIZES {
         let reader = Pieces::new(text.as_slice(), size);
         lists(&rt, rt.alloc(), reader, wanted.as_slice(), ("pieces", size));
     }

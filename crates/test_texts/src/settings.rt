@@ -183,8 +183,10 @@ fn prints(rt: &impl Abort, alloc: Global, text: &[u8], wanted: &[u8], status: u8
     let mut written = Vec::new(alloc);
     let answer = check_lines(alloc, text, &mut written);
     let shown = String::from_utf8_lossy(alloc, text).expect(rt, "memory");
-    assert_eq!(rt; answer, Ok(status), "{shown}");
-    assert_eq!(rt; written.as_slice(), wanted, "{shown}");
+    assert!(rt;
+        answer == Ok(status) && written.as_slice() == wanted,
+        "{shown}"
+    );
 }
 
 // These lines are printed for texts that are wrong.
@@ -206,7 +208,7 @@ fn prints_what_a_check_finds(rt: HostRuntime) {
 // What settings' text says: the plates, the limit of the journal, the turns, and the limits of the axes.
 fn says(rt: &impl Abort, alloc: Global, text: &[u8], numbers: [u32; 3], limits: [(u16, u16); 9]) {
     let plan = read_settings(alloc, text).ok().expect(rt, "settings");
-    assert_eq!(rt; [plan.plates, plan.journal_limit, plan.turns], numbers);
+    assert!(rt; [plan.plates, plan.journal_limit, plan.turns] == numbers);
     for (given, (leave, limit)) in plan.limits.iter().zip(limits) {
         assert!(rt;
             Some(*given) == Limits::new(leave, limit),
@@ -217,7 +219,7 @@ fn says(rt: &impl Abort, alloc: Global, text: &[u8], numbers: [u32; 3], limits: 
 
 #[test]
 fn reads_numbers_and_defaults(rt: HostRuntime) {
-    for (text, numbers, limits) in PLANS {
+    for &(text, numbers, limits) in &PLANS {
         says(&rt, rt.alloc(), text, numbers, limits);
     }
 }
@@ -227,9 +229,9 @@ fn says_what_is_wrong(rt: HostRuntime) -> Result<(), Fail> {
     let alloc = rt.alloc();
     let watch = KeyPath::new(alloc, "watch")?;
     let path = KeyPath::join(alloc, watch.as_str(), "arm_two")?;
-    assert_eq!(rt; path.as_str(), "watch.arm_two");
+    assert!(rt; path.as_str() == "watch.arm_two");
     let text = format!(in alloc; "{}", SettingsError::UnknownKey(path))?;
-    assert_eq!(rt; text.as_str(), "unknown key watch.arm_two");
+    assert!(rt; text.as_str() == "unknown key watch.arm_two");
     Ok(())
 }
 
@@ -250,14 +252,14 @@ fn writer_of(
 ) {
     let mut writer = FailingWriter::new(Vec::new(alloc), left);
     let answer = check_lines(alloc, text, &mut writer);
-    assert_eq!(rt; answer, wanted, "after {left} bytes");
+    assert!(rt; answer == wanted, "after {left} bytes");
     let part = &due[..left.min(due.len())];
-    assert_eq!(rt; writer.inner().as_slice(), part);
+    assert!(rt; writer.inner().as_slice() == part);
 }
 
 #[test]
 fn tells_that_the_writer_failed_after_a_first_part(rt: HostRuntime) {
-    for (text, due) in WRITTEN {
+    for &(text, due) in &WRITTEN {
         for left in 0..due.len() {
             writer_of(&rt, rt.alloc(), text, left, due, Err(WriteFault));
         }
@@ -265,5 +267,5 @@ fn tells_that_the_writer_failed_after_a_first_part(rt: HostRuntime) {
     let text = b"plates = 5".as_slice();
     writer_of(&rt, rt.alloc(), text, 12, b"settings ok\n", Ok(0));
     let answer = check_lines(rt.alloc(), text, &mut Unwilling);
-    assert_eq!(rt; answer, Err(WriteFault), "nothing was taken");
+    assert!(rt; answer == Err(WriteFault), "nothing was taken");
 }

@@ -191,7 +191,7 @@ fn proposes_one_of(
 // After so many of the journal's entries each machine proposes one of the useful entries that are its own.
 fn each_proposes_one_of(rt: &impl Abort, alloc: Global, count: usize, plan: u32, useful: &str) {
     let book = begun(alloc, 100, 10, count).expect(rt, "a book");
-    for machine in MACHINES {
+    for &machine in &MACHINES {
         assert!(rt;
             proposes_one_of(rt, machine, &book, plan, useful),
             "after {count}"
@@ -224,7 +224,7 @@ fn check_fault(rt: &impl Abort, alloc: Global, count: usize, records: &[&str], u
 fn faults_are_answered(rt: HostRuntime) {
     let stopped: &[&str] = &["declared,press1,operator_stop,"];
     let silent: &[&str] = &["declared,robot,silent,"];
-    for (count, records, useful) in [
+    for &(count, records, useful) in &[
         (28, stopped, "started,arm_one,in,"),
         (26, stopped, "yielded,robot,z3,"),
         (24, stopped, "yielded,robot,z3,"),

@@ -49,7 +49,7 @@ fn a_press_is_chosen(rt: HostRuntime) {
         "quarantined,1,press1,",
         "repaired,press1,,",
     ];
-    for (count, records, chosen) in [
+    for &(count, records, chosen) in &[
         (0, none, Some(Machine::Press1)),
         (38, none, Some(Machine::Press2)),
         (0, stopped, Some(Machine::Press2)),
@@ -65,7 +65,7 @@ fn a_press_is_chosen(rt: HostRuntime) {
 
 #[test]
 fn lights_are_wanted(rt: HostRuntime) {
-    for (count, plan, feed, deposit) in [
+    for &(count, plan, feed, deposit) in &[
         (0, 0, Colour::Red, Colour::Red),
         (0, 1, Colour::Green, Colour::Red),
         (2, 5, Colour::Red, Colour::Red),
@@ -90,7 +90,7 @@ fn lights_are_wanted(rt: HostRuntime) {
 fn a_light_is_wanted_for_a_plate_that_is_expected(rt: HostRuntime) {
     let none: &[&str] = &[];
     let failed: &[&str] = &["declared,feed,silent,"];
-    for (count, records, plan, wanted) in [
+    for &(count, records, plan, wanted) in &[
         (10, none, 1, Colour::Red),
         (10, none, 2, Colour::Green),
         (11, none, 1, Colour::Green),

@@ -67,8 +67,10 @@ fn check_turn<R: Run>(
     let told = told_by(rt, alloc, kept.book());
     let (was, listed) = (*watch, entries.len());
     let answer = turn(machine, kept, shares, watch, wanted.0, entries, plan);
-    assert!(rt; answer == wanted.1, "turn {place}");
-    assert!(rt; shares.counts() == kept.book().totals(), "turn {place}");
+    assert!(rt;
+        answer == wanted.1 && shares.counts() == kept.book().totals(),
+        "turn {place}"
+    );
     if answer.is_err() {
         let is_same = told_by(rt, alloc, kept.book()).is_same(&told);
         let is_left = is_same && *watch == was && entries.len() == listed;
@@ -112,21 +114,16 @@ fn entries_of_turns<R: Run>(
 }
 
 // The length of the journal after such turns.
-fn take_turns<R: Run>(
+fn length_of_turns<R: Run>(
     rt: &impl Abort,
     alloc: Global,
-    book: Book,
-    blanks: Blanks,
+    mut kept: Kept<R>,
+    mut shares: Shares<R>,
     machine: Machine,
     plan: &Plan,
     fault: usize,
     turns: &[(Option<Reading>, Result<Option<Command>, TurnError>)],
-) -> usize
-    requires parts { 0 < R.parts }
-    requires limits { book.limits ≡ R.limits }
-    requires ledgers { AreBlank R.Run blanks }
-{
-    let (mut kept, mut shares) = Kept::<R>::new(book, blanks);
+) -> usize {
     let before = kept.book().journal().len() as usize;
     let booked = entries_of_turns(
         rt,
@@ -141,6 +138,25 @@ fn take_turns<R: Run>(
     let length = kept.book().journal().len() as usize;
     assert!(rt; before <= length && length - before == booked);
     length
+}
+
+// The same on a book, with ledgers that are blank.
+fn take_turns<R: Run>(
+    rt: &impl Abort,
+    alloc: Global,
+    book: Book,
+    blanks: Blanks,
+    machine: Machine,
+    plan: &Plan,
+    fault: usize,
+    turns: &[(Option<Reading>, Result<Option<Command>, TurnError>)],
+) -> usize
+    requires parts { 0 < R.parts }
+    requires limits { book.limits ≡ R.limits }
+    requires ledgers { AreBlank R.Run blanks }
+{
+    let (kept, shares) = Kept::<R>::new(book, blanks);
+    length_of_turns(rt, alloc, kept, shares, machine, plan, fault, turns)
 }
 
 // The same on a book with blank ledgers.
@@ -171,7 +187,7 @@ fn a_full_journal_takes_a_command_fault(rt: HostRuntime) {
 #[test]
 fn no_plate_is_admitted_past_the_books_limit(rt: HostRuntime) {
     let mut book = begun(rt.alloc(), 100, 1, 8).expect(&rt, "a book");
-    assert_eq!(rt; book_all(&mut book, &["lamp,feed,green,"]), Ok(()));
+    assert!(rt; book_all(&mut book, &["lamp,feed,green,"]).is_ok());
     let plan = plan_of(&rt, 2);
     let turns = [
         (showing(1), Ok(None)),
@@ -228,7 +244,7 @@ fn a_plate_is_laid_back_at_the_second_reading_that_shows_it(rt: HostRuntime) {
     let Ok(mut book) = Book::new(rt.alloc(), 100, 1) else {
         panic!(rt; "the limits are in range, and there is memory");
     };
-    assert_eq!(rt; book_all(&mut book, &LAID_BACK[..11]), Ok(()));
+    assert!(rt; book_all(&mut book, &LAID_BACK[..11]).is_ok());
     let plan = plan_of(&rt, 1);
     let turns = [
         (showing(0), Ok(Some(FEED_GREEN))),

@@ -95,7 +95,7 @@ fn a_plate_that_was_laid_back_is_delivered(rt: HostRuntime) {
     let begun = "100 10 13|repaired,table,,";
     let mut book = book_of(&rt, rt.alloc(), &LAID_BACK, begun);
     book_records(&rt, &mut book, &ONE_PLATE[2..]);
-    for case in [
+    for &case in &[
         "||totals|Totals { entries: 74, admitted: 1, forged: 1, quarantined: 1, delivered: 1, reinstated: 1 }",
         "||delivered|[PlateId { number: 1 }]",
     ] {
@@ -135,7 +135,7 @@ fn records_of(rt: &impl Abort, alloc: Global, count: u32) -> Records {
     let mut records = Records::new(alloc, 100, 10).ok().expect(rt, "records");
     for record in LAID_BACK.iter().take(count as usize) {
         let given = records.apply(entry(rt, record));
-        assert!(rt; given == Ok(()), "{record}");
+        assert!(rt; given.is_ok(), "{record}");
     }
     records
 }
@@ -158,7 +158,7 @@ fn told(
 
 #[test]
 fn records_tell_a_plate_that_is_laid_back(rt: HostRuntime) {
-    for case in RECORDS_TELL {
+    for &case in &RECORDS_TELL {
         let records = records_of(&rt, rt.alloc(), number(&rt, part(case, 0)));
         is_wanted(&rt, told(&rt, rt.alloc(), &records, part(case, 1)), case);
     }

@@ -321,7 +321,7 @@ const DECLARED: [&str; 1] = [
 
 #[test]
 fn each_kind_of_entry_meets_the_lower_refusal_first(rt: HostRuntime) {
-    for cases in [
+    for &cases in &[
         ADMITTED.as_slice(),
         ARRIVED.as_slice(),
         CLAIMED.as_slice(),

@@ -49,20 +49,35 @@ fn check<W: AllocGlobal + Abort>(rt: &W, text: &[u8], what: (&str, usize)) -> bo
     cuts
 }
 
+// Checks a first part of a text with a tail and an end behind it, and says whether it is cut within a record.
+fn is_cut<W: AllocGlobal + Abort>(
+    rt: &W,
+    part: &[u8],
+    (name, tail): (&str, &[u8]),
+    end: &[u8],
+) -> bool {
+    let text = text_with(rt.alloc(), part, tail, 90_000, end).expect(rt, "memory");
+    check(rt, text.as_slice(), (name, part.len()))
+}
+
+// Checks a first part of a text with each tail, and gives how many are cut within a record.
+fn cuts_of<W: AllocGlobal + Abort>(rt: &W, part: &[u8], end: &[u8]) -> usize {
+    let mut cuts = 0usize;
+    for &tail in &TAILS {
+        if is_cut(rt, part, tail, end) {
+            cuts = cuts.saturating_add(1);
+        }
+    }
+    cuts
+}
+
 // Checks each first part of a text with each tail, and an end by turns, behind it, and gives how many are cut within a
 // record.
 fn check_all<W: AllocGlobal + Abort>(rt: &W, journal: &[u8]) -> usize {
     let mut cuts = 0usize;
     for len in 0..journal.len() + 1 {
-        for (name, tail) in TAILS {
-            let end = ENDS[len % ENDS.len()];
-            let text = text_with(rt.alloc(), &journal[..len], tail, 90_000, end).expect(
-                rt, "memory",
-            );
-            if check(rt, text.as_slice(), (name, len)) {
-                cuts = cuts.saturating_add(1);
-            }
-        }
+        let more = cuts_of(rt, &journal[..len], ENDS[len % ENDS.len()]);
+        cuts = cuts.saturating_add(more);
     }
     cuts
 }
@@ -84,7 +99,7 @@ fn a_legal_journal_is_read_whole(rt: HostRuntime) -> Result<(), Fail> {
     let text = one_plate_text(alloc, 2)?;
     let pair = b"claimed,robot,z3,\nyielded,robot,z3,\n";
     let long = text_with(alloc, text.as_slice(), pair, 200_000, b"")?;
-    for whole in [text.as_slice(), long.as_slice(), b"".as_slice()] {
+    for &whole in &[text.as_slice(), long.as_slice(), b"".as_slice()] {
         let read = journal_text(alloc, whole)?;
         assert!(rt; read.is_whole && read.bytes.as_slice() == whole);
         check(&rt, whole, ("whole", whole.len()));
@@ -118,7 +133,7 @@ fn a_journal_without_an_end_is_read_until_it_is_refused(rt: HostRuntime) -> Resu
 #[test]
 fn a_journal_comes_from_any_reader(rt: HostRuntime) -> Result<(), Fail> {
     let alloc = rt.alloc();
-    for size in [1, 7, 1000] {
+    for &size in &[1, 7, 1000] {
         let read = journal_text(alloc, Interrupted::new(Pieces::new(QUOTED, size)))?;
         assert!(rt; read.bytes.as_slice() == QUOTED, "in pieces of {size}");
     }

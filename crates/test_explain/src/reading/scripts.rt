@@ -79,8 +79,39 @@ fn size_of(tail: &[u8]) -> usize {
     }
 }
 
+// Checks a first part of a script with a tail and an end behind it, and says whether it is cut within a record. Not all
+// is read of it.
+fn is_cut<L: ScriptLine + Drop, W: AllocGlobal + Abort>(
+    rt: &W,
+    kind: Kind,
+    part: &[u8],
+    (name, tail): (&str, &[u8]),
+    end: &[u8],
+) -> bool {
+    let text = text_with(rt.alloc(), part, tail, size_of(tail), end).expect(rt, "memory");
+    let (is_whole, cuts) = check::<L, W>(rt, kind, text.as_slice(), (name, part.len()));
+    assert!(rt; !is_whole, "read to its end, {kind:?} {name}");
+    cuts
+}
+
+// Checks a first part of a script with each tail, and gives how many are cut within a record.
+fn cuts_of<L: ScriptLine + Drop, W: AllocGlobal + Abort>(
+    rt: &W,
+    kind: Kind,
+    part: &[u8],
+    end: &[u8],
+) -> usize {
+    let mut cuts = 0usize;
+    for &tail in &TAILS {
+        if is_cut::<L, W>(rt, kind, part, tail, end) {
+            cuts = cuts.saturating_add(1);
+        }
+    }
+    cuts
+}
+
 // Checks each first part of a script with each tail, and an end by turns, behind it, and gives how many are cut within
-// a record. Not all is read of any.
+// a record.
 fn check_all<L: ScriptLine + Drop, W: AllocGlobal + Abort>(
     rt: &W,
     kind: Kind,
@@ -88,17 +119,8 @@ fn check_all<L: ScriptLine + Drop, W: AllocGlobal + Abort>(
 ) -> usize {
     let mut cuts = 0usize;
     for len in 0..script.len() + 1 {
-        for (name, tail) in TAILS {
-            let end = ENDS[len % ENDS.len()];
-            let text = text_with(rt.alloc(), &script[..len], tail, size_of(tail), end).expect(
-                rt, "memory",
-            );
-            let (is_whole, is_in_record) = check::<L, W>(rt, kind, text.as_slice(), (name, len));
-            assert!(rt; !is_whole, "read to its end, {kind:?} {name} {len}");
-            if is_in_record {
-                cuts = cuts.saturating_add(1);
-            }
-        }
+        let more = cuts_of::<L, W>(rt, kind, &script[..len], ENDS[len % ENDS.len()]);
+        cuts = cuts.saturating_add(more);
     }
     cuts
 }
@@ -133,7 +155,7 @@ fn a_good_script_is_read_whole(rt: HostRuntime) -> Result<(), Fail> {
 #[test]
 fn a_script_comes_from_any_reader(rt: HostRuntime) -> Result<(), Fail> {
     let alloc = rt.alloc();
-    for size in [1, 7, 1000] {
+    for &size in &[1, 7, 1000] {
         let read = script_text(alloc, Interrupted::new(Pieces::new(OPERATOR, size)))?;
         assert!(rt;
             read.is_whole && read.bytes.as_slice() == OPERATOR,

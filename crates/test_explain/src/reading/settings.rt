@@ -12,7 +12,7 @@ const MOST: usize = 1_048_576;
 fn settings_may_have_so_many_bytes(rt: HostRuntime) -> Result<(), Fail> {
     let alloc = rt.alloc();
     let text = text_with(alloc, b"", b"#", MOST + 1, b"")?;
-    for size in [0, 1, 65_536, MOST - 1, MOST] {
+    for &size in &[0, 1, 65_536, MOST - 1, MOST] {
         let part = text.as_slice().get(..size).ok_or("short")?;
         let read = settings_text(alloc, part)?.ok_or("too long")?;
         assert!(rt; read.as_slice() == part, "of {size} bytes");
@@ -27,7 +27,7 @@ fn settings_may_have_so_many_bytes(rt: HostRuntime) -> Result<(), Fail> {
 fn settings_come_from_any_reader(rt: HostRuntime) -> Result<(), Fail> {
     let alloc = rt.alloc();
     let text = b"plates = 1\n".as_slice();
-    for size in [1, 3, 100] {
+    for &size in &[1, 3, 100] {
         let slow = Interrupted::new(Pieces::new(text, size));
         let read = settings_text(alloc, slow)?.ok_or("too long")?;
         assert!(rt; read.as_slice() == text, "in pieces of {size}");

@@ -31,7 +31,7 @@ const LIMITS: [&str; 2] = [
 
 #[test]
 fn runs_end_as_their_faults_stops_and_limits_say(rt: HostRuntime) -> Result<(), Fail> {
-    for cases in [FAULTS.as_slice(), STOPS.as_slice(), LIMITS.as_slice()] {
+    for &cases in &[FAULTS.as_slice(), STOPS.as_slice(), LIMITS.as_slice()] {
         for case in cases {
             check_case(&rt, case)?;
         }

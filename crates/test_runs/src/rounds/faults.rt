@@ -60,7 +60,7 @@ fn check_fault<R: AllocGlobal + Abort + Threads + Wait + Sync>(
     let whole = run_in_world(rt, [TEN, b"", b""], "plates = 10");
     assert!(rt; whole.end == End::Finished, "without {fault}");
     let entries = entries_of(rt.alloc(), whole.book.journal())?;
-    for axis in AXES {
+    for &axis in &AXES {
         let motions = motions_of(entries.as_slice(), axis);
         check_axis(rt, axis_word(axis), motions, fault)?;
     }

@@ -41,8 +41,10 @@ fn check_failing<R: AllocGlobal + Wait + Abort>(
         totals.quarantined,
         totals.delivered,
     ];
-    assert!(rt; counted == [6, 5, quarantined, 5], "{end:?}");
-    assert!(rt; outcome.book.failed(Machine::Press2), "{end:?}");
+    assert!(rt;
+        counted == [6, 5, quarantined, 5] && outcome.book.failed(Machine::Press2),
+        "{end:?}"
+    );
 }
 
 #[test]

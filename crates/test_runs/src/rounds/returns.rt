@@ -16,7 +16,7 @@ const RETURNS: [&str; 3] = [
 
 #[test]
 fn a_plate_that_is_expected_is_laid_back(rt: HostRuntime) -> Result<(), Fail> {
-    for case in RETURNS {
+    for &case in &RETURNS {
         check_case(&rt, case)?;
     }
     Ok(())

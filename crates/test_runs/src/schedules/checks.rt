@@ -44,7 +44,7 @@ pub(crate) fn are_same(some: &Journal, other: &Journal) -> Result<(), &'static s
 /// Whether the seven lists of a schedule are a journal's entries by their actors.
 pub(crate) fn are_lists(journal: &Journal, ran: &Ran) -> Result<(), &'static str> {
     let lists = &ran.machines;
-    for (actor, list) in [
+    for &(actor, list) in &[
         (Actor::Machine(Machine::Feed), &lists.feed),
         (Actor::Machine(Machine::Table), &lists.table),
         (Actor::Machine(Machine::Robot), &lists.robot),
@@ -68,7 +68,7 @@ pub(crate) fn were_told<P, O>(
     hands: &TellingHands<O>,
 ) -> Result<(), &'static str> {
     let lists = &ran.machines;
-    for (list, port) in [
+    for &(list, port) in &[
         (&lists.feed, &ports.feed),
         (&lists.table, &ports.table),
         (&lists.robot, &ports.robot),

@@ -141,7 +141,7 @@ fn mending(random: &mut Random, book: &Book) -> Option<Entry> {
 
 // The plate is cleared that is in the first station of a machine that has one.
 fn clearing_of(book: &Book, machine: Machine) -> Option<Entry> {
-    for src in STATIONS {
+    for &src in &STATIONS {
         if machine_of_station(src) == machine {
             if let Some(plate) = book.plate_at(src) {
                 return Some(Entry::Quarantined { plate, src });

@@ -180,7 +180,7 @@ fn check_again<R: Run, P: Port + Drop, O: OperatorPort + Drop, Q, H, W: AllocGlo
     let is_counted = stage.shares.counts() == book.totals();
     let is_refused = ran.refused == live.taken.refused;
     assert!(rt; is_counted && is_refused, "seed {}", setting.seed);
-    for answer in [
+    for &answer in &[
         is_lawful(rt.alloc(), book, setting.entries, setting.plates),
         are_same(book.journal(), live.journal),
         are_lists(book.journal(), ran),
@@ -278,14 +278,14 @@ fn check_thousand<W: AllocGlobal + Abort + Wait>(rt: &W, first: u64) {
 
 #[test]
 fn five_thousand_hostile_schedules_are_lawful(rt: HostRuntime) {
-    for first in [0, 1_000, 2_000, 3_000, 4_000] {
+    for &first in &[0, 1_000, 2_000, 3_000, 4_000] {
         check_thousand(&rt, first);
     }
 }
 
 #[test]
 fn five_thousand_more_hostile_schedules_are_lawful(rt: HostRuntime) {
-    for first in [5_000, 6_000, 7_000, 8_000, 9_000] {
+    for &first in &[5_000, 6_000, 7_000, 8_000, 9_000] {
         check_thousand(&rt, first);
     }
 }

@@ -76,7 +76,7 @@ fn are_idle<R: Run, P: Port + Drop, O: OperatorPort + Drop>(
     plan: &Plan,
 ) -> bool {
     let book = stage.kept.book();
-    for machine in MACHINES {
+    for &machine in &MACHINES {
         if !is_idle(machine, book, &stage.watch_of(machine), plan) {
             return false;
         }
@@ -174,12 +174,12 @@ fn play<W: AllocGlobal + Abort + Wait>(rt: &W, rounds: usize, left_out: &[Machin
 
 #[test]
 fn a_run_finishes_though_machines_were_left_out(rt: HostRuntime) {
-    for machine in MACHINES {
-        for rounds in [0, 5, 17, 38, 60, 90, 150, 333] {
+    for &machine in &MACHINES {
+        for &rounds in &[0, 5, 17, 38, 60, 90, 150, 333] {
             play(&rt, rounds, &[machine]);
         }
     }
-    for rounds in [0, 20, 47, 111] {
+    for &rounds in &[0, 20, 47, 111] {
         play(&rt, rounds, &MACHINES);
     }
 }

@@ -75,7 +75,7 @@ impl Tally {
             self.delivering = self.delivering.saturating_add(1);
         }
         self.acts_failed = self.acts_failed.saturating_add(stage.hands.failures());
-        for port in [
+        for &port in &[
             &ports.feed,
             &ports.table,
             &ports.robot,

@@ -63,7 +63,7 @@ fn book_one(rt: &impl Abort, book: &mut Book, entry: Option<Entry>) -> bool {
 
 fn end_motions(rt: &impl Abort, book: &mut Book) -> bool {
     let mut is_booked = false;
-    for axis in AXES {
+    for &axis in &AXES {
         let end = motion_end(book, axis);
         is_booked |= book_one(rt, book, end);
     }
@@ -72,7 +72,7 @@ fn end_motions(rt: &impl Abort, book: &mut Book) -> bool {
 
 fn follow_proposals(rt: &impl Abort, book: &mut Book, plan: u32) -> bool {
     let mut is_booked = false;
-    for machine in MACHINES {
+    for &machine in &MACHINES {
         let proposal = propose(machine, book, plan);
         is_booked |= book_one(rt, book, proposal);
     }

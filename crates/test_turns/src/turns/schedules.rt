@@ -10,7 +10,7 @@ mod stage;
 use crate::turns::schedules::stage::Stage;
 use crate::turns::{plan_of, showing};
 use cell_diagnosis::Reading;
-use cell_ledger::{Blanks, Kept, Run};
+use cell_ledger::{Blanks, Kept, Run, Shares};
 use cell_turns::{Act, OperatorPort, Plan, Port, Ran, Six, Step, Watches, run_schedule};
 use cell_types::{Belt, Colour, Command, Entry, MACHINES, Machine, Station};
 use plate_book::Book;
@@ -42,21 +42,17 @@ fn ports(rt: &impl Abort, alloc: Global, room: usize, failing: Failing) -> Six<M
     ports
 }
 
-fn play_over<R: Run>(
+// A schedule on a kept book, over these ports and hands.
+fn play_kept<R: Run>(
     rt: &impl Abort,
     alloc: Global,
-    book: Book,
-    blanks: Blanks,
+    mut kept: Kept<R>,
+    mut shares: Shares<R>,
     plan: &Plan,
     steps: &[Step],
     mut ports: Six<MemoryPort>,
     mut hands: MemoryHands,
-) -> Played
-    requires parts { 0 < R.parts }
-    requires limits { book.limits ≡ R.limits }
-    requires ledgers { AreBlank R.Run blanks }
-{
-    let (mut kept, mut shares) = Kept::<R>::new(book, blanks);
+) -> Played {
     let mut watches = Watches::start(kept.book());
     let ran = run_schedule(
         alloc,
@@ -68,9 +64,7 @@ fn play_over<R: Run>(
         &mut watches,
         plan,
     );
-    let Ok(ran) = ran else {
-        panic!(rt; "there is memory");
-    };
+    let ran = ran.expect(rt, "memory");
     assert!(rt; shares.counts() == kept.book().totals());
     Played {
         ran,
@@ -78,6 +72,25 @@ fn play_over<R: Run>(
         hands,
         book: kept.into_book(),
     }
+}
+
+// The same on a book, with ledgers that are blank.
+fn play_over<R: Run>(
+    rt: &impl Abort,
+    alloc: Global,
+    book: Book,
+    blanks: Blanks,
+    plan: &Plan,
+    steps: &[Step],
+    ports: Six<MemoryPort>,
+    hands: MemoryHands,
+) -> Played
+    requires parts { 0 < R.parts }
+    requires limits { book.limits ≡ R.limits }
+    requires ledgers { AreBlank R.Run blanks }
+{
+    let (kept, shares) = Kept::<R>::new(book, blanks);
+    play_kept(rt, alloc, kept, shares, plan, steps, ports, hands)
 }
 
 // A schedule on a book, over these ports. The operator's hands fail so.
@@ -429,7 +442,7 @@ fn book_with_cleared(rt: &impl Abort, alloc: Global) -> Book {
     let Ok(mut book) = Book::new(alloc, 100, 10) else {
         panic!(rt; "the limits are in range, and there is memory");
     };
-    assert_eq!(rt; book_all(&mut book, &LAID_BACK[..10]), Ok(()));
+    assert!(rt; book_all(&mut book, &LAID_BACK[..10]).is_ok());
     book
 }
 
@@ -529,7 +542,7 @@ fn a_turn_that_is_refused_leaves_all_as_it_was(rt: HostRuntime) {
     leave_all(&rt, alloc, full, &twice, Machine::Feed, showing(1));
     let laid = [Step::Turn(Machine::Feed, showing(1))];
     let mut past = begun(alloc, 100, 1, 8).expect(&rt, "a book");
-    assert_eq!(rt; book_all(&mut past, &["lamp,feed,green,"]), Ok(()));
+    assert!(rt; book_all(&mut past, &["lamp,feed,green,"]).is_ok());
     leave_all(&rt, alloc, past, &laid, Machine::Feed, showing(1));
     let moving = begun(alloc, 11, 10, 11).expect(&rt, "a book");
     let low = Some(Reading {

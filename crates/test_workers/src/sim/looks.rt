@@ -52,7 +52,7 @@ fn is_axis_so(rt: &impl Abort, world: &World, wanted: &str) -> bool {
 fn is_moving_so(world: &World, wanted: &str) -> bool {
     let machine = read_machine(wanted.as_bytes());
     let mut is_moving = false;
-    for axis in AXES {
+    for &axis in &AXES {
         if world.is_moving(axis) {
             if machine != Some(machine_of_axis(axis)) {
                 return false;
@@ -94,7 +94,7 @@ fn is_moved_so(rt: &impl Abort, world: &World, wanted: &str) -> bool {
 }
 
 fn is_broken_so(world: &World, wanted: &str) -> bool {
-    for rule in SAFETY_RULES {
+    for &rule in &SAFETY_RULES {
         let times = if rule.name() == wanted { 1 } else { 0 };
         if world.broken(rule) != times {
             return false;
@@ -105,7 +105,7 @@ fn is_broken_so(world: &World, wanted: &str) -> bool {
 
 fn is_broken_often(world: &World, wanted: &str) -> bool {
     let (name, times) = parted(wanted);
-    for rule in SAFETY_RULES {
+    for &rule in &SAFETY_RULES {
         if rule.name() == name {
             return Ok(world.broken(rule)) == times.parse::<u32>();
         }
@@ -117,7 +117,7 @@ fn is_first_so(rt: &impl Abort, world: &World, wanted: &str) -> bool {
     let (name, occasion) = parted(wanted);
     let (round, by) = parted(occasion);
     let mut first = None;
-    for rule in SAFETY_RULES {
+    for &rule in &SAFETY_RULES {
         if rule.name() == name {
             first = world.first_broken(rule);
         }

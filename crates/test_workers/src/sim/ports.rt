@@ -24,7 +24,7 @@ fn ports_act_in_one_world(rt: HostRuntime) {
     let world = Mutex::new(World::new(1));
     let mut feed = SimPort::new(&rt, &world, Machine::Feed, &faults);
     let mut hands = SimOperator::new(&rt, &world);
-    for step in STEPS {
+    for &step in &STEPS {
         assert!(rt; is_met(&rt, &world, &mut feed, &mut hands, step), "{step}");
     }
 }

@@ -92,7 +92,7 @@ fn check_case(
 
 #[test]
 fn a_script_is_read_or_refused(rt: HostRuntime) -> Result<(), Fail> {
-    for case in CASES {
+    for &case in &CASES {
         check_case(&rt, rt.alloc(), case)?;
     }
     Ok(())

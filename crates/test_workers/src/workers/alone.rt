@@ -277,7 +277,7 @@ pub(crate) fn serve<R: Run, W: AllocGlobal + Abort + Wait>(
 
 #[test]
 fn a_worker_works_until_an_end(rt: HostRuntime) {
-    for scene in SCENES {
+    for &scene in &SCENES {
         play_in_room(&rt, scene);
     }
 }

@@ -67,6 +67,6 @@ pub(crate) fn run_world<R: AllocGlobal + Abort + Threads + Wait + Sync>(
     let mut ports = sim_ports(rt, &world, &faults);
     let mut hands = SimOperator::new(rt, &world);
     let report = run_over(rt, &mut ports, &mut hands, script, plan);
-    assert_eq!(rt; world.lock(rt).collisions(), 0);
+    assert!(rt; world.lock(rt).collisions() == 0);
     report
 }

@@ -144,20 +144,20 @@ fn run_failing<R: AllocGlobal + Abort + Threads + Wait + Sync>(
     check_hands(rt, failures, &report, &hands);
     if is_known {
         check_outcome(rt, failures, &report);
-        assert_eq!(rt; world.lock(rt).collisions(), 0);
+        assert!(rt; world.lock(rt).collisions() == 0);
     }
 }
 
 #[test]
 fn ports_and_hands_do_what_is_booked_until_they_fail(rt: HostRuntime) {
-    for failures in [NEVER, FEED_FAILS, PRESS_FAILS, PLATE_STAYS, PRESS_STAYS] {
+    for &failures in &[NEVER, FEED_FAILS, PRESS_FAILS, PLATE_STAYS, PRESS_STAYS] {
         run_failing(&rt, &failures, true);
     }
 }
 
 #[test]
 fn one_failed_command_is_declared(rt: HostRuntime) {
-    for machine in MACHINES {
+    for &machine in &MACHINES {
         for number in 1..21u32 {
             let port = Failing::At(number);
             let failures = Failures {

@@ -99,7 +99,7 @@ fn run_meeting<R: AllocGlobal + Abort + Threads + Wait + Clock + Sync>(rt: &R, m
     let mut hands = SimOperator::new(rt, &world);
     let report = run_over(rt, &mut ports, &mut hands, script_of(rt, ""), &plan);
     check_end(rt, &report, End::Finished, [5, 5, 0, 5]);
-    assert_eq!(rt; world.lock(rt).collisions(), 0);
+    assert!(rt; world.lock(rt).collisions() == 0);
 }
 
 // The workers of the two presses are both inside a read of their ports at one time: neither waits for the other's turn,

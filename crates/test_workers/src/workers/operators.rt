@@ -239,7 +239,7 @@ pub(crate) fn operate<R: Run, W: AllocGlobal + Abort + Wait>(
 
 #[test]
 fn an_act_by_hand_comes_before_its_entry(rt: HostRuntime) {
-    for scene in SCENES {
+    for &scene in &SCENES {
         play_in_room(&rt, scene);
     }
 }
