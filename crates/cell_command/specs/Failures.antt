@@ -8,32 +8,32 @@ use Rattle.std.specs.declared.io.ErrorKind.TheVariants as kind
 use Rattle.cell_command.specs.Escaped.{escaped}
 use Rattle.cell_command.specs.declared.failure.Cause.{Cause}
 use Rattle.cell_command.specs.declared.failure.Cause.TheVariants as cause
-use Rattle.cell_command.specs.declared.failure.Place.{Place}
-use Rattle.cell_command.specs.declared.failure.Place.TheVariants as place
+use Rattle.cell_command.specs.declared.failure.Resource.{Resource}
+use Rattle.cell_command.specs.declared.failure.Resource.TheVariants as resource
 
--- what a place is called
-abbrev pub place_name : Place → List ℕ
-place_name (place.File path) = path.now
-place_name place.Input = codes "standard input"
-place_name place.Output = codes "standard output"
-place_name place.Errors = codes "standard error"
-place_name place.Threads = codes "run"
+-- what a resource is called
+abbrev pub resource_name : Resource → List ℕ
+resource_name (resource.File path) = path.now
+resource_name resource.Input = codes "standard input"
+resource_name resource.Output = codes "standard output"
+resource_name resource.Errors = codes "standard error"
+resource_name resource.Threads = codes "run"
 
--- what failed there
-abbrev pub refusal : Place → List ℕ
-refusal (place.File path) = codes "can't be read"
-refusal place.Input = codes "can't be read"
-refusal place.Output = codes "can't be written"
-refusal place.Errors = codes "can't be written"
-refusal place.Threads = codes "no thread could be started"
+-- what failed of it
+abbrev pub refusal : Resource → List ℕ
+refusal (resource.File path) = codes "can't be read"
+refusal resource.Input = codes "can't be read"
+refusal resource.Output = codes "can't be written"
+refusal resource.Errors = codes "can't be written"
+refusal resource.Threads = codes "no thread could be started"
 
--- of a place that isn't open for that
-abbrev pub not_open : Place → List ℕ
-not_open (place.File path) = codes "not open for reading"
-not_open place.Input = codes "not open for reading"
-not_open place.Output = codes "not open for writing"
-not_open place.Errors = codes "not open for writing"
-not_open place.Threads = codes "no thread could be started"
+-- of a resource that isn't open for that
+abbrev pub not_open : Resource → List ℕ
+not_open (resource.File path) = codes "not open for reading"
+not_open resource.Input = codes "not open for reading"
+not_open resource.Output = codes "not open for writing"
+not_open resource.Errors = codes "not open for writing"
+not_open resource.Threads = codes "no thread could be started"
 
 -- the words for a kind of error
 abbrev pub kind_words : ErrorKind → Option (List ℕ)
@@ -59,7 +59,7 @@ kind_words kind.OutOfMemory = Some (codes "no memory for it")
 kind_words _ = None
 
 -- the words for an error of Linux that has no kind, by its number
-abbrev pub number_words : Place → ℕ → Option (List ℕ)
+abbrev pub number_words : Resource → ℕ → Option (List ℕ)
 number_words at n =
     if n == 5 then Some (codes "the device failed")
     else if n == 6 || n == 19 then Some (codes "no such device")
@@ -73,16 +73,16 @@ cause_text (cause.Words words) = words.now
 cause_text (cause.Number words n) = words.now ++ (codes " (error " ++ (decimal n ++ codes " of the system)"))
 
 -- what is told of an error by its number
-abbrev pub number_text : Place → ℕ → List ℕ
+abbrev pub number_text : Resource → ℕ → List ℕ
 number_text at n = unwrap_or (number_words at n)
     (refusal at ++ (codes " (error " ++ (decimal n ++ codes " of the system)")))
 
 -- why a read or a write failed, where an error may be known
-abbrev pub reason : Place → Option Error → List ℕ
+abbrev pub reason : Resource → Option Error → List ℕ
 reason at None = refusal at
 reason at (Some e) = unwrap_or (kind_words (error_kind e))
     (unwrap_or (option_map (λ code. number_text at (unsigned_abs code)) (raw_os_error e)) (refusal at))
 
 -- the line that tells it
-abbrev pub failure_line : Place → Option Error → List ℕ
-failure_line at e = codes "cellctl: " ++ (escaped (place_name at) ++ (codes ": " ++ (reason at e ++ 10 ∷ [])))
+abbrev pub failure_line : Resource → Option Error → List ℕ
+failure_line at e = codes "cellctl: " ++ (escaped (resource_name at) ++ (codes ": " ++ (reason at e ++ 10 ∷ [])))

@@ -2,7 +2,7 @@
 ghost use Rattle.std.specs.Prelude.{◌≡◌, OnOk, option_map};
 ghost use Rattle.std.specs.Io.KnownBytes.{Appends};
 ghost use Rattle.cell_command.specs.Failures.{cause_text, failure_line, kind_words, not_open, number_text};
-ghost use Rattle.cell_command.specs.Failures.{number_words, place_name, reason, refusal};
+ghost use Rattle.cell_command.specs.Failures.{number_words, resource_name, reason, refusal};
 
 use crate::escaped::Escaped;
 use std::io::{ErrorKind, Write};
@@ -10,7 +10,7 @@ use std::{fmt, io};
 
 /// What failed: a file or a stream of which a read or a write did, or the threads of a run.
 #[derive(Clone, Copy, Debug, PartialEq, Eq)]
-pub enum Place<'a> {
+pub enum Resource<'a> {
     /// The file of this path, of which a read failed.
     File(&'a str),
     /// Standard input, of which a read failed.
@@ -46,38 +46,38 @@ impl fmt::Display for Cause {
     }
 }
 
-// What a place is called.
-fn name_of<'a>(place: &Place<'a>) -> &'a str
-    ensures { result.now ≡ place_name place.now }
+// What a resource is called.
+fn name_of<'a>(resource: &Resource<'a>) -> &'a str
+    ensures { result.now ≡ resource_name resource.now }
 {
-    match place {
-        Place::File(path) => path,
-        Place::Input => "standard input",
-        Place::Output => "standard output",
-        Place::Errors => "standard error",
-        Place::Threads => "run",
+    match resource {
+        Resource::File(path) => path,
+        Resource::Input => "standard input",
+        Resource::Output => "standard output",
+        Resource::Errors => "standard error",
+        Resource::Threads => "run",
     }
 }
 
-// What failed at a place.
-fn refusal_of(place: &Place<'_>) -> &'static str
-    ensures { result.now ≡ refusal place.now }
+// What failed of a resource.
+fn refusal_of(resource: &Resource<'_>) -> &'static str
+    ensures { result.now ≡ refusal resource.now }
 {
-    match place {
-        Place::File(_) | Place::Input => "can't be read",
-        Place::Output | Place::Errors => "can't be written",
-        Place::Threads => "no thread could be started",
+    match resource {
+        Resource::File(_) | Resource::Input => "can't be read",
+        Resource::Output | Resource::Errors => "can't be written",
+        Resource::Threads => "no thread could be started",
     }
 }
 
-// The words for a place that isn't open for what was tried.
-fn not_open_of(place: &Place<'_>) -> &'static str
-    ensures { result.now ≡ not_open place.now }
+// The words for a resource that isn't open for what was tried.
+fn not_open_of(resource: &Resource<'_>) -> &'static str
+    ensures { result.now ≡ not_open resource.now }
 {
-    match place {
-        Place::File(_) | Place::Input => "not open for reading",
-        Place::Output | Place::Errors => "not open for writing",
-        Place::Threads => "no thread could be started",
+    match resource {
+        Resource::File(_) | Resource::Input => "not open for reading",
+        Resource::Output | Resource::Errors => "not open for writing",
+        Resource::Threads => "no thread could be started",
     }
 }
 
@@ -110,53 +110,53 @@ fn words_of_kind(kind: ErrorKind) -> Option<&'static str>
 }
 
 // The words for an error of Linux that has no kind, by its number, where there are some.
-fn words_of_number(place: &Place<'_>, number: u32) -> Option<&'static str>
-    ensures { option_map (λ words. words.now) result ≡ number_words place.now number }
+fn words_of_number(resource: &Resource<'_>, number: u32) -> Option<&'static str>
+    ensures { option_map (λ words. words.now) result ≡ number_words resource.now number }
 {
     match number {
         5 => Some("the device failed"),
         6 | 19 => Some("no such device"),
-        9 => Some(not_open_of(place)),
+        9 => Some(not_open_of(resource)),
         23 | 24 => Some("too many files are open"),
         _ => None,
     }
 }
 
 // The cause of an error that has a number of the system's.
-fn cause_of_number(place: &Place<'_>, number: u32) -> Cause
-    ensures { cause_text result ≡ number_text place.now number }
+fn cause_of_number(resource: &Resource<'_>, number: u32) -> Cause
+    ensures { cause_text result ≡ number_text resource.now number }
 {
-    match words_of_number(place, number) {
+    match words_of_number(resource, number) {
         Some(words) => Cause::Words(words),
-        None => Cause::Number(refusal_of(place), number),
+        None => Cause::Number(refusal_of(resource), number),
     }
 }
 
 // The cause of an error, where one may be known.
-fn cause_of(place: &Place<'_>, error: Option<io::Error>) -> Cause
-    ensures { cause_text result ≡ reason place.now error }
+fn cause_of(resource: &Resource<'_>, error: Option<io::Error>) -> Cause
+    ensures { cause_text result ≡ reason resource.now error }
 {
     let Some(error) = error else {
-        return Cause::Words(refusal_of(place));
+        return Cause::Words(refusal_of(resource));
     };
     if let Some(words) = words_of_kind(error.kind()) {
         return Cause::Words(words);
     }
     match error.raw_os_error() {
-        Some(number) => cause_of_number(place, number.unsigned_abs()),
-        None => Cause::Words(refusal_of(place)),
+        Some(number) => cause_of_number(resource, number.unsigned_abs()),
+        None => Cause::Words(refusal_of(resource)),
     }
 }
 
 /// Tells in a line what failed, and why, where the error is known.
 pub fn tell_failure<E: Write>(
     errors: &mut E,
-    place: &Place<'_>,
+    resource: &Resource<'_>,
     error: Option<io::Error>,
 ) -> io::Result<()>
-    ensures { OnOk result (Appends (E.contents errors.old) (E.contents errors.new) (failure_line place.now error)) }
+    ensures { OnOk result (Appends (E.contents errors.old) (E.contents errors.new) (failure_line resource.now error)) }
 {
-    let name = Escaped(name_of(place));
-    let cause = cause_of(place, error);
+    let name = Escaped(name_of(resource));
+    let cause = cause_of(resource, error);
     writeln!(errors, "cellctl: {name}: {cause}")
 }

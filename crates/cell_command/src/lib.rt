@@ -11,7 +11,7 @@ mod order;
 
 pub use count::{Count, read_count};
 pub use escaped::Escaped;
-pub use failure::{Place, tell_failure};
+pub use failure::{Resource, tell_failure};
 pub use order::{
     Driving, Explaining, Exploring, Measuring, Order, Paths, Running, Showing, Sweeping, read_words,
 };

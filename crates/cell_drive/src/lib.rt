@@ -14,4 +14,4 @@ mod untruth;
 mod wish;
 
 pub use own::measure_texts;
-pub use texts::{Driving, drive_texts};
+pub use texts::{DriveOptions, drive_texts};

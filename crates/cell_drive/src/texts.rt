@@ -19,7 +19,7 @@ use std::sync::Wait;
 
 /// How a method drives the cell, and what is told besides.
 #[derive(Clone, Copy, Debug, PartialEq, Eq)]
-pub struct Driving {
+pub struct DriveOptions {
     /// Whether it sends commands to the bare machines, and books no entries.
     pub raw: bool,
     /// Whether the journal is written to the errors at the end.
@@ -118,7 +118,7 @@ pub fn drive_texts<R: AllocGlobal + Wait, I: Read + Drop, W: Write, E: Write>(
     settings: &[u8],
     faults: &[u8],
     operator: &[u8],
-    driving: Driving,
+    driving: DriveOptions,
     input: I,
     output: &mut W,
     errors: &mut E,

@@ -2,19 +2,19 @@
 use Rattle.std.specs.Prelude.{◌==◌, ℕ, List, [], ◌∷◌, ◌++◌, Option, Some, None, if◌then◌else◌, codes}
 use Rattle.std.specs.declared.io.Error.{Error}
 use Rattle.cell_command.specs.Failures.{failure_line}
-use Rattle.cell_command.specs.declared.failure.Place.{Place}
-use Rattle.cell_command.specs.declared.failure.Place.TheVariants as at
+use Rattle.cell_command.specs.declared.failure.Resource.{Resource}
+use Rattle.cell_command.specs.declared.failure.Resource.TheVariants as at
 use Rattle.cellctl.specs.declared.end.Failed.{Failed}
 use Rattle.cellctl.specs.declared.end.Faults.{Faults}
 
 -- a stream that failed by an error, or else what failed beside it
-abbrev pub or_failed : Place → Option Error → Option Failed → Option Failed
-or_failed stream (Some e) other = Some (record { place = stream; error = Some e })
+abbrev pub or_failed : Resource → Option Error → Option Failed → Option Failed
+or_failed stream (Some e) other = Some (record { resource = stream; error = Some e })
 or_failed stream None other = other
 
 -- where no stream has an error, one of standard output's writes took nothing
 abbrev pub unknown_failed : ℕ → Option Failed
-unknown_failed status = if status == 3 then Some (record { place = at.Output; error = None }) else None
+unknown_failed status = if status == 3 then Some (record { resource = at.Output; error = None }) else None
 
 -- the stream that failed
 abbrev pub stream_failed : Faults → ℕ → Option Failed
@@ -25,7 +25,7 @@ stream_failed faults status =
 -- the line of a file or a stream that failed
 abbrev pub failed_line : Option Failed → List ℕ
 failed_line None = []
-failed_line (Some failed) = failure_line failed.place failed.error
+failed_line (Some failed) = failure_line failed.resource failed.error
 
 -- a line, and below it that of what failed
 abbrev pub lines_below : List ℕ → Option Failed → List ℕ

@@ -3,7 +3,7 @@ ghost use Rattle.std.specs.Prelude.{◌≡◌, OnOk};
 ghost use Rattle.std.specs.Io.KnownBytes.{Appends};
 ghost use Rattle.cellctl.specs.Ends.{end_lines, failed_line, lines_below, or_failed, stream_failed, unknown_failed};
 
-use cell_command::{Place, tell_failure};
+use cell_command::{Resource, tell_failure};
 use cell_lines::status;
 use std::io;
 use std::io::Write;
@@ -19,28 +19,28 @@ pub(crate) struct Faults {
 /// What failed, and the error, if it is known.
 #[derive(Clone, Copy, Debug)]
 pub(crate) struct Failed<'a> {
-    pub(crate) place: Place<'a>,
+    pub(crate) resource: Resource<'a>,
     pub(crate) error: Option<io::Error>,
 }
 
 impl Failed<'_> {
     /// No thread could be started.
     pub(crate) const NO_THREAD: Failed<'static> = Failed {
-        place: Place::Threads,
+        resource: Resource::Threads,
         error: None,
     };
 }
 
 // A stream that failed by an error, or else what failed beside it.
 fn or_failed<'a>(
-    place: Place<'a>,
+    resource: Resource<'a>,
     error: Option<io::Error>,
     other: Option<Failed<'a>>,
 ) -> Option<Failed<'a>>
-    ensures { result ≡ or_failed place.entry error other.entry }
+    ensures { result ≡ or_failed resource.entry error other.entry }
 {
     match error {
-        Some(_) => Some(Failed { place, error }),
+        Some(_) => Some(Failed { resource, error }),
         None => other,
     }
 }
@@ -51,7 +51,7 @@ fn unknown_failed<'a>(status: u8) -> Option<Failed<'a>>
 {
     if status == status::DEVICE_FAULT {
         Some(Failed {
-            place: Place::Output,
+            resource: Resource::Output,
             error: None,
         })
     } else {
@@ -72,9 +72,9 @@ impl Faults {
     pub(crate) fn failed<'a>(&self, status: u8) -> Option<Failed<'a>>
         ensures { result ≡ stream_failed self.now status }
     {
-        let errors = or_failed(Place::Errors, self.errors, unknown_failed(status));
-        let output = or_failed(Place::Output, self.output, errors);
-        or_failed(Place::Input, self.input, output)
+        let errors = or_failed(Resource::Errors, self.errors, unknown_failed(status));
+        let output = or_failed(Resource::Output, self.output, errors);
+        or_failed(Resource::Input, self.input, output)
     }
 }
 
@@ -83,7 +83,7 @@ fn tell_failed<E: Write>(errors: &mut E, failed: Option<Failed<'_>>) -> io::Resu
     ensures { OnOk result (Appends (E.contents errors.old) (E.contents errors.new) (failed_line failed.entry)) }
 {
     match failed {
-        Some(failed) => tell_failure(errors, &failed.place, failed.error),
+        Some(failed) => tell_failure(errors, &failed.resource, failed.error),
         None => Ok(()),
     }
 }

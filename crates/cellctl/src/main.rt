@@ -14,7 +14,7 @@ ghost use Rattle.std.specs.Io.KnownBytes.{Keeps};
 ghost use Rattle.clap.specs.Words.{kind_of};
 ghost use Rattle.cellctl.specs.Carried.{IsTurnedAway, Obeys, ended, status_of_error};
 
-use cell_command::{Escaped, Place, read_words};
+use cell_command::{Escaped, Resource, read_words};
 use cell_explain::endings::write_ending;
 use cell_lines::status;
 use cell_orders::{Failure, Noted};
@@ -200,7 +200,7 @@ fn obey<R: AllocGlobal + Files + Input + Print + Threads + Wait + Sync, E: Print
             let status = status_of(&error);
             let failed = match file {
                 Some(path) => Some(Failed {
-                    place: Place::File(path),
+                    resource: Resource::File(path),
                     error: Some(error),
                 }),
                 None => faults.failed(status),

@@ -297,7 +297,7 @@ fn drive_files<'a, R: AllocGlobal + Files + Wait, I: Read + Drop, W: Write, E: W
         Ok(sources) => sources,
         Err(told) => return Ok(told),
     };
-    let told = cell_drive::Driving {
+    let told = cell_drive::DriveOptions {
         raw: driving.raw,
         journal: driving.running.journal,
         explain: driving.running.explain,

@@ -1,5 +1,5 @@
 //! What is told of numbers of entries, of words that are printed back, and of files and streams that fail.
-use cell_command::{Count, Escaped, Place, read_count, tell_failure};
+use cell_command::{Count, Escaped, Resource, read_count, tell_failure};
 use std::alloc::Global;
 use std::io;
 use std::io::ErrorKind;
@@ -60,20 +60,20 @@ fn prints_control_characters_as_escapes(rt: HostRuntime) -> Result<(), Fail> {
 }
 
 // The line that tells of a failure.
-fn line(alloc: Global, place: &Place<'_>, error: Option<io::Error>) -> io::Result<Vec<u8>> {
+fn line(alloc: Global, resource: &Resource<'_>, error: Option<io::Error>) -> io::Result<Vec<u8>> {
     let mut line: Vec<u8> = Vec::new(alloc);
-    tell_failure(&mut line, place, error)?;
+    tell_failure(&mut line, resource, error)?;
     Ok(line)
 }
 
 // A failure is told so.
 fn check<R: AllocGlobal + Abort>(
     rt: &R,
-    place: &Place<'_>,
+    resource: &Resource<'_>,
     error: Option<io::Error>,
     due: &str,
 ) -> io::Result<()> {
-    let told = line(rt.alloc(), place, error)?;
+    let told = line(rt.alloc(), resource, error)?;
     assert!(rt; told.as_slice() == due.as_bytes(), "{due}");
     Ok(())
 }
@@ -99,7 +99,7 @@ fn tells_errors_of_the_system(rt: HostRuntime) -> Result<(), Fail> {
     for &(number, due) in &NUMBERED {
         check(
             &rt,
-            &Place::File("a"),
+            &Resource::File("a"),
             Some(io::Error::from_raw_os_error(number)),
             due,
         )?;
@@ -110,37 +110,37 @@ fn tells_errors_of_the_system(rt: HostRuntime) -> Result<(), Fail> {
 #[test]
 fn tells_what_failed(rt: HostRuntime) -> Result<(), Fail> {
     let full = Some(io::Error::from(ErrorKind::StorageFull));
-    let named = Place::File("\u{1b}[31m");
+    let named = Resource::File("\u{1b}[31m");
     let cases = [
         (
-            Place::Output,
+            Resource::Output,
             full,
             "cellctl: standard output: no space left\n",
         ),
         (
-            Place::Errors,
+            Resource::Errors,
             full,
             "cellctl: standard error: no space left\n",
         ),
         (
-            Place::Threads,
+            Resource::Threads,
             None,
             "cellctl: run: no thread could be started\n",
         ),
         (
-            Place::Output,
+            Resource::Output,
             None,
             "cellctl: standard output: can't be written\n",
         ),
         (
-            Place::Input,
+            Resource::Input,
             None,
             "cellctl: standard input: can't be read\n",
         ),
         (named, full, "cellctl: \\u001B[31m: no space left\n"),
     ];
-    for (place, error, due) in &cases {
-        check(&rt, place, *error, due)?;
+    for (resource, error, due) in &cases {
+        check(&rt, resource, *error, due)?;
     }
     Ok(())
 }
@@ -151,23 +151,23 @@ fn tells_how_a_stream_is_shut(rt: HostRuntime) -> Result<(), Fail> {
     let other = Some(io::Error::other("of the program's own"));
     let cases = [
         (
-            Place::Output,
+            Resource::Output,
             shut,
             "cellctl: standard output: not open for writing\n",
         ),
         (
-            Place::Input,
+            Resource::Input,
             shut,
             "cellctl: standard input: not open for reading\n",
         ),
         (
-            Place::Input,
+            Resource::Input,
             other,
             "cellctl: standard input: can't be read\n",
         ),
     ];
-    for (place, error, due) in &cases {
-        check(&rt, place, *error, due)?;
+    for (resource, error, due) in &cases {
+        check(&rt, resource, *error, due)?;
     }
     Ok(())
 }
@@ -206,7 +206,7 @@ fn tells_each_kind_in_words(rt: HostRuntime) -> Result<(), Fail> {
         ),
     ];
     for &(kind, due) in &kinds {
-        check(&rt, &Place::Output, Some(io::Error::from(kind)), due)?;
+        check(&rt, &Resource::Output, Some(io::Error::from(kind)), due)?;
     }
     Ok(())
 }

@@ -1,6 +1,6 @@
 //! Runs by commands.
 use crate::sample::{COMMANDS, OPENING, begins, driven, has_line};
-use cell_drive::Driving;
+use cell_drive::DriveOptions;
 use std::process::Abort;
 use std::sync::Wait;
 use std::test::Fail;
@@ -23,7 +23,7 @@ all_off,table,,\non,table_lift,nowhere,\nadmitted,1,,\nmagnet_on,arm3,,\nquit,,,
 
 #[test]
 fn a_rule_that_is_broken_is_told(rt: HostRuntime) -> Result<(), Fail> {
-    let driving = Driving {
+    let driving = DriveOptions {
         explain: true,
         ..COMMANDS
     };

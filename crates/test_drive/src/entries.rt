@@ -1,6 +1,6 @@
 //! Runs by entries.
 use crate::sample::{ENTRIES, OPENING, begins, driven, has_line};
-use cell_drive::Driving;
+use cell_drive::DriveOptions;
 use std::process::Abort;
 use std::sync::Wait;
 use std::test::Fail;
@@ -42,7 +42,7 @@ fn patient<R: AllocGlobal>(rt: &R, journal: &[u8]) -> Result<Vec<u8>, Fail> {
 fn a_plate_is_carried_through_the_cell(rt: HostRuntime) -> Result<(), Fail> {
     let journal = one_plate_text(rt.alloc(), 2)?;
     let lines = patient(&rt, journal.as_slice())?;
-    let driving = Driving {
+    let driving = DriveOptions {
         journal: true,
         explain: true,
         ..ENTRIES
@@ -63,7 +63,7 @@ fn a_plate_is_carried_through_the_cell(rt: HostRuntime) -> Result<(), Fail> {
 
 #[test]
 fn what_is_booked_too_early_is_untrue(rt: HostRuntime) -> Result<(), Fail> {
-    let driving = Driving {
+    let driving = DriveOptions {
         explain: true,
         ..ENTRIES
     };

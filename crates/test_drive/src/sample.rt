@@ -1,12 +1,12 @@
 //! What a method has written.
-use cell_drive::{Driving, drive_texts};
+use cell_drive::{DriveOptions, drive_texts};
 use cell_measures::Durations;
 use std::process::Abort;
 use std::sync::Wait;
 use std::test::Fail;
 
 /// By entries, and nothing told besides.
-pub(crate) const ENTRIES: Driving = Driving {
+pub(crate) const ENTRIES: DriveOptions = DriveOptions {
     raw: false,
     journal: false,
     explain: false,
@@ -14,7 +14,7 @@ pub(crate) const ENTRIES: Driving = Driving {
 };
 
 /// By commands, and nothing told besides.
-pub(crate) const COMMANDS: Driving = Driving {
+pub(crate) const COMMANDS: DriveOptions = DriveOptions {
     raw: true,
     journal: false,
     explain: false,
@@ -45,7 +45,7 @@ pub(crate) struct Written {
 pub(crate) fn driven<R: AllocGlobal + Abort + Wait>(
     rt: &R,
     [settings, faults, operator]: [&str; 3],
-    driving: Driving,
+    driving: DriveOptions,
     lines: &[u8],
     status: u8,
 ) -> Written {
