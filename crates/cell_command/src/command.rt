@@ -1,9 +1,10 @@
 //! The command line that the program knows, and its help.
-ghost use Rattle.std.specs.Prelude.{◌≡◌, IfOk, codes, false};
+ghost use Rattle.std.specs.Prelude.{◌≡◌, IfOk, codes, true, false};
 ghost use Rattle.clap.specs.Words.{app_of, new_app, with_rule, with_subcommand};
 ghost use Rattle.clap.specs.declared.builder.command.Command.TheViews.{out-Command};
 ghost use Rattle.cell_command.specs.Shape.{accompanied, audit, cellctl, check, checking, drive, driving, explain};
-ghost use Rattle.cell_command.specs.Shape.{explore, exploring, file_rule, filed, flag_rule, flagged, journal_rule};
+ghost use Rattle.cell_command.specs.Shape.{explore, exploring, file_rule, filed, flag_rule, flagged, for_people};
+ghost use Rattle.cell_command.specs.Shape.{journal_rule};
 ghost use Rattle.cell_command.specs.Shape.{judging, measure, measuring, migrate, optional_rule, path_rule, pictured};
 ghost use Rattle.cell_command.specs.Shape.{reading, repeated_rule, run, scripted, several_rule, show, showing, sim};
 ghost use Rattle.cell_command.specs.Shape.{simulating, sweep, sweeping, times_rule, with_input};
@@ -518,18 +519,29 @@ fn all_commands<'a>(alloc: Global) -> Result<Command<'a>, AllocError>
     add(driving, run)
 }
 
+// A command with what is printed of it: its line, its version, and what stands behind its help.
+fn with_texts<'a>(command: Command<'a>) -> Command<'a>
+    ensures app { app_of result
+        ≡ record (app_of command.entry) { top = record ((app_of command.entry).top) { has_version = true } } }
+    ensures local { (out-Command result).has_globals ≡ (out-Command command.entry).has_globals }
+{
+    command.about(ABOUT).version(VERSION).after_help(AFTER)
+}
+
+// A command whose name alone asks for help, and which tells its version.
+fn made_for_people<'a>(command: Command<'a>) -> Command<'a>
+    ensures app { app_of result ≡ record (app_of command.entry) { top = for_people (app_of command.entry).top } }
+    ensures local { (out-Command result).has_globals ≡ (out-Command command.entry).has_globals }
+{
+    with_texts(command)
+        .subcommand_required(true)
+        .arg_required_else_help(true)
+}
+
 /// The command line of the program.
 pub(crate) fn command<'a>(alloc: Global) -> Result<Command<'a>, AllocError>
     ensures app { IfOk result (λ c. app_of c ≡ cellctl) }
     ensures local { IfOk result (λ c. (out-Command c).has_globals ≡ false) }
 {
-    let command = all_commands(alloc)?;
-    Ok(
-        command
-            .about(ABOUT)
-            .version(VERSION)
-            .after_help(AFTER)
-            .subcommand_required(true)
-            .arg_required_else_help(true),
-    )
+    Ok(made_for_people(all_commands(alloc)?))
 }
