@@ -77,7 +77,7 @@ fn count_in_lines(bytes: &[u8]) -> usize
 /// bytes but for line ends has a record that is no line, or 1,001 records, and the first of them begins among those
 /// bytes. The text is read to its end, or until it has more than 262,144 such bytes: 91,141 behind the last place at
 /// which that record may begin. It is no line as far as it was read either, since it has more than 171 bytes there, or
-/// has ended. So what is read decides as the whole text does. No clause says so, and `test_explain` looks at it.
+/// has ended. So what is read decides as the whole text does. No clause says so, and `test_reading` looks at it.
 pub fn script_text<R: Read + Drop>(alloc: Global, mut reader: R) -> io::Result<ScriptText>
     ensures first { IfOk result (λ script. IsFirstPart (R.remaining reader) script.bytes.items) }
     ensures whole { IfOk result (λ script. script.is_whole ≡ true → IsWhole (R.remaining reader) script.bytes.items) }

@@ -1,5 +1,4 @@
-//! The tests of `cell_sentences`, `cell_explain`, `cell_reading` and `cell_explore`, and of what is read of a
-//! journal's text.
+//! The tests of `cell_explain` and `cell_explore`.
 #![tactic(auto)]
 
 #[cfg(test)]
@@ -9,14 +8,8 @@ mod explore;
 #[cfg(test)]
 mod journals;
 #[cfg(test)]
-mod reading;
-#[cfg(test)]
-mod readings;
-#[cfg(test)]
 mod said;
 #[cfg(test)]
 mod scripts;
-#[cfg(test)]
-mod sentences;
 #[cfg(test)]
 mod settings;

@@ -1,5 +1,6 @@
-//! The tests of `cell_picture` and `cell_show`: the pictures of some states, whole, the charts and the page of a
-//! short journal, what is shown for journals' texts, and what readers and writers that fail leave of it.
+//! The tests of `cell_sentences`, `cell_picture` and `cell_show`: sentences, the pictures of some states, whole, the
+//! charts and the page of a short journal, what is shown for journals' texts, and what readers and writers that fail
+//! leave of it.
 #![tactic(auto)]
 
 #[cfg(test)]
@@ -8,6 +9,8 @@ mod charts;
 mod drawings;
 #[cfg(test)]
 mod pages;
+#[cfg(test)]
+mod sentences;
 #[cfg(test)]
 mod shows;
 #[cfg(test)]

@@ -12,6 +12,8 @@ mod lines;
 #[cfg(test)]
 mod migration;
 #[cfg(test)]
+mod readings;
+#[cfg(test)]
 mod rows;
 #[cfg(test)]
 mod settings;

@@ -1,5 +1,5 @@
 //! The texts of journals: what is read of each is judged and explained as the whole is.
-use crate::reading::texts::{ENDS, TAILS, text_with};
+use crate::texts::{ENDS, TAILS, text_with};
 use cell_audit::{AuditError, audit_text};
 use cell_explain::explain_journal;
 use cell_reading::journal_text;

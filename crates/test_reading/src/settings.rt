@@ -1,5 +1,5 @@
 //! The text of settings: as long as it may be, longer, without an end, and from readers that fail.
-use crate::reading::texts::text_with;
+use crate::texts::text_with;
 use cell_reading::settings_text;
 use std::io;
 use std::io::ErrorKind;

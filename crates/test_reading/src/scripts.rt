@@ -1,5 +1,5 @@
 //! The texts of scripts: what is read of each decides as the whole does.
-use crate::reading::texts::{ENDS, TAILS, text_with};
+use crate::texts::{ENDS, TAILS, text_with};
 use cell_explain::{explain_faults, explain_operator};
 use cell_reading::script_text;
 use cell_rows::{LineError, ScriptLine, read_script};

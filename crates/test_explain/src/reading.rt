@@ -1,5 +1,0 @@
-//! What is read of a text, and that this decides as the whole text does.
-mod journals;
-mod scripts;
-mod settings;
-mod texts;
