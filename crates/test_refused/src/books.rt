@@ -2,7 +2,6 @@
 ghost use Rattle.std.specs.Prelude.{◌≡◌, ◌<◌};
 ghost use Rattle.cell_ledger.specs.New.{AreBlank};
 
-use crate::same::check_same;
 use cell_journal::{Journal, JournalError};
 use cell_ledger::{Blanks, Kept, Run, Shares};
 use cell_types::{Machine, Place, PlateId, Station, Totals};
@@ -18,10 +17,11 @@ fn journal_with_limit(rt: HostRuntime) {
     call_begins(alloc);
     let answer = Journal::with_limit(alloc, 1000);
     call_ends(alloc, answer.is_err());
-    match answer {
-        Ok(journal) => check_same(&rt, &"entries", &journal.len(), &0),
-        Err(why) => check_same(&rt, &"why", &why, &JournalError::OutOfMemory),
-    }
+    let is_right = match answer {
+        Ok(journal) => journal.len() == 0,
+        Err(why) => why == JournalError::OutOfMemory,
+    };
+    assert!(rt; is_right);
 }
 
 #[test]
@@ -30,10 +30,11 @@ fn book_new(rt: HostRuntime) {
     call_begins(alloc);
     let answer = Book::new(alloc, 1000, 1000);
     call_ends(alloc, answer.is_err());
-    match answer {
-        Ok(book) => check_same(&rt, &"entries", &book.journal().len(), &0),
-        Err(why) => check_same(&rt, &"why", &why, &OpenError::OutOfMemory),
-    }
+    let is_right = match answer {
+        Ok(book) => book.journal().len() == 0,
+        Err(why) => why == OpenError::OutOfMemory,
+    };
+    assert!(rt; is_right);
 }
 
 #[test]
@@ -42,10 +43,11 @@ fn records_new(rt: HostRuntime) {
     call_begins(alloc);
     let answer = Records::new(alloc, 1000, 1000);
     call_ends(alloc, answer.is_err());
-    match answer {
-        Ok(records) => check_same(&rt, &"entries", &records.totals().entries, &0),
-        Err(why) => check_same(&rt, &"why", &why, &OpenError::OutOfMemory),
-    }
+    let is_right = match answer {
+        Ok(records) => records.totals().entries == 0,
+        Err(why) => why == OpenError::OutOfMemory,
+    };
+    assert!(rt; is_right);
 }
 
 // After the first seven entries of one plate, these leave it on a table that has failed.
@@ -79,22 +81,27 @@ const CLEARED: &str = "quarantined,1,table,";
 // Nothing was cleared: the book tells of its nine entries.
 fn check_as_it_was(rt: &impl Abort, book: &Book, first: PlateId) {
     let journal = book.journal();
-    check_same(rt, &"entries", &journal.len(), &9);
-    check_same(rt, &"entry 8", &journal.get(8), &entry_of(FAILED_TABLE[1]));
-    check_same(rt, &"totals", &book.totals(), &totals(9, 0));
-    check_same(rt, &"place", &book.place(first), &Place::At(Station::Table));
-    check_same(rt, &"table", &book.plate_at(Station::Table), &Some(first));
-    assert!(rt; book.failed(Machine::Table) && book.quarantine().is_empty());
+    assert!(rt;
+        journal.len() == 9
+            && journal.get(8) == entry_of(FAILED_TABLE[1])
+            && book.totals() == totals(9, 0)
+            && book.place(first) == Place::At(Station::Table)
+            && book.plate_at(Station::Table) == Some(first)
+            && book.failed(Machine::Table)
+            && book.quarantine().is_empty()
+    );
 }
 
 // The plate was cleared.
 fn check_cleared(rt: &impl Abort, book: &Book, first: PlateId) {
-    check_same(rt, &"entries", &book.journal().len(), &10);
-    check_same(rt, &"totals", &book.totals(), &totals(10, 1));
-    check_same(rt, &"place", &book.place(first), &Place::Quarantine);
-    assert!(rt; book.plate_at(Station::Table).is_none());
+    assert!(rt;
+        book.journal().len() == 10
+            && book.totals() == totals(10, 1)
+            && book.place(first) == Place::Quarantine
+            && book.plate_at(Station::Table).is_none()
+    );
     let station = book.quarantine().get(&first).copied();
-    check_same(rt, &"quarantine", &station, &Some(Station::Table));
+    assert!(rt; station == Some(Station::Table));
 }
 
 #[test]
@@ -107,7 +114,7 @@ fn book_apply(rt: HostRuntime) {
     let answer = book.apply(entry);
     call_ends(alloc, answer.is_err());
     if let Err(why) = answer {
-        check_same(&rt, &"why", &why, &Refusal::OutOfMemory);
+        assert!(rt; why == Refusal::OutOfMemory);
         check_as_it_was(&rt, &book, first);
         assert!(rt; book_all(&mut book, &[CLEARED]).is_ok(), "it is allowed");
     }
@@ -122,15 +129,15 @@ fn clear_with<R: Run>(rt: &impl Abort, alloc: Global, kept: &mut Kept<R>, shares
     let answer = kept.apply(shares, entry);
     call_ends(alloc, answer.is_err());
     if let Err(why) = answer {
-        check_same(rt, &"why", &why, &Refusal::OutOfMemory);
+        assert!(rt; why == Refusal::OutOfMemory);
         check_as_it_was(rt, kept.book(), first);
-        check_same(rt, &"counts", &shares.counts(), &totals(9, 0));
+        assert!(rt; shares.counts() == totals(9, 0));
         let entry = entry_of(CLEARED).expect(rt, "a record");
         let again = kept.apply(shares, entry);
-        check_same(rt, &"again", &again, &Ok(()));
+        assert!(rt; again == Ok(()));
     }
     check_cleared(rt, kept.book(), first);
-    check_same(rt, &"counts", &shares.counts(), &totals(10, 1));
+    assert!(rt; shares.counts() == totals(10, 1));
 }
 
 // The same of a book with blank ledgers.
@@ -157,35 +164,27 @@ fn records_to_clear(rt: &impl Abort, alloc: Global) -> Records {
     };
     for record in ONE_PLATE.iter().take(7).chain(FAILED_TABLE.iter()) {
         let answer = records.apply(entry_of(record).expect(rt, record));
-        check_same(rt, record, &answer, &Ok(()));
+        assert!(rt; answer == Ok(()), "{record}");
     }
     records
 }
 
 // Nothing was cleared: the records tell of their nine entries.
 fn check_records_as_they_were(rt: &impl Abort, records: &Records, first: PlateId) {
-    check_same(rt, &"totals", &records.totals(), &totals(9, 0));
-    check_same(
-        rt,
-        &"place",
-        &records.place(first),
-        &Place::At(Station::Table),
+    assert!(rt;
+        records.totals() == totals(9, 0)
+            && records.place(first) == Place::At(Station::Table)
+            && records.plate_at(Station::Table) == Some(first)
+            && records.failed(Machine::Table)
+            && records.quarantine().is_empty()
     );
-    check_same(
-        rt,
-        &"table",
-        &records.plate_at(Station::Table),
-        &Some(first),
-    );
-    assert!(rt; records.failed(Machine::Table) && records.quarantine().is_empty());
 }
 
 // The plate was cleared.
 fn check_records_cleared(rt: &impl Abort, records: &Records, first: PlateId) {
-    check_same(rt, &"totals", &records.totals(), &totals(10, 1));
-    check_same(rt, &"place", &records.place(first), &Place::Quarantine);
+    assert!(rt; records.totals() == totals(10, 1) && records.place(first) == Place::Quarantine);
     let station = records.quarantine().get(&first).copied();
-    check_same(rt, &"quarantine", &station, &Some(Station::Table));
+    assert!(rt; station == Some(Station::Table));
 }
 
 #[test]
@@ -198,11 +197,11 @@ fn records_apply(rt: HostRuntime) {
     let answer = records.apply(entry);
     call_ends(alloc, answer.is_err());
     if let Err(why) = answer {
-        check_same(&rt, &"why", &why, &Refusal::OutOfMemory);
+        assert!(rt; why == Refusal::OutOfMemory);
         check_records_as_they_were(&rt, &records, first);
         let entry = entry_of(CLEARED).expect(&rt, "a record");
         let again = records.apply(entry);
-        check_same(&rt, &"again", &again, &Ok(()));
+        assert!(rt; again == Ok(()));
     }
     check_records_cleared(&rt, &records, first);
 }

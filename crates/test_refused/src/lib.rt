@@ -10,6 +10,4 @@ mod books;
 #[cfg(test)]
 mod runs;
 #[cfg(test)]
-mod same;
-#[cfg(test)]
 mod turns;

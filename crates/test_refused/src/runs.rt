@@ -1,5 +1,4 @@
 //! Whole runs by their texts, in rounds on one thread and on threads.
-use crate::same::check_same;
 use cell_audit::{AuditError, audit};
 use cell_explain::endings::write_ending;
 use cell_journal::Journal;
@@ -82,8 +81,7 @@ fn check_lines<R: AllocGlobal + Abort + Threads + Wait + Sync>(
     if answer == Ok(4) {
         assert!(rt; lines.is_empty() || tells_memory(lines));
     } else {
-        check_same(rt, &"the answer", &answer, &Ok(0));
-        check_same(rt, &"the lines", &lines, &due);
+        assert!(rt; answer == Ok(0) && lines == due);
     }
     Ok(())
 }
@@ -104,14 +102,13 @@ fn run_texts_on_threads(rt: HostRuntime) -> Result<(), Fail> {
 #[test]
 fn run_texts_in_rounds_with_journal(rt: HostRuntime) -> Result<(), Fail> {
     let (due, status) = run(&rt, SHORT, false, true, false)?;
-    check_same(&rt, &"usually", &status, &Ok(0));
+    assert!(rt; status == Ok(0));
     let (written, answer) = run(&rt, SHORT, false, true, true)?;
     let (text, due) = (written.as_slice(), due.as_slice());
     if answer == Ok(4) {
         assert!(rt; due.starts_with(text));
     } else {
-        check_same(&rt, &"the answer", &answer, &Ok(0));
-        check_same(&rt, &"the journal", &text, &due);
+        assert!(rt; answer == Ok(0) && text == due);
     }
     Ok(())
 }
@@ -120,7 +117,7 @@ fn run_texts_in_rounds_with_journal(rt: HostRuntime) -> Result<(), Fail> {
 fn check_audited(rt: &impl Abort, audited: Result<(u8, Totals), AuditError>) {
     match audited {
         Ok((number, totals)) => {
-            check_same(rt, &"the profile", &number, &2);
+            assert!(rt; number == 2);
             let Totals {
                 admitted,
                 forged,
@@ -129,7 +126,7 @@ fn check_audited(rt: &impl Abort, audited: Result<(u8, Totals), AuditError>) {
                 ..
             } = totals;
             let counts = [admitted, forged, quarantined, delivered];
-            check_same(rt, &"the totals", &counts, &[1, 1, 0, 1]);
+            assert!(rt; counts == [1, 1, 0, 1]);
         }
         Err(why) => panic!(rt; "the journal is legal: {why:?}"),
     }
@@ -143,7 +140,7 @@ fn run_texts_on_threads_with_journal(rt: HostRuntime) -> Result<(), Fail> {
     if answer == Ok(4) {
         assert!(rt; matches!(audited, Ok(_) | Err(AuditError::Unreadable(_))));
     } else {
-        check_same(&rt, &"the answer", &answer, &Ok(0));
+        assert!(rt; answer == Ok(0));
         check_audited(&rt, audited);
     }
     Ok(())
@@ -211,16 +208,14 @@ fn check_kept(rt: &impl Abort, kept: &Option<KeptRun>, whole: &Journal) -> Optio
 fn run_texts_kept_in_rounds(rt: HostRuntime) -> Result<(), Fail> {
     let (due, status, whole) = keep(&rt, SHORT, false)?;
     let whole = whole.expect(&rt, "a run").journal;
-    check_same(&rt, &"usually", &status, &0);
+    assert!(rt; status == 0);
     let (written, status, journal) = keep(&rt, SHORT, true)?;
     let length = check_kept(&rt, &journal, &whole);
     let lines = written.as_slice();
     if status == 4 {
         assert!(rt; lines.is_empty() || tells_memory(lines));
     } else {
-        check_same(&rt, &"the status", &status, &0);
-        check_same(&rt, &"the lines", &lines, &due.as_slice());
-        check_same(&rt, &"the journal", &length, &Some(whole.len()));
+        assert!(rt; status == 0 && lines == due.as_slice() && length == Some(whole.len()));
     }
     Ok(())
 }
@@ -229,7 +224,7 @@ fn run_texts_kept_in_rounds(rt: HostRuntime) -> Result<(), Fail> {
 #[test]
 fn follow_texts_of_a_run(rt: HostRuntime) -> Result<(), Fail> {
     let (journal, status) = run(&rt, SHORT, false, true, false)?;
-    check_same(&rt, &"usually", &status, &Ok(0));
+    assert!(rt; status == Ok(0));
     let alloc = rt.alloc();
     let [settings, faults, operator] = SHORT;
     let [settings, faults, operator] = [
@@ -255,8 +250,7 @@ fn follow_texts_of_a_run(rt: HostRuntime) -> Result<(), Fail> {
         assert!(rt; lines.is_empty() || tells_memory(lines));
     } else {
         let due: &[u8] = b"followed\nadmitted 1\nforged 0\nquarantined 1\ndelivered 0\n";
-        check_same(&rt, &"the answer", &answer, &Ok(0));
-        check_same(&rt, &"the lines", &lines, &due);
+        assert!(rt; answer == Ok(0) && lines == due);
     }
     Ok(())
 }
@@ -304,16 +298,16 @@ fn write_ending_of_a_stalled_run(rt: HostRuntime) -> Result<(), Fail> {
     let alloc = rt.alloc();
     let (_, status, run) = keep(&rt, STALLED, false)?;
     let run = run.expect(&rt, "a run");
-    check_same(&rt, &"the status", &status, &1);
+    assert!(rt; status == 1);
     let (due, wanted) = ending(&rt, alloc, &run, false)?;
     assert!(rt; !wanted);
     let ends = due.iter().filter(|byte| **byte == b'\n').count();
-    check_same(&rt, &"how many lines", &ends, &4);
+    assert!(rt; ends == 4);
     let (written, wanted) = ending(&rt, alloc, &run, true)?;
     if wanted {
         assert!(rt; due.as_slice().starts_with(written.as_slice()));
     } else {
-        check_same(&rt, &"what is said", &written.as_slice(), &due.as_slice());
+        assert!(rt; written.as_slice() == due.as_slice());
     }
     Ok(())
 }

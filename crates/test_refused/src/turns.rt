@@ -5,7 +5,6 @@ ghost use Rattle.cell_turns.specs.Six.{at};
 ghost use Rattle.cell_turns.specs.Minds.{machine_of_watch};
 ghost use Rattle.cell_ledger.specs.New.{AreBlank};
 
-use crate::same::check_same;
 use cell_diagnosis::{Limits, Reading};
 use cell_ledger::{Blanks, Kept, Run, Shares};
 use cell_sim::{FaultScript, SimOperator, SimPort, World};
@@ -66,8 +65,7 @@ fn turn_at_plate<R: Run>(
 
 // The book and the shares count so many entries.
 fn check_counts<R: Run>(rt: &impl Abort, kept: &Kept<R>, shares: &Shares<R>, count: u32) {
-    check_same(rt, &"totals", &kept.book().totals(), &entries(count));
-    check_same(rt, &"counts", &shares.counts(), &entries(count));
+    assert!(rt; kept.book().totals() == entries(count) && shares.counts() == entries(count));
 }
 
 // The feed light is green, and a plate is shown for the second time: the turn admits it. Where its list is refused
@@ -83,26 +81,19 @@ fn admit_with<R: Run>(
     let mut watch = Watch::start(feed, kept.book());
     let mut list = Vec::new(alloc);
     let first = turn_at_plate(feed, kept, shares, &mut watch, &mut list, plan);
-    check_same(rt, &"first", &first, &Ok(None));
+    assert!(rt; first == Ok(None));
     let noted = watch;
     let mut list = Vec::new(alloc);
     call_begins(alloc);
     let mut answer = turn_at_plate(feed, kept, shares, &mut watch, &mut list, plan);
     call_ends(alloc, answer.is_err());
     if let Err(why) = answer {
-        check_same(rt, &"why", &why, &TurnError::OutOfMemory);
-        assert!(rt; list.is_empty() && watch == noted);
+        assert!(rt; why == TurnError::OutOfMemory && list.is_empty() && watch == noted);
         check_counts(rt, kept, shares, 1);
         answer = turn_at_plate(feed, kept, shares, &mut watch, &mut list, plan);
     }
     let red = Command::Lamp(Belt::Feed, Colour::Red);
-    check_same(rt, &"answer", &answer, &Ok(Some(red)));
-    check_same(
-        rt,
-        &"list",
-        &list.first().copied(),
-        &entry_of("admitted,1,,"),
-    );
+    assert!(rt; answer == Ok(Some(red)) && list.first().copied() == entry_of("admitted,1,,"));
     check_counts(rt, kept, shares, 2);
 }
 
@@ -147,13 +138,15 @@ const BOOKED: [&str; 5] = [
 fn check_steps<R: Run>(rt: &impl Abort, kept: &Kept<R>, shares: &Shares<R>, count: usize) {
     let journal = kept.book().journal();
     for (place, record) in (2..7u32).zip(BOOKED.iter()).take(count) {
-        check_same(rt, record, &journal.get(place), &entry_of(record));
+        assert!(rt; journal.get(place) == entry_of(record), "{record}");
     }
     let counts = shares.counts();
     let length = count.saturating_add(2);
-    check_same(rt, &"entries", &(journal.len() as usize), &length);
-    check_same(rt, &"counts", &counts, &kept.book().totals());
-    check_same(rt, &"cleared", &counts.quarantined, &u32::from(2 < count));
+    assert!(rt;
+        journal.len() as usize == length
+            && counts == kept.book().totals()
+            && counts.quarantined == u32::from(2 < count)
+    );
 }
 
 // A plan, and the simulated machines and hands by which it is carried out.

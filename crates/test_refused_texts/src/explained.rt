@@ -1,5 +1,4 @@
 //! Texts that are explained.
-use crate::same::check_same;
 use crate::texts::{PLAIN, PROFILE_1, clearing};
 use cell_audit::WriteFault;
 use cell_explain::{explain_faults, explain_journal, explain_operator, explain_settings};
@@ -59,13 +58,12 @@ fn check_explain<R: AllocGlobal + Abort>(
     first: usize,
 ) -> Result<(), Fail> {
     let (due, usual) = explain(rt.alloc(), kind, text, false)?;
-    check_same(rt, &"usually", &usual, &Ok(status));
+    assert!(rt; usual == Ok(status));
     let (written, answer) = explain(rt.alloc(), kind, text, true)?;
     if answer == Ok(4) {
         check_begun(rt, written.as_slice(), due.as_slice(), first);
     } else {
-        check_same(rt, &"the answer", &answer, &Ok(status));
-        check_same(rt, &"the text", &written.as_slice(), &due.as_slice());
+        assert!(rt; answer == Ok(status) && written.as_slice() == due.as_slice());
     }
     Ok(())
 }

@@ -8,8 +8,6 @@ mod explained;
 #[cfg(test)]
 mod read;
 #[cfg(test)]
-mod same;
-#[cfg(test)]
 mod shown;
 #[cfg(test)]
 mod texts;

@@ -1,5 +1,4 @@
 //! Texts of which no more is read than decides.
-use crate::same::check_same;
 use crate::texts::{PLAIN, PROFILE_1, clearing};
 use cell_audit::AuditError;
 use cell_reading::{JournalText, journal_text, script_text, settings_text};
@@ -30,9 +29,9 @@ fn check_journal<R: AllocGlobal + Abort>(rt: &R, last: &[u8]) -> Result<(), Fail
         }
         Ok(read) => {
             assert!(rt; read.is_whole && matches!(read.answer, Ok((1, _))));
-            check_same(rt, &"read", &read.bytes.as_slice(), &text.as_slice());
+            assert!(rt; read.bytes.as_slice() == text.as_slice());
         }
-        Err(why) => check_same(rt, &"why", &why.kind(), &ErrorKind::OutOfMemory),
+        Err(why) => assert!(rt; why.kind() == ErrorKind::OutOfMemory),
     }
     Ok(())
 }
@@ -54,13 +53,11 @@ fn script_text_of_a_line(rt: HostRuntime) {
     call_begins(alloc);
     let read = script_text(alloc, text);
     call_ends(alloc, read.is_err());
-    match read {
-        Ok(read) => {
-            assert!(rt; read.is_whole);
-            check_same(&rt, &"read", &read.bytes.as_slice(), &text);
-        }
-        Err(why) => check_same(&rt, &"why", &why.kind(), &ErrorKind::OutOfMemory),
-    }
+    let is_right = match read {
+        Ok(read) => read.is_whole && read.bytes.as_slice() == text,
+        Err(why) => why.kind() == ErrorKind::OutOfMemory,
+    };
+    assert!(rt; is_right);
 }
 
 #[test]
@@ -70,9 +67,10 @@ fn settings_text_of_a_line(rt: HostRuntime) {
     call_begins(alloc);
     let read = settings_text(alloc, text);
     call_ends(alloc, read.is_err());
-    match read {
-        Ok(Some(read)) => check_same(&rt, &"read", &read.as_slice(), &text),
-        Ok(None) => panic!(&rt; "the settings are short"),
-        Err(why) => check_same(&rt, &"why", &why.kind(), &ErrorKind::OutOfMemory),
-    }
+    let is_right = match read {
+        Ok(Some(read)) => read.as_slice() == text,
+        Ok(None) => false,
+        Err(why) => why.kind() == ErrorKind::OutOfMemory,
+    };
+    assert!(rt; is_right);
 }

@@ -1,5 +1,4 @@
 //! Journals that are read for more than their audit, and shown.
-use crate::same::check_same;
 use crate::texts::{PLAIN, PROFILE_1, QUOTED, clearing};
 use cell_audit::{AuditError, Audited};
 use cell_measures::Durations;
@@ -18,15 +17,18 @@ fn check_reading(rt: &impl Abort, reading: &Audited, first: &Book, wanted: bool)
     let journal = reading.book.journal();
     assert!(rt; journal.len() == 10 || wanted && journal.len() < 10);
     for place in 0..journal.len().min(7) {
-        check_same(rt, &place, &journal.get(place), &first.journal().get(place));
+        assert!(rt;
+            journal.get(place) == first.journal().get(place),
+            "entry {place}"
+        );
     }
-    match &reading.answer {
+    let is_right = match &reading.answer {
         Ok((number, totals)) => {
-            let told = [*number as u32, totals.entries, totals.quarantined];
-            check_same(rt, &"what was read", &told, &[1, 10, 1]);
+            [*number as u32, totals.entries, totals.quarantined] == [1, 10, 1]
         }
-        Err(why) => check_same(rt, &"why", why, &AuditError::OutOfMemory),
-    }
+        Err(why) => *why == AuditError::OutOfMemory,
+    };
+    assert!(rt; is_right);
 }
 
 #[test]
@@ -64,13 +66,12 @@ fn show(alloc: Global, form: Form, marked: bool) -> Result<(Vec<u8>, Result<u8, 
 // A journal is shown, or nothing is written, where memory was refused.
 fn check_show<R: AllocGlobal + Abort>(rt: &R, form: Form) -> Result<(), Fail> {
     let (due, status) = show(rt.alloc(), form, false)?;
-    check_same(rt, &"usually", &status, &Ok(0));
+    assert!(rt; status == Ok(0));
     let (written, answer) = show(rt.alloc(), form, true)?;
     if answer == Ok(4) {
         assert!(rt; written.is_empty());
     } else {
-        check_same(rt, &"the answer", &answer, &Ok(0));
-        check_same(rt, &"what was shown", &written.as_slice(), &due.as_slice());
+        assert!(rt; answer == Ok(0) && written.as_slice() == due.as_slice());
     }
     Ok(())
 }
@@ -126,13 +127,12 @@ fn beside(alloc: Global, marked: bool) -> Result<(Vec<u8>, Result<u8, ShowError>
 #[test]
 fn show_journal_beside_another(rt: HostRuntime) -> Result<(), Fail> {
     let (due, status) = beside(rt.alloc(), false)?;
-    check_same(&rt, &"usually", &status, &Ok(0));
+    assert!(rt; status == Ok(0));
     let (written, answer) = beside(rt.alloc(), true)?;
     if answer == Ok(4) {
         assert!(rt; written.is_empty());
     } else {
-        check_same(&rt, &"the answer", &answer, &Ok(0));
-        check_same(&rt, &"what was shown", &written.as_slice(), &due.as_slice());
+        assert!(rt; answer == Ok(0) && written.as_slice() == due.as_slice());
     }
     Ok(())
 }

@@ -1,5 +1,4 @@
 //! Texts that are read, judged and written.
-use crate::same::check_same;
 use cell_audit::{AuditError, MigrateError, WriteError};
 use cell_diagnosis::Limits;
 use cell_lines::WriteFault;
@@ -30,9 +29,9 @@ fn script_read(rt: HostRuntime) {
     match answer {
         Ok(script) => {
             let stop = Some(Action::Stop(Machine::Feed));
-            check_same(&rt, &"next", &script.next(&book), &stop);
+            assert!(rt; script.next(&book) == stop);
         }
-        Err(why) => check_same(&rt, &"why", &why, &ScriptError::OutOfMemory),
+        Err(why) => assert!(rt; why == ScriptError::OutOfMemory),
     }
 }
 
@@ -53,7 +52,7 @@ fn fault_script_read(rt: HostRuntime) {
             assert!(rt; feed.command(on).is_err());
             assert!(rt; feed.command(on).is_ok());
         }
-        Err(why) => check_same(&rt, &"why", &why, &FaultError::OutOfMemory),
+        Err(why) => assert!(rt; why == FaultError::OutOfMemory),
     }
 }
 
@@ -61,9 +60,9 @@ const SETTINGS: &[u8] = b"plates = 5\nturns = 7\n[watch.press_one]\nleave = 4\nl
 
 fn check_plan(rt: &impl Abort, plan: &Plan) {
     let told = [plan.plates, plan.turns, plan.journal_limit];
-    check_same(rt, &"plates, turns, journal", &told, &[5, 7, 100_000]);
+    assert!(rt; told == [5, 7, 100_000]);
     let limits = plan.limits[Axis::PressOne as usize];
-    check_same(rt, &"limits", &Some(limits), &Limits::new(4, 9));
+    assert!(rt; Some(limits) == Limits::new(4, 9));
 }
 
 #[test]
@@ -90,7 +89,7 @@ fn read_settings_out_of_range(rt: HostRuntime) {
     match &answer {
         Ok(_) => panic!(rt; "the limit is out of range"),
         Err(SettingsError::OutOfRange(path)) => {
-            check_same(&rt, &"path", &path.as_str(), &"watch.press_one.limit");
+            assert!(rt; path.as_str() == "watch.press_one.limit");
         }
         Err(why) => assert!(rt; matches!(why, SettingsError::OutOfMemory), "{why:?}"),
     }
@@ -112,8 +111,7 @@ fn check_written(
     if is_wanted(answer) {
         assert!(rt; due.starts_with(written));
     } else {
-        check_same(rt, &"the answer", &answer, &Ok(status));
-        check_same(rt, &"what was written", &written, &due);
+        assert!(rt; answer == Ok(status) && written == due);
     }
 }
 
@@ -150,13 +148,11 @@ fn write_journal(rt: HostRuntime) -> Result<(), Fail> {
     let answer = cell_audit::write_journal(alloc, book.journal(), &mut written);
     call_ends(alloc, answer.is_err());
     let (written, due) = (written.as_slice(), due.as_slice());
-    match answer {
-        Ok(()) => check_same(&rt, &"what was written", &written, &due),
-        Err(why) => {
-            check_same(&rt, &"why", &why, &WriteError::OutOfMemory);
-            assert!(rt; due.starts_with(written));
-        }
-    }
+    let is_right = match answer {
+        Ok(()) => written == due,
+        Err(why) => why == WriteError::OutOfMemory && due.starts_with(written),
+    };
+    assert!(rt; is_right);
     Ok(())
 }
 
@@ -195,10 +191,7 @@ fn check_audit<R: AllocGlobal + Abort>(rt: &R, last: &[u8]) -> Result<(), Fail> 
         delivered: 0,
         reinstated: 0,
     };
-    match answer {
-        Ok(told) => check_same(rt, &"the audit", &told, &(1, due)),
-        Err(why) => check_same(rt, &"why", &why, &AuditError::OutOfMemory),
-    }
+    assert!(rt; answer == Ok((1, due)) || answer == Err(AuditError::OutOfMemory));
     Ok(())
 }
 
@@ -253,12 +246,10 @@ fn check_migrate<R: AllocGlobal + Abort>(rt: &R, last: &[u8]) -> Result<(), Fail
     match answer {
         Ok(told) => {
             let counts = [told.entries, told.quarantined, told.reinstated];
-            check_same(rt, &"the totals", &counts, &[10, 1, 0]);
-            check_same(rt, &"what was written", &written, &due);
+            assert!(rt; counts == [10, 1, 0] && written == due);
         }
         Err(why) => {
-            check_same(rt, &"why", &why, &MigrateError::OutOfMemory);
-            assert!(rt; due.starts_with(written));
+            assert!(rt; why == MigrateError::OutOfMemory && due.starts_with(written));
         }
     }
     Ok(())
