@@ -2,9 +2,9 @@
 use Rattle.std.proofs.Common.{◌≡◌, ◌∙◌, ℕ, List, Option, Some, Result, Ok, Err, IfOk, OnErr, ap, arith, inl, inr, refl}
 use Rattle.std.proofs.Common.{subst, sym}
 use Rattle.std.specs.Prelude.{◌⊎◌}
-use Rattle.std.specs.Result.{result_map_both}
 use Rattle.std.specs.Io.KnownBytes.{Appends}
 use Rattle.cell_rows.specs.Rows.{rows_of}
+use Rattle.cell_rows.specs.Scripts.{Reading}
 use Rattle.cell_rows.specs.declared.script.LineError.TheVariants as line
 use Rattle.cell_types.specs.declared.words.Totals.{Totals}
 use Rattle.plate_book.specs.declared.refusal.Refusal.{Refusal}
@@ -13,12 +13,7 @@ use Rattle.cell_audit.specs.declared.error.AuditError.TheVariants as error
 use Rattle.cell_audit.specs.Meaning.{Due, IsFault}
 use Rattle.cell_lines.specs.Lines.{IsAnswer, TellsAudit, lines_of, status_of}
 use Rattle.cell_settings.specs.declared.error.SettingsError.TheVariants as settings
-use Rattle.cell_sim.specs.Script.{fault_error, next_fault}
-use Rattle.cell_sim.specs.declared.script.FaultError.TheVariants as fault
-use Rattle.operator_desk.specs.Lines.{line_of}
-use Rattle.operator_desk.specs.Script.{script_error}
-use Rattle.operator_desk.specs.declared.script.ScriptError.TheVariants as script
-use Rattle.cell_explain.specs.Explained.{EndsAsAudit, EndsAsCheck, EndsAsFaults, EndsAsScript}
+use Rattle.cell_explain.specs.Explained.{EndsAsAudit, EndsAsCheck, EndsAsLines}
 use Rattle.cell_explain.specs.Scripts.{SaysScript}
 use Rattle.cell_explain.specs.Settings.{SaysSettings}
 use Rattle.cell_explain.specs.Told.{SaysAudit, SaysJournal, SaysNothing, SaysOf, SaysRefusal, SaysRefused}
@@ -44,30 +39,11 @@ settings-end text status saying (answer, due, inl (second, says, is, ends)) = (a
 settings-end text status saying (answer, due, inr (ends, none)) =
     (Err settings.OutOfMemory, record { due = λ _. tt; bytes = λ _. tt }, ends)
 
--- the reading of lines has errors of its own, each of which is an error of the script under the same name
-pub faults-end : (text : List ℕ) (status : ℕ) (name saying : List ℕ) → SaysScript name next_fault text status saying
-    → EndsAsFaults text status
-faults-end text status name saying (Ok lines, gives, inl (says, ends)) =
-    (Ok lines, ap (result_map_both (λ f. f) fault_error) gives, ends)
-faults-end text status name saying (Err (line.Unreadable n), gives, inl (says, ends)) =
-    (Err (fault.Unreadable n), ap (result_map_both (λ f. f) fault_error) gives, ends)
-faults-end text status name saying (Err line.TooManyLines, gives, inl (says, ends)) =
-    (Err fault.TooManyLines, ap (result_map_both (λ f. f) fault_error) gives, ends)
-faults-end text status name saying (Err line.OutOfMemory, gives, inl (says, ends)) = (Err fault.OutOfMemory, tt, ends)
-faults-end text status name saying (answer, gives, inr (ends, none)) = (Err fault.OutOfMemory, tt, ends)
-
--- the same of the operator's script
-pub operator-end : (text : List ℕ) (status : ℕ) (name saying : List ℕ) → SaysScript name line_of text status saying
-    → EndsAsScript text status
-operator-end text status name saying (Ok lines, gives, inl (says, ends)) =
-    (Ok lines, ap (result_map_both (λ f. f) script_error) gives, ends)
-operator-end text status name saying (Err (line.Unreadable n), gives, inl (says, ends)) =
-    (Err (script.Unreadable n), ap (result_map_both (λ f. f) script_error) gives, ends)
-operator-end text status name saying (Err line.TooManyLines, gives, inl (says, ends)) =
-    (Err script.TooManyLines, ap (result_map_both (λ f. f) script_error) gives, ends)
-operator-end text status name saying (Err line.OutOfMemory, gives, inl (says, ends)) =
-    (Err script.OutOfMemory, tt, ends)
-operator-end text status name saying (answer, gives, inr (ends, none)) = (Err script.OutOfMemory, tt, ends)
+-- the same of a script
+pub script-end : {L : Type 0} (read : Reading L) (text : List ℕ) (status : ℕ) (name saying : List ℕ)
+    → SaysScript name read text status saying → EndsAsLines read text status
+script-end read text status name saying (answer, gives, inl (says, ends)) = (answer, gives, ends)
+script-end read text status name saying (answer, gives, inr (ends, none)) = (Err line.OutOfMemory, tt, ends)
 
 pub journal-end : (text : List ℕ) (status : ℕ) (saying : List ℕ) → SaysJournal text status saying
     → EndsAsAudit text status

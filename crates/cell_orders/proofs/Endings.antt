@@ -4,8 +4,7 @@ use Rattle.std.specs.Prelude.{◌⊎◌, IfOk, IfSome}
 use Rattle.cell_audit.specs.declared.error.AuditError.TheVariants as audit
 use Rattle.cell_audit.specs.declared.watched.WriteFault.{WriteFault}
 use Rattle.cell_explain.specs.Explained.{EndsAsAudit, EndsAsFaults, EndsAsScript}
-use Rattle.cell_sim.specs.declared.script.FaultError.TheVariants as fault
-use Rattle.operator_desk.specs.declared.script.ScriptError.TheVariants as script
+use Rattle.cell_rows.specs.declared.script.LineError.TheVariants as line
 
 -- an explanation of a record that was cut ends as the one that was made, or for want of memory
 pub cut-ends : (r explained : Result ℕ WriteFault) (P : ℕ → Type 0)
@@ -32,10 +31,10 @@ pub audit-wants : (text : List ℕ) → EndsAsAudit text 4
 audit-wants text = (Err audit.OutOfMemory, (inl (inr refl), λ due is. inr (inr refl)), refl)
 
 pub faults-want : (text : List ℕ) → EndsAsFaults text 4
-faults-want text = (Err fault.OutOfMemory, tt, refl)
+faults-want text = (Err line.OutOfMemory, tt, refl)
 
 pub operator-wants : (text : List ℕ) → EndsAsScript text 4
-operator-wants text = (Err script.OutOfMemory, tt, refl)
+operator-wants text = (Err line.OutOfMemory, tt, refl)
 
 pub known-wants : (known : Option (List ℕ)) → IfSome known (λ text. EndsAsAudit text 4)
 known-wants None = tt

@@ -1,64 +1,40 @@
 //! What is printed of a text that is refused.
 ghost use Rattle.std.specs.Prelude.{◌≡◌, IfOk, IsErr, true};
 ghost use Rattle.cell_audit.specs.Watched.{IsSameWriter, WritesPart, bytes_held, has_refused};
-ghost use Rattle.cell_runs.specs.Inputs.{WritesError, fault_line, fault_status, input_line, input_status, script_line};
-ghost use Rattle.cell_runs.specs.Inputs.{script_status};
+ghost use Rattle.cell_runs.specs.Inputs.{WritesError, input_line, input_status, script_line, script_status};
 
 use crate::inputs::InputError;
 use cell_audit::{WatchedWriter, WriteFault};
 use cell_lines::{status, write_number};
+use cell_rows::LineError;
 use cell_settings::write_checked;
-use cell_sim::FaultError;
-use operator_desk::ScriptError;
 use std::io::Write;
 
-// Writes the line of a refused script of faults, and gives the status.
-fn write_fault_error<W: Write>(
-    writer: &mut WatchedWriter<'_, W>,
-    error: FaultError,
-) -> Result<u8, WriteFault>
-    ensures writer { IsSameWriter writer.old writer.new }
-    ensures whole { IfOk result (WritesError (bytes_held W.contents writer.old) (bytes_held W.contents writer.new)
-        (fault_line error) (fault_status error)) }
-    ensures part { IsErr result → WritesPart (bytes_held W.contents writer.old) (bytes_held W.contents writer.new)
-        (fault_line error) }
-    ensures fault { IsErr result → has_refused writer.new ≡ true }
-{
-    match error {
-        FaultError::Unreadable(place) => {
-            write_number(writer, "faults unreadable", place)?;
-            Ok(status::REFUSED)
-        }
-        FaultError::TooManyLines => {
-            writer.write_bytes(b"faults too long\n")?;
-            Ok(status::REFUSED)
-        }
-        FaultError::OutOfMemory => Ok(status::OUT_OF_MEMORY),
-    }
-}
-
-// Writes the line of a refused operator's script, and gives the status.
+// Writes the line of a refused script, by its words for a record that is no line and for too many, and gives the
+// status.
 fn write_script_error<W: Write>(
     writer: &mut WatchedWriter<'_, W>,
-    error: ScriptError,
+    unreadable: &str,
+    too_long: &str,
+    error: LineError,
 ) -> Result<u8, WriteFault>
     ensures writer { IsSameWriter writer.old writer.new }
     ensures whole { IfOk result (WritesError (bytes_held W.contents writer.old) (bytes_held W.contents writer.new)
-        (script_line error) (script_status error)) }
+        (script_line unreadable.now too_long.now error) (script_status error)) }
     ensures part { IsErr result → WritesPart (bytes_held W.contents writer.old) (bytes_held W.contents writer.new)
-        (script_line error) }
+        (script_line unreadable.now too_long.now error) }
     ensures fault { IsErr result → has_refused writer.new ≡ true }
 {
     match error {
-        ScriptError::Unreadable(place) => {
-            write_number(writer, "operator unreadable", place)?;
+        LineError::Unreadable(place) => {
+            write_number(writer, unreadable, place)?;
             Ok(status::REFUSED)
         }
-        ScriptError::TooManyLines => {
-            writer.write_bytes(b"operator too long\n")?;
+        LineError::TooManyLines => {
+            writer.write_bytes(too_long.as_bytes())?;
             Ok(status::REFUSED)
         }
-        ScriptError::OutOfMemory => Ok(status::OUT_OF_MEMORY),
+        LineError::OutOfMemory => Ok(status::OUT_OF_MEMORY),
     }
 }
 
@@ -76,7 +52,11 @@ pub fn refuse_input<W: Write>(
 {
     match error {
         InputError::Settings(error) => write_checked(writer, &Err(error)),
-        InputError::Faults(error) => write_fault_error(writer, error),
-        InputError::Operator(error) => write_script_error(writer, error),
+        InputError::Faults(error) => {
+            write_script_error(writer, "faults unreadable", "faults too long\n", error)
+        }
+        InputError::Operator(error) => {
+            write_script_error(writer, "operator unreadable", "operator too long\n", error)
+        }
     }
 }

@@ -1,4 +1,3 @@
 pub mod Simulated
 pub mod Faults
-pub mod Meaning
 pub mod Script

@@ -12,8 +12,10 @@ mod switches;
 mod watch;
 mod world;
 
+/// Why a script of faults can't be read: its error is that of any script of lines.
+pub use cell_rows::LineError as FaultError;
 pub use fault::{Fault, PlannedFault};
 pub use port::{SimOperator, SimPort, sim_ports};
-pub use script::{FaultError, FaultScript};
+pub use script::FaultScript;
 pub use watch::{Occasion, SAFETY_RULES, SafetyRule};
 pub use world::World;

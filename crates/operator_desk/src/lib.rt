@@ -7,6 +7,8 @@ mod line;
 mod read;
 mod script;
 
+/// Why a script can't be read: its error is that of any script of lines.
 pub use action::{Action, entry_of, holds};
+pub use cell_rows::LineError as ScriptError;
 pub use line::{Line, Task, Trigger};
-pub use script::{Script, ScriptError};
+pub use script::Script;

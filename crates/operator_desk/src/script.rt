@@ -1,8 +1,8 @@
 //! A script: the lines that aren't done yet.
 ghost use Rattle.std.specs.Prelude.{◌≡◌};
 ghost use Rattle.cell_rows.specs.Rows.{rows_of};
-ghost use Rattle.operator_desk.specs.Script.{Gives, lines_of};
-ghost use Rattle.operator_desk.specs.Meaning.{Means};
+ghost use Rattle.cell_rows.specs.Scripts.{Gives, Means, lines_of};
+ghost use Rattle.operator_desk.specs.Lines.{line_of};
 ghost use Rattle.operator_desk.specs.Next.{left_after, next_of};
 
 use crate::action::{Action, action_now};
@@ -11,31 +11,6 @@ use cell_rows::{LineError, read_script};
 use plate_book::Book;
 use std::alloc::Global;
 use std::marker::Model;
-
-/// Why a script can't be read.
-#[derive(Clone, Copy, Debug, PartialEq, Eq)]
-pub enum ScriptError {
-    /// This record, counted from 1, is no line.
-    Unreadable(u32),
-    /// There is a record 1,001.
-    TooManyLines,
-    /// Memory was refused.
-    OutOfMemory,
-}
-
-impl From<LineError> for ScriptError {
-    ghost use Rattle.operator_desk.specs.Script.{script_error};
-
-    ghost from_gives = { λ lines script. script ≡ script_error lines };
-
-    fn from(error: LineError) -> ScriptError {
-        match error {
-            LineError::Unreadable(place) => ScriptError::Unreadable(place),
-            LineError::TooManyLines => ScriptError::TooManyLines,
-            LineError::OutOfMemory => ScriptError::OutOfMemory,
-        }
-    }
-}
 
 /// A script's lines, which are done in their order: those that aren't done yet.
 #[derive(Debug, Drop)]
@@ -59,9 +34,9 @@ impl Script {
     ///
     /// The first record that is no line is `Unreadable`, counted from 1; a record 1,001 is `TooManyLines`, whatever it
     /// holds; `OutOfMemory` comes only where memory was refused.
-    pub fn read(alloc: Global, text: &[u8]) -> Result<Script, ScriptError>
-        ensures exact { Gives result (lines_of (rows_of text.now)) }
-        ensures means { Means (rows_of text.now) result }
+    pub fn read(alloc: Global, text: &[u8]) -> Result<Script, LineError>
+        ensures exact { Gives result (lines_of line_of (rows_of text.now)) }
+        ensures means { Means line_of (rows_of text.now) result }
     {
         let lines = read_script(alloc, text)?;
         Ok(Script { lines, position: 0 })
