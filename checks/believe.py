@@ -2,7 +2,7 @@
 """Tells what one has to believe of a public call: each definition of specs/ that its clauses reach.
 Usage: checks/believe.sh CRATE::CALL | CRATE
 
-CALL is a call or a type, as in cell_audit::audit, plate_book::laws::legal_is_safe or cell_workers::Hall. Of a whole crate it
+CALL is a call or a type, as in cell_audit::audit, cell_rules::laws::legal_is_safe or cell_workers::Hall. Of a whole crate it
 lists those of its definitions that callers of it, or of the crates above, reach, and by name the others.
 
 The clauses' words lead to definitions, and these to more. The types of its signature count too: the value as which contracts

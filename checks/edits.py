@@ -11,7 +11,8 @@ It first proves what isn't proved. Then `rt must-fail` tries the edits of severa
 its own, in which they stand in must-fail/, and where there are fewer crates than processors several edits of each. It says of
 each whether it was refused, and by what. edits/TRIED has a line for each edit that was refused: a digest over the edit, the
 file that it changes, the crate's specs and proofs, and what its other files promise. Comments, hints to inline, where a line
-ends and in which order names are imported count for nothing in it, since they change no meaning."""
+ends, in which order names are imported, and where another crate has what is imported from it count for nothing in it, since they
+change no meaning."""
 
 import functools
 import hashlib
@@ -49,9 +50,11 @@ def folded(text):
 
 @functools.cache
 def plain(text):
-    """The text of a source file without its imports, its comments and its hints to inline."""
-    text = re.sub(r"^(?:ghost )?use [^;]*;\n", "", text, flags=re.MULTILINE)
+    """The text of a source file without its imports, its comments, its hints to inline, and where what its tactics name of other
+    crates stands there."""
+    text = re.sub(r"^ *(?:ghost )?use [^;]*;\n", "", text, flags=re.MULTILINE)
     text = re.sub(r"^ *//.*\n", "", text, flags=re.MULTILINE)
+    text = re.sub(r"\b(?!crate\b)\w+::(?:specs|proofs)::(?:\w+::)*", "", text)
     return folded(re.sub(r"^ *#\[(?:cold|inline(?:\((?:always|never)\))?)\]\n", "", text, flags=re.MULTILINE))
 
 
@@ -73,10 +76,14 @@ def promises(text):
 
 
 @functools.cache
-def statements(text):
-    """The text of a file of specs or proofs without its comments, and with its imports as one sorted list of names."""
+def statements(text, crate):
+    """The text of a file of specs or proofs without its comments, and with its imports as one sorted list of names; of those from
+    another crate without where they stand there, since what other crates say doesn't count either."""
     imports = re.compile(r"^((?:pub )?use )([^{\n]*)(?:\{([^}]*)\})?.*\n", re.MULTILINE)
-    names = [f"{it[1]}{it[2]}{name}" for it in imports.finditer(text) for name in re.split(r",\s*", (it[3] or "").strip().rstrip(","))]
+    names = []
+    for it in imports.finditer(text):
+        place = it[2] if it[2].startswith(f"Rattle.{crate}.") else re.sub(r"^[\w.]*\.", "", it[2])
+        names += [f"{it[1]}{place}{name}" for name in re.split(r",\s*", (it[3] or "").strip().rstrip(","))]
     text = folded(re.sub(r"^ *--.*\n", "", imports.sub("", text), flags=re.MULTILINE))
     # (the layout puts a bar before the first case of a list of cases that stands in several lines)
     return "\n".join(sorted(map(folded, names))) + re.sub(r"\[\| ?", "[", text)
@@ -101,7 +108,7 @@ def digest_of(edit):
     for file in sorted(f"{at}/{it}" for at, _, names in walks for it in names):
         text = read(file)
         if not file.startswith(f"{crate}/src/"):
-            text = statements(text)
+            text = statements(text, os.path.basename(crate))
         else:
             text = plain(text) if file == changed else promises(text)
         parts.append(f"{os.path.relpath(file, crate)}\n{text}")

@@ -16,7 +16,7 @@ import contracts
 PAGE = f"{contracts.TREE}/docs/PROVED.md"
 MARK = "<!-- The rest is made of the sources by checks/proved.py. -->\n"
 TEN = [
-    "cell_workers::Hall", "cell_ledger::Kept", "plate_book::laws::legal_is_safe", "cell_workers::run_cell",
+    "cell_workers::Hall", "cell_ledger::Kept", "cell_rules::laws::legal_is_safe", "cell_workers::run_cell",
     "cell_audit::audit", "plate_book::Book::apply", "cell_turns::turn", "cell_method::drive", "cell_explore::explore_lines",
     "cellctl::main_over",
 ]

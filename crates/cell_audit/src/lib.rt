@@ -5,16 +5,18 @@ mod booking;
 mod error;
 mod judge;
 pub mod laws;
+mod lines;
 mod migration;
 mod profile;
 mod read;
-mod watched;
 mod write;
 
 pub use error::{AuditError, MigrateError};
 pub use judge::{audit, audit_rows, audit_text};
+pub use lines::{
+    audit_lines, audit_lines_watched, audit_rows_watched, migrate_lines, migrate_rows_watched,
+};
 pub use migration::{migrate, migrate_watched};
 pub use profile::Profile;
 pub use read::{Audited, read_journal, read_rows};
-pub use watched::{WatchedWriter, WriteFault};
 pub use write::{WriteError, write_journal, write_journal_watched};

@@ -5,11 +5,11 @@ use Rattle.std.specs.Io.KnownBytes.{Appends}
 use Rattle.std.proofs.KnownBytes.{Appends-trans}
 use Rattle.std.proofs.lemmas.Result.{IfOk-at_ok}
 use Rattle.cell_types.specs.declared.words.Entry.{Entry}
-use Rattle.plate_book.specs.declared.limits.BookLimits.{BookLimits}
-use Rattle.plate_book.specs.Rules.Legal.{legal}
-use Rattle.cell_turns.specs.declared.plan.Plan.{Plan}
+use Rattle.cell_rules.specs.declared.limits.BookLimits.{BookLimits}
+use Rattle.cell_rules.specs.Legal.{legal}
+use Rattle.cell_ports.specs.declared.plan.Plan.{Plan}
 use Rattle.cell_turns.specs.declared.six.Six.{Six}
-use Rattle.cell_turns.specs.Logs.{Log}
+use Rattle.cell_ports.specs.Logs.{Log}
 use Rattle.operator_desk.specs.declared.line.Line.{Line}
 use Rattle.cell_method.specs.Lines.{Row}
 use Rattle.cell_method.specs.Rounds.{Driven, Leads, Stand}

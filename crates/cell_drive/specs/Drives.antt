@@ -3,9 +3,9 @@ use Rattle.std.specs.Prelude.{◌≡◌, ◌<◌, ◌++◌, ℕ, Bool, true, fal
 use Rattle.std.specs.Prelude.{decimal, option_map, ⊤}
 use Rattle.std.specs.Io.KnownBytes.{Appends}
 use Rattle.cell_rows.specs.Lines.{line}
-use Rattle.plate_book.specs.Rules.Legal.{legal}
-use Rattle.cell_turns.specs.declared.plan.Plan.{Plan}
-use Rattle.cell_turns.specs.Logs.{no_log}
+use Rattle.cell_rules.specs.Legal.{legal}
+use Rattle.cell_ports.specs.declared.plan.Plan.{Plan}
+use Rattle.cell_ports.specs.Logs.{no_log}
 use Rattle.cell_turns.specs.Six.{each}
 use Rattle.operator_desk.specs.declared.line.Line.{Line}
 use Rattle.cell_method.specs.Lines.{Row, lines_of}

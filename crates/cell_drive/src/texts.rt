@@ -5,14 +5,13 @@ ghost use Rattle.cell_drive.specs.Drives.{DrivesTexts, drive_line};
 
 use crate::by_commands::{drive_commands, raw_script};
 use crate::by_entries::drive_entries;
-use cell_audit::{WatchedWriter, WriteFault};
-use cell_lines::status;
 use cell_measures::Durations;
 use cell_method::{DriveEnd, DriveError, LineReader};
+use cell_output::{WatchedWriter, WriteFault, status};
+use cell_ports::Plan;
 use cell_rows::{TellsFault, Watched};
 use cell_runs::{InputError, Inputs, read_inputs, refuse_input};
 use cell_sim::World;
-use cell_turns::Plan;
 use std::io;
 use std::io::{BufReader, Read, Write};
 use std::sync::Wait;

@@ -3,8 +3,8 @@ use Rattle.std.proofs.Common.{◌≡◌, ℕ, ◌+◌, false, List, [], ◌∷�
 use Rattle.std.specs.Prelude.{slice_get}
 use Rattle.std.specs.Result.{is_err}
 use Rattle.cell_types.specs.declared.words.Entry.{Entry}
-use Rattle.plate_book.specs.declared.limits.BookLimits.{BookLimits}
-use Rattle.plate_book.specs.Rules.History.{History}
+use Rattle.cell_rules.specs.declared.limits.BookLimits.{BookLimits}
+use Rattle.cell_rules.specs.History.{History}
 use Rattle.cell_explain.proofs.Passed.{take-at}
 
 -- what holds of a success holds where there was no error

@@ -7,11 +7,11 @@ use Rattle.cell_rows.specs.Rows.{rows_of}
 use Rattle.cell_rows.specs.Scripts.{Reading}
 use Rattle.cell_rows.specs.declared.script.LineError.TheVariants as line
 use Rattle.cell_types.specs.declared.words.Totals.{Totals}
-use Rattle.plate_book.specs.declared.refusal.Refusal.{Refusal}
+use Rattle.cell_rules.specs.declared.refusal.Refusal.{Refusal}
 use Rattle.cell_audit.specs.declared.error.AuditError.{AuditError}
 use Rattle.cell_audit.specs.declared.error.AuditError.TheVariants as error
 use Rattle.cell_audit.specs.Meaning.{Due, IsFault}
-use Rattle.cell_lines.specs.Lines.{IsAnswer, TellsAudit, lines_of, status_of}
+use Rattle.cell_audit.specs.Lines.{IsAnswer, TellsAudit, lines_of, status_of}
 use Rattle.cell_settings.specs.declared.error.SettingsError.TheVariants as settings
 use Rattle.cell_explain.specs.Explained.{EndsAsAudit, EndsAsCheck, EndsAsLines}
 use Rattle.cell_explain.specs.Scripts.{SaysScript}

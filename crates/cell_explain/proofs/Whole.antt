@@ -2,11 +2,11 @@
 use Rattle.std.proofs.Common.{◌≡◌, ℕ, true, List, ◌++◌, Option, Result, Ok, Err, OnOk, subst}
 use Rattle.std.specs.Io.KnownBytes.{Appends}
 use Rattle.cell_types.specs.declared.words.Entry.{Entry}
-use Rattle.plate_book.specs.Rules.History.{History}
-use Rattle.plate_book.specs.Rules.Legal.{legal}
+use Rattle.cell_rules.specs.History.{History}
+use Rattle.cell_rules.specs.Legal.{legal}
 use Rattle.operator_desk.specs.declared.line.Line.{Line}
 use Rattle.cell_sim.specs.declared.fault.PlannedFault.{PlannedFault}
-use Rattle.cell_turns.specs.declared.plan.Plan.{Plan}
+use Rattle.cell_ports.specs.declared.plan.Plan.{Plan}
 use Rattle.cell_workers.specs.declared.ends.End.{End}
 use Rattle.cell_explain.specs.Endings.{greatest, limits_of, run_of}
 use Rattle.cell_explain.specs.Failures.{failures_of}

@@ -4,13 +4,13 @@ use Rattle.std.specs.Prelude.{◌&&◌, nat_le, is_none, if◌then◌else◌}
 use Rattle.std.proofs.lemmas.Bool.Decides.{nat_tests}
 use Rattle.cell_types.specs.declared.words.Entry.{Entry}
 use Rattle.cell_types.specs.declared.words.Entry.TheVariants.{Admitted, Declared}
-use Rattle.cell_views.specs.Situations.{Situation, situation_of}
-use Rattle.plate_book.specs.declared.limits.BookLimits.{BookLimits}
-use Rattle.plate_book.specs.declared.refusal.Refusal.{Refusal}
-use Rattle.plate_book.specs.declared.refusal.Refusal.TheVariants.{JournalFull, PlateLimit}
-use Rattle.plate_book.specs.Rules.First.{first, first_true}
-use Rattle.plate_book.specs.Rules.Legal.{legal, legal_from}
-use Rattle.cell_turns.specs.declared.plan.Plan.{Plan}
+use Rattle.cell_rules.specs.Situations.{Situation, situation_of}
+use Rattle.cell_rules.specs.declared.limits.BookLimits.{BookLimits}
+use Rattle.cell_rules.specs.declared.refusal.Refusal.{Refusal}
+use Rattle.cell_rules.specs.declared.refusal.Refusal.TheVariants.{JournalFull, PlateLimit}
+use Rattle.cell_rules.specs.First.{first, first_true}
+use Rattle.cell_rules.specs.Legal.{legal, legal_from}
+use Rattle.cell_ports.specs.declared.plan.Plan.{Plan}
 use Rattle.cell_explain.specs.Endings.{greatest, limits_of}
 
 -- a limit that isn't reached isn't reached where it is greater

@@ -1,7 +1,7 @@
 -- What is told of the plates that weren't admitted, and of those that were laid back
 use Rattle.std.specs.Prelude.{ℕ, ◌-◌, List, [], ◌++◌, codes, decimal, nat_lt, if◌then◌else◌}
 use Rattle.cell_types.specs.declared.words.Entry.{Entry}
-use Rattle.cell_views.specs.Views.{count_of}
+use Rattle.cell_rules.specs.Views.{count_of}
 use Rattle.cell_explain.specs.Words.{plates, were}
 
 -- the line of so many plates that weren't admitted

@@ -6,9 +6,9 @@ use Rattle.cell_rows.specs.Rows.{rows_of}
 use Rattle.cell_rows.specs.Scripts.{Reading, lines_of}
 use Rattle.cell_rows.specs.declared.script.LineError.{LineError}
 use Rattle.cell_sim.specs.Script.{next_fault}
-use Rattle.plate_book.specs.declared.limits.BookLimits.{BookLimits}
+use Rattle.cell_rules.specs.declared.limits.BookLimits.{BookLimits}
 use Rattle.operator_desk.specs.Lines.{line_of}
-use Rattle.cell_turns.specs.declared.plan.Plan.{Plan}
+use Rattle.cell_ports.specs.declared.plan.Plan.{Plan}
 use Rattle.cell_workers.specs.declared.ends.End.{End}
 use Rattle.cell_explain.specs.Limit.{limit_of}
 use Rattle.cell_explain.specs.Counts.{laid_back_of, unadmitted_of}

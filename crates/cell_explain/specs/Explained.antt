@@ -2,7 +2,7 @@
 use Rattle.std.specs.Prelude.{◌≡◌, ℕ, List, Result}
 use Rattle.cell_types.specs.declared.words.Totals.{Totals}
 use Rattle.cell_audit.specs.declared.error.AuditError.{AuditError}
-use Rattle.cell_lines.specs.Lines.{IsAnswer, status_of}
+use Rattle.cell_audit.specs.Lines.{IsAnswer, status_of}
 use Rattle.cell_settings.specs.Checked.{status_of as check_status}
 use Rattle.cell_settings.specs.Settings.{AnswersText, Numbers}
 use Rattle.cell_settings.specs.declared.error.SettingsError.{SettingsError}

@@ -7,8 +7,8 @@ use Rattle.cell_types.specs.declared.words.Entry.TheVariants.{Declared}
 use Rattle.cell_types.specs.declared.words.Machine.{Machine}
 use Rattle.cell_types.specs.Same.{same_machine}
 use Rattle.cell_types.specs.Texts.{all_machine}
-use Rattle.cell_views.specs.Last.{when}
-use Rattle.cell_views.specs.Views.{is_failed}
+use Rattle.cell_rules.specs.Last.{when}
+use Rattle.cell_rules.specs.Views.{is_failed}
 use Rattle.cell_sentences.specs.Names.{cause_name, the_machine}
 use Rattle.cell_explain.specs.Numbered.{last_numbered}
 

@@ -1,7 +1,7 @@
 -- What is told of the limit that ended a run
 use Rattle.std.specs.Prelude.{ℕ, List, [], ◌++◌, codes, decimal, length, nat_le, if◌then◌else◌}
 use Rattle.cell_types.specs.declared.words.Entry.{Entry}
-use Rattle.cell_turns.specs.declared.plan.Plan.{Plan}
+use Rattle.cell_ports.specs.declared.plan.Plan.{Plan}
 use Rattle.cell_workers.specs.declared.ends.End.{End}
 use Rattle.cell_workers.specs.declared.ends.End.TheVariants as end
 

@@ -16,10 +16,10 @@ use Rattle.cell_types.specs.declared.words.Station.TheVariants as station
 use Rattle.cell_types.specs.Cell.{machine_of_axis}
 use Rattle.cell_types.specs.Same.{same_pose}
 use Rattle.cell_types.specs.Texts.{all_station}
-use Rattle.cell_views.specs.Views.{going_of, is_failed, plate_of, pose_of}
-use Rattle.plate_book.specs.declared.limits.BookLimits.{BookLimits}
-use Rattle.plate_book.specs.declared.refusal.Refusal.{Refusal}
-use Rattle.plate_book.specs.Rules.Legal.{first_of}
+use Rattle.cell_rules.specs.Views.{going_of, is_failed, plate_of, pose_of}
+use Rattle.cell_rules.specs.declared.limits.BookLimits.{BookLimits}
+use Rattle.cell_rules.specs.declared.refusal.Refusal.{Refusal}
+use Rattle.cell_rules.specs.Legal.{first_of}
 use Rattle.cell_sentences.specs.Names.{station_name}
 use Rattle.cell_sentences.specs.Sentences.{entry_sentence, refusal_sentence}
 

@@ -1,8 +1,8 @@
 -- The lines in which a text's records are told
 use Rattle.std.specs.Prelude.{◌==◌, ◌&&◌, ℕ, List, [], ◌∷◌, ◌++◌, codes, decimal, if◌then◌else◌, length, map, nat_le}
 use Rattle.std.specs.Prelude.{nat_lt, take}
-use Rattle.plate_book.specs.declared.refusal.Refusal.{Refusal}
-use Rattle.plate_book.specs.Rules.Words.{refusal_text}
+use Rattle.cell_rules.specs.declared.refusal.Refusal.{Refusal}
+use Rattle.cell_rules.specs.Words.{refusal_text}
 use Rattle.cell_sentences.specs.Sentences.{entry_deed, refusal_sentence}
 use Rattle.std.specs.Prelude.{Option, Some, None}
 use Rattle.cell_types.specs.declared.words.AxisState.{AxisState}

@@ -5,12 +5,12 @@ use Rattle.std.specs.Io.KnownBytes.{Appends}
 use Rattle.cell_rows.specs.Rows.{rows_of}
 use Rattle.cell_types.specs.declared.words.Entry.{Entry}
 use Rattle.cell_types.specs.declared.words.Totals.{Totals}
-use Rattle.plate_book.specs.declared.refusal.Refusal.{Refusal}
+use Rattle.cell_rules.specs.declared.refusal.Refusal.{Refusal}
 use Rattle.cell_audit.specs.declared.error.AuditError.{AuditError}
 use Rattle.cell_audit.specs.declared.error.AuditError.TheVariants as error
 use Rattle.cell_audit.specs.Reading.{SpellsFirst}
-use Rattle.cell_audit.specs.Watched.{WritesPart}
-use Rattle.cell_lines.specs.Lines.{IsAnswer, lines_of, status_of}
+use Rattle.cell_output.specs.Watched.{WritesPart}
+use Rattle.cell_audit.specs.Lines.{IsAnswer, lines_of, status_of}
 use Rattle.cell_explain.specs.declared.due.Circumstances.{Circumstances}
 use Rattle.cell_explain.specs.declared.telling.Since.{Since}
 use Rattle.cell_explain.specs.declared.telling.Since.TheVariants as since

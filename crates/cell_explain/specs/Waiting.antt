@@ -8,10 +8,10 @@ use Rattle.cell_types.specs.declared.words.Entry.{Entry}
 use Rattle.cell_types.specs.declared.words.Entry.TheVariants.{StopAsked, Quarantined, Repaired, Expected}
 use Rattle.cell_types.specs.declared.words.Station.{Station}
 use Rattle.cell_types.specs.Entries.{actor_of}
-use Rattle.cell_views.specs.Views.{count_of, plate_of}
-use Rattle.plate_book.specs.declared.limits.BookLimits.{BookLimits}
-use Rattle.plate_book.specs.declared.refusal.Refusal.{Refusal}
-use Rattle.plate_book.specs.Rules.Legal.{first_of}
+use Rattle.cell_rules.specs.Views.{count_of, plate_of}
+use Rattle.cell_rules.specs.declared.limits.BookLimits.{BookLimits}
+use Rattle.cell_rules.specs.declared.refusal.Refusal.{Refusal}
+use Rattle.cell_rules.specs.Legal.{first_of}
 use Rattle.operator_desk.specs.declared.line.Line.{Line}
 use Rattle.operator_desk.specs.declared.line.Trigger.{Trigger}
 use Rattle.operator_desk.specs.declared.line.Trigger.TheVariants as trigger

@@ -1,8 +1,8 @@
 //! Why a journal's text is refused.
 ghost use Rattle.std.specs.Prelude.{◌≡◌, ℕ, IfOk, IsErr, Some, string_bytes, true};
 ghost use Rattle.cell_audit.specs.Reading.{IsBefore, SpellsFirst};
-ghost use Rattle.cell_audit.specs.Watched.{IsSameWriter, bytes_held, has_refused};
-ghost use Rattle.cell_lines.specs.Lines.{TellsAudit};
+ghost use Rattle.cell_output.specs.Watched.{IsSameWriter, bytes_held, has_refused};
+ghost use Rattle.cell_audit.specs.Lines.{TellsAudit};
 ghost use Rattle.cell_rows.specs.Rows.{current_row, rows_of};
 ghost use Rattle.cell_types.specs.Records.{read_row};
 ghost use Rattle.cell_explain.specs.Explained.{EndsAsAudit};
@@ -19,9 +19,9 @@ use crate::shown::shown;
 use crate::telling::{Since, left_by, told};
 use crate::unread::record_line;
 use crate::wanted::Trouble;
-use cell_audit::{AuditError, Audited, WatchedWriter, WriteFault, audit_text, read_rows};
+use cell_audit::{AuditError, Audited, audit_lines, audit_text, read_rows};
 use cell_journal::Journal;
-use cell_lines::{audit_lines, status};
+use cell_output::{WatchedWriter, WriteFault, status};
 use cell_rows::{RowReader, TellsFault};
 use cell_sentences::RefusalSentence;
 use cell_types::{Entry, read_fields};

@@ -1,10 +1,9 @@
 //! What is said of a text, and its writing.
 ghost use Rattle.std.specs.Prelude.{◌≡◌, IfOk, IsErr, OnErr, string_bytes, true};
-ghost use Rattle.cell_audit.specs.Watched.{IsSameWriter, WritesPart, bytes_held, has_refused};
+ghost use Rattle.cell_output.specs.Watched.{IsSameWriter, WritesPart, bytes_held, has_refused};
 ghost use Rattle.cell_explain.specs.Told.{SaysNothing, WritesSaying};
 
-use cell_audit::{WatchedWriter, WriteFault};
-use cell_lines::status;
+use cell_output::{WatchedWriter, WriteFault, status};
 use std::alloc::{AllocError, Global};
 use std::io::Write;
 

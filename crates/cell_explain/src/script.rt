@@ -1,7 +1,7 @@
 //! Why a script is refused.
 ghost use Rattle.std.specs.Prelude.{◌≡◌, ℕ, IfOk, IsErr, codes, string_bytes, true, vec_items};
 ghost use Rattle.std.specs.Result.{result_map_both};
-ghost use Rattle.cell_audit.specs.Watched.{IsSameWriter, bytes_held, has_refused};
+ghost use Rattle.cell_output.specs.Watched.{IsSameWriter, bytes_held, has_refused};
 ghost use Rattle.cell_sim.specs.Script.{next_fault};
 ghost use Rattle.operator_desk.specs.Lines.{line_of};
 ghost use Rattle.cell_explain.specs.Explained.{EndsAsFaults, EndsAsScript};
@@ -15,8 +15,7 @@ use crate::places::record_of;
 use crate::said::Said;
 use crate::unread::record_line;
 use crate::wanted::Trouble;
-use cell_audit::{WatchedWriter, WriteFault};
-use cell_lines::status;
+use cell_output::{WatchedWriter, WriteFault, status};
 use cell_rows::{LineError, MAX_LINES, ScriptLine, read_script};
 use cell_sim::PlannedFault;
 use operator_desk::Line;

@@ -1,17 +1,16 @@
 //! Why settings are refused.
 ghost use Rattle.std.specs.Prelude.{◌≡◌, ◌++◌, ℕ, List, IfOk, IsErr, OnOk, string_bytes, true};
 ghost use Rattle.std.specs.Io.KnownBytes.{Appends};
-ghost use Rattle.cell_audit.specs.Watched.{IsSameWriter, bytes_held, has_refused};
+ghost use Rattle.cell_output.specs.Watched.{IsSameWriter, bytes_held, has_refused};
 ghost use Rattle.cell_explain.specs.Explained.{EndsAsCheck};
 ghost use Rattle.cell_explain.specs.Settings.{SaysFirst, SaysKey, SaysSecond, SaysSettings, SaysSyntax, key_line};
 ghost use Rattle.cell_explain.specs.Settings.{line_begin};
 ghost use Rattle.cell_explain.specs.Told.{Tells, TellsPart};
 
 use crate::said::Said;
-use cell_audit::{WatchedWriter, WriteFault};
-use cell_lines::status;
+use cell_output::{WatchedWriter, WriteFault, status};
+use cell_ports::Plan;
 use cell_settings::{KeyPath, SettingsError, read_settings, write_checked, write_escaped};
-use cell_turns::Plan;
 use cell_types::texts::read_axis;
 use std::alloc::{AllocError, Global};
 use std::io::Write;

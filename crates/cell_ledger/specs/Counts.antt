@@ -2,7 +2,7 @@
 use Rattle.std.specs.Prelude.{◌<◌, ◌≤◌, ◌+◌, ◌^◌, [], ◌∷◌}
 use Rattle.cell_types.specs.declared.words.Totals.{Totals}
 use Rattle.cell_types.specs.declared.words.Entry.{Entry}
-use Rattle.cell_views.specs.Views.{count_of}
+use Rattle.cell_rules.specs.Views.{count_of}
 
 abbrev pub nothing : Totals
 nothing = record { entries = 0; admitted = 0; forged = 0; quarantined = 0; delivered = 0; reinstated = 0 }

@@ -6,7 +6,7 @@ use std::sync::ledger::Ledger;
 /// name the same run belong together. A caller picks what it stands for where it passes `Brand`.
 pub trait Run {
     ghost use Rattle.std.specs.Prelude.{ℕ};
-    ghost use Rattle.plate_book.specs.declared.limits.BookLimits.{BookLimits};
+    ghost use Rattle.cell_rules.specs.declared.limits.BookLimits.{BookLimits};
 
     /// How many parts each ledger has.
     ghost parts: { ℕ };

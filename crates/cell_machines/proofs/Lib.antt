@@ -1,3 +1,5 @@
+pub mod Choice
+pub mod Occupied
 pub mod Handings
 pub mod Complete
 pub mod Unloading

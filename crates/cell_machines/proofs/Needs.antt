@@ -7,12 +7,12 @@ use Rattle.cell_types.specs.declared.words.Belt.TheVariants as belt
 use Rattle.cell_types.specs.declared.words.Colour.TheVariants as colour
 use Rattle.cell_types.specs.declared.words.Entry.{Entry}
 use Rattle.cell_types.specs.declared.words.Entry.TheVariants.{Lamp, Yielded, Started}
-use Rattle.cell_journal.specs.Stored.{is_full}
-use Rattle.cell_views.specs.Situations.{Situation}
-use Rattle.plate_book.specs.declared.limits.BookLimits.{BookLimits}
-use Rattle.plate_book.specs.declared.refusal.Refusal.{Refusal}
-use Rattle.plate_book.specs.declared.refusal.Refusal.TheVariants.{JournalFull}
-use Rattle.plate_book.specs.Rules.First.{first_true}
+use Rattle.cell_types.specs.Room.{is_full}
+use Rattle.cell_rules.specs.Situations.{Situation}
+use Rattle.cell_rules.specs.declared.limits.BookLimits.{BookLimits}
+use Rattle.cell_rules.specs.declared.refusal.Refusal.{Refusal}
+use Rattle.cell_rules.specs.declared.refusal.Refusal.TheVariants.{JournalFull}
+use Rattle.cell_rules.specs.First.{first_true}
 use Rattle.cell_machines.specs.Room.{is_none_or_full, is_bookable, lacks_its_need}
 
 -- something other than the journal's room refuses

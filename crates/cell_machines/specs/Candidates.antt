@@ -10,8 +10,8 @@ use Rattle.cell_types.specs.declared.words.Belt.TheVariants as belt
 use Rattle.cell_types.specs.declared.words.Colour.TheVariants as colour
 use Rattle.cell_types.specs.declared.words.Entry.{Entry}
 use Rattle.cell_types.specs.declared.words.Entry.TheVariants.{Lamp, Claimed, Yielded, Started}
-use Rattle.cell_views.specs.Situations.{Situation}
-use Rattle.plate_book.specs.declared.limits.BookLimits.{BookLimits}
+use Rattle.cell_rules.specs.Situations.{Situation}
+use Rattle.cell_rules.specs.declared.limits.BookLimits.{BookLimits}
 use Rattle.cell_machines.specs.Room.{is_bookable}
 use Rattle.cell_machines.specs.Jobs.{has_job}
 use Rattle.cell_machines.specs.Robot.{handings, wants_handing, robot_wants, is_drawn_in, holds_a_zone}

@@ -10,8 +10,8 @@ use Rattle.cell_types.specs.declared.words.Zone.TheVariants as zone
 use Rattle.cell_types.specs.declared.words.Entry.{Entry}
 use Rattle.cell_types.specs.declared.words.Entry.TheVariants.{Claimed, Yielded, Started}
 use Rattle.cell_types.specs.declared.cell.Press.{Press}
-use Rattle.cell_views.specs.Situations.{Situation}
-use Rattle.plate_book.specs.Rules.First.{rests_at}
+use Rattle.cell_rules.specs.Situations.{Situation}
+use Rattle.cell_rules.specs.First.{rests_at}
 
 -- in the middle with a plate to forge
 abbrev pub is_loaded : Situation → Axis → Station → Bool

@@ -4,7 +4,7 @@ ghost use Rattle.cell_types.specs.declared.words.Entry.TheVariants.{Started};
 ghost use Rattle.cell_types.specs.declared.words.Axis.TheVariants as axes;
 ghost use Rattle.cell_types.specs.declared.words.Pose.TheVariants as poses;
 ghost use Rattle.cell_types.specs.declared.words.Machine.TheVariants as machines;
-ghost use Rattle.cell_views.specs.Situations.{situation_of};
+ghost use Rattle.cell_rules.specs.Situations.{situation_of};
 ghost use Rattle.cell_machines.specs.Room.{is_refused_otherwise};
 ghost use Rattle.cell_machines.specs.Feed.{is_table_waiting};
 ghost use Rattle.cell_machines.specs.Deposit.{is_to_convey};
@@ -12,7 +12,7 @@ ghost use Rattle.cell_machines.specs.Candidates.{rows, first_bookable};
 
 use crate::entries::{claimed, lamp, started, yielded};
 use crate::rows::{any_of, first_bookable, is_moving, is_next};
-use cell_policy::{
+use crate::{
     deposit_light_wanted, feed_light_wanted, is_at_rest, is_held_by, is_occupied, rests_at,
 };
 use cell_types::{Axis, Belt, Colour, Entry, Machine, Pose, Station, Zone};

@@ -2,13 +2,13 @@
 ghost use Rattle.std.specs.Prelude.{◌≡◌, ◌&&◌, ◌||◌};
 ghost use Rattle.cell_types.specs.Cell.{faced};
 ghost use Rattle.cell_types.specs.After.{is_machine};
-ghost use Rattle.cell_views.specs.Situations.{situation_of};
-ghost use Rattle.cell_policy.specs.Router.{press_chosen};
+ghost use Rattle.cell_rules.specs.Situations.{situation_of};
+ghost use Rattle.cell_machines.specs.Router.{press_chosen};
 ghost use Rattle.cell_machines.specs.Jobs.{is_to_fetch, is_to_load, is_to_unload, is_to_deposit, has_job, is_robots};
 ghost use Rattle.cell_machines.specs.Jobs.{holds_its_zone, holds_zone_at, has_job_in, is_to_enter, works_at};
 
 use crate::presses::{is_done, is_waiting};
-use cell_policy::{choose_press, is_at_rest, is_held_by, is_occupied, rests_at};
+use crate::{choose_press, is_at_rest, is_held_by, is_occupied, rests_at};
 use cell_types::{Arm, Axis, Machine, PRESS1, PRESS2, Pose, Press, Station, Zone, faced};
 use plate_book::Book;
 

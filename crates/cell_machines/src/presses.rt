@@ -1,12 +1,12 @@
 //! What the presses do next.
 ghost use Rattle.std.specs.Prelude.{◌≡◌, ◌||◌};
-ghost use Rattle.cell_views.specs.Situations.{situation_of};
+ghost use Rattle.cell_rules.specs.Situations.{situation_of};
 ghost use Rattle.cell_machines.specs.Presses.{is_loaded, is_waiting, is_done, is_unloaded, press_rows};
 ghost use Rattle.cell_machines.specs.Candidates.{first_bookable};
 
 use crate::entries::{claimed, started, yielded};
 use crate::rows::{first_bookable, is_next};
-use cell_policy::{is_occupied, rests_at};
+use crate::{is_occupied, rests_at};
 use cell_types::{Axis, Entry, Pose, Press, Station};
 use plate_book::Book;
 

@@ -1,7 +1,7 @@
 //! What each machine does next.
 ghost use Rattle.std.specs.Prelude.{◌≡◌, ℕ, true, false, IfSome, IfNone};
 ghost use Rattle.cell_types.specs.declared.words.Entry.{Entry};
-ghost use Rattle.cell_views.specs.Situations.{situation_of};
+ghost use Rattle.cell_rules.specs.Situations.{situation_of};
 ghost use Rattle.cell_machines.specs.Useful.{is_useful};
 ghost use Rattle.cell_machines.specs.Candidates.{rows, first_bookable};
 

@@ -6,9 +6,9 @@ ghost use Rattle.cell_types.specs.declared.words.Entry.TheVariants.{Gripped, Dro
 ghost use Rattle.cell_types.specs.declared.words.Machine.TheVariants as machines;
 ghost use Rattle.cell_types.specs.declared.words.Axis.TheVariants as axes;
 ghost use Rattle.cell_types.specs.declared.words.Arm.TheVariants as arms;
-ghost use Rattle.cell_views.specs.Views.{plate_of};
-ghost use Rattle.cell_views.specs.Situations.{situation_of};
-ghost use Rattle.plate_book.specs.Rules.First.{is_faced, faces};
+ghost use Rattle.cell_rules.specs.Views.{plate_of};
+ghost use Rattle.cell_rules.specs.Situations.{situation_of};
+ghost use Rattle.cell_rules.specs.First.{is_faced, faces};
 ghost use Rattle.cell_machines.specs.Jobs.{has_job, has_job_in, is_to_enter, is_robots, holds_zone_at};
 ghost use Rattle.cell_machines.specs.Robot.{is_out, is_out_at, of_plate, handings, has_handing, is_to_draw_in};
 ghost use Rattle.cell_machines.specs.Robot.{is_drawn_in, holds_a_zone, is_at_job};
@@ -18,7 +18,7 @@ ghost use Rattle.cell_machines.specs.Candidates.{turns, claims, unloads, candida
 use crate::entries::{claimed, started, yielded};
 use crate::jobs::{has_job, has_job_in, holds_zone_at, is_robots, is_to_enter, works_at};
 use crate::rows::{first_bookable, if_next, is_next};
-use cell_policy::{is_at_rest, rests_at};
+use crate::{is_at_rest, rests_at};
 use cell_types::{
     Arm, Axis, Entry, Machine, Pose, Station, Zone, axis_of_arm, faced, station_of_arm,
 };

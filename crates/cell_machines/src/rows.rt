@@ -1,11 +1,11 @@
 //! The first entry of a list that is wanted and bookable.
 ghost use Rattle.std.specs.Prelude.{◌≡◌, ◌&&◌, [], ◌∷◌, Bool, true, false, is_some};
 ghost use Rattle.std.specs.List.{list_any};
-ghost use Rattle.cell_views.specs.Situations.{situation_of};
+ghost use Rattle.cell_rules.specs.Situations.{situation_of};
 ghost use Rattle.cell_machines.specs.Room.{is_bookable, lacks_its_need};
 ghost use Rattle.cell_machines.specs.Candidates.{first_bookable};
 
-use cell_policy::{is_held_by, is_occupied};
+use crate::{is_held_by, is_occupied};
 use cell_types::{Axis, Entry, Machine, Pose, Station, Zone};
 use plate_book::{Book, Refusal};
 

@@ -1,14 +1,14 @@
 //! What the table does next.
 ghost use Rattle.std.specs.Prelude.{◌≡◌, ◌&&◌};
 ghost use Rattle.cell_types.specs.declared.words.Machine.TheVariants as machines;
-ghost use Rattle.cell_views.specs.Situations.{situation_of};
+ghost use Rattle.cell_rules.specs.Situations.{situation_of};
 ghost use Rattle.cell_machines.specs.Table.{is_lift_at_target, is_turn_at_target, is_table_at_rest, is_at_target};
 ghost use Rattle.cell_machines.specs.Table.{is_off_target};
 ghost use Rattle.cell_machines.specs.Candidates.{rows, first_bookable};
 
 use crate::entries::{claimed, started, yielded};
 use crate::rows::{first_bookable, is_next};
-use cell_policy::{is_at_rest, is_occupied};
+use crate::{is_at_rest, is_occupied};
 use cell_types::{Axis, Entry, Machine, Pose, Station, Zone};
 use plate_book::Book;
 

@@ -1,8 +1,8 @@
 -- The answer to a line of a method, and its own line
 use Rattle.std.specs.Prelude.{ℕ, List, [], ◌∷◌, Option, Some, None, Bool, codes, decimal, if◌then◌else◌}
 use Rattle.cell_rows.specs.Lines.{line}
-use Rattle.plate_book.specs.declared.refusal.Refusal.{Refusal}
-use Rattle.plate_book.specs.Rules.Words.{refusal_name, refusal_word}
+use Rattle.cell_rules.specs.declared.refusal.Refusal.{Refusal}
+use Rattle.cell_rules.specs.Words.{refusal_name, refusal_word}
 use Rattle.cell_method.specs.Lines.{Row}
 use Rattle.cell_method.specs.declared.reply.Reply.{Reply}
 use Rattle.cell_method.specs.declared.reply.Reply.TheVariants as reply

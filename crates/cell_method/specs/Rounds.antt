@@ -9,12 +9,12 @@ use Rattle.cell_types.specs.declared.words.Actor.TheVariants as actor
 use Rattle.cell_types.specs.declared.words.Entry.{Entry}
 use Rattle.cell_types.specs.declared.words.Machine.{Machine}
 use Rattle.cell_diagnosis.specs.declared.reading.Reading.{Reading}
-use Rattle.plate_book.specs.declared.limits.BookLimits.{BookLimits}
-use Rattle.plate_book.specs.declared.refusal.Refusal.{Refusal}
-use Rattle.plate_book.specs.Rules.History.{History}
-use Rattle.plate_book.specs.Rules.Legal.{first_of}
+use Rattle.cell_rules.specs.declared.limits.BookLimits.{BookLimits}
+use Rattle.cell_rules.specs.declared.refusal.Refusal.{Refusal}
+use Rattle.cell_rules.specs.History.{History}
+use Rattle.cell_rules.specs.Legal.{first_of}
 use Rattle.cell_turns.specs.declared.six.Six.{Six}
-use Rattle.cell_turns.specs.Logs.{Log, after_read, after_sending}
+use Rattle.cell_ports.specs.Logs.{Log, after_read, after_sending}
 use Rattle.cell_turns.specs.Six.{at, map_six, put}
 use Rattle.operator_desk.specs.declared.action.Action.{Action}
 use Rattle.operator_desk.specs.declared.line.Line.{Line}

@@ -2,7 +2,7 @@
 use Rattle.std.proofs.Common.{◌≡◌, ℕ, List, Option, None, Some, Result, Ok, Err, inl, inr, refl, sym, subst}
 use Rattle.std.specs.Prelude.{◌⊎◌, IfOk, IfSome}
 use Rattle.cell_audit.specs.declared.error.AuditError.TheVariants as audit
-use Rattle.cell_audit.specs.declared.watched.WriteFault.{WriteFault}
+use Rattle.cell_output.specs.declared.watched.WriteFault.{WriteFault}
 use Rattle.cell_explain.specs.Explained.{EndsAsAudit, EndsAsFaults, EndsAsScript}
 use Rattle.cell_rows.specs.declared.script.LineError.TheVariants as line
 

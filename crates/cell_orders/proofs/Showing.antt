@@ -1,7 +1,7 @@
 -- What is shown for a number of entries is what is shown for the words that ask for it.
 use Rattle.std.proofs.Common.{◌≡◌, ◌≢◌, ◌≤◌, ℕ, List, Option, None, Some, Result, Ok, Err, ap, arith, refl, unwrap_or}
 use Rattle.std.specs.Prelude.{IfOk, IfSome}
-use Rattle.cell_audit.specs.declared.watched.WriteFault.{WriteFault}
+use Rattle.cell_output.specs.declared.watched.WriteFault.{WriteFault}
 use Rattle.cell_command.specs.Counts.{Counts, IsNumber}
 use Rattle.cell_command.specs.declared.count.Count.{Count}
 use Rattle.cell_audit.specs.Migrated.{rows_in}

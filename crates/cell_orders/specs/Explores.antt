@@ -1,6 +1,6 @@
 -- What is written of every order of events, by the words of the command line
 use Rattle.std.specs.Prelude.{◌≡◌, ◌⊎◌, ℕ, Bool, false, List, Option, Result, Ok, IfOk}
-use Rattle.cell_audit.specs.declared.watched.WriteFault.{WriteFault}
+use Rattle.cell_output.specs.declared.watched.WriteFault.{WriteFault}
 use Rattle.cell_command.specs.declared.order.Exploring.{Exploring}
 use Rattle.cell_types.specs.declared.words.Entry.{Entry}
 use Rattle.cell_explore.specs.Moves.{is_stuck}

@@ -3,7 +3,7 @@ use Rattle.std.specs.Prelude.{ℕ, ◌≡◌, ⊤, All, IfOk, List, Result, leng
 use Rattle.cell_types.specs.declared.words.Totals.{Totals}
 use Rattle.cell_rows.specs.Rows.{rows_of}
 use Rattle.cell_audit.specs.Meaning.{SpellsLegal}
-use Rattle.cell_audit.specs.declared.watched.WriteFault.{WriteFault}
+use Rattle.cell_output.specs.declared.watched.WriteFault.{WriteFault}
 use Rattle.cell_command.specs.declared.order.Measuring.{Measuring}
 use Rattle.cell_orders.specs.declared.measure.Found.{Found}
 use Rattle.cell_orders.specs.declared.measure.Found.TheVariants as found

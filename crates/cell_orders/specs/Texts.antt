@@ -3,9 +3,9 @@ use Rattle.std.specs.Prelude.{◌≡◌, ◌⊎◌, ◌++◌, ◌∷◌, [], ℕ
 use Rattle.std.specs.Borrow.{Bor}
 use Rattle.std.specs.Io.KnownBytes.{Appends}
 use Rattle.cell_audit.specs.Migrated.{rows_in}
-use Rattle.cell_audit.specs.Watched.{WritesPart}
-use Rattle.cell_audit.specs.declared.watched.WriteFault.{WriteFault}
-use Rattle.cell_lines.specs.Lines.{TellsAudit, TellsMigration, StopsMigration, TellsPart as PartOfAudit}
+use Rattle.cell_output.specs.Watched.{WritesPart}
+use Rattle.cell_output.specs.declared.watched.WriteFault.{WriteFault}
+use Rattle.cell_audit.specs.Lines.{TellsAudit, TellsMigration, StopsMigration, TellsPart as PartOfAudit}
 use Rattle.cell_settings.specs.Checked.{TellsCheck, TellsPart as PartOfCheck}
 
 -- what holds of the text that is read: that of the file that is named, which may be any, or else that of the input

@@ -10,7 +10,7 @@ use crate::texts::{
 };
 use cell_command::Explaining;
 use cell_explain::explain_settings;
-use cell_lines::WriteFault;
+use cell_output::WriteFault;
 use std::io::{Read, Write};
 use std::rt::Files;
 

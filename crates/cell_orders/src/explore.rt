@@ -7,7 +7,7 @@ use crate::failure::Failure;
 use crate::mistaken::wrong;
 use cell_command::{Escaped, Exploring};
 use cell_explore::{MOST_PLATES, ProgressLine, Question, explore_lines};
-use cell_lines::WriteFault;
+use cell_output::WriteFault;
 use std::alloc::Global;
 use std::io::Write;
 

@@ -4,7 +4,8 @@ ghost use Rattle.cell_orders.specs.Texts.{Audits, ChecksSettings, MigratesText, 
 
 use crate::failure::Failure;
 use crate::texts::{journal_in, settings_in, tell_too_long};
-use cell_lines::{WriteFault, audit_lines, migrate_lines};
+use cell_audit::{audit_lines, migrate_lines};
+use cell_output::WriteFault;
 use cell_settings::check_lines;
 use std::io::{Read, Write};
 use std::rt::Files;

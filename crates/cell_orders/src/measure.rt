@@ -5,10 +5,10 @@ ghost use Rattle.cell_orders.specs.Measured.{AreLegal, IsFound, IsLegalText, Mea
 use crate::failure::Failure;
 use crate::texts::journal_in;
 use crate::times::{durations_in, tell_times};
-use cell_audit::read_journal;
+use cell_audit::{audit_lines, read_journal};
 use cell_command::{Escaped, Measuring};
-use cell_lines::{WatchedWriter, WriteFault, audit_lines, status};
 use cell_measures::{Durations, Measured, Measures, csv_of, measure, table_of};
+use cell_output::{WatchedWriter, WriteFault, status};
 use std::alloc::{AllocError, Global};
 use std::io;
 use std::io::Write;

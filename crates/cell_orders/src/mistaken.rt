@@ -2,7 +2,7 @@
 ghost use Rattle.std.specs.Prelude.{◌≡◌, ◌++◌, ◌∷◌, [], IfOk, Ok, OnOk, codes};
 ghost use Rattle.std.specs.Io.KnownBytes.{Appends};
 
-use cell_lines::{WriteFault, status};
+use cell_output::{WriteFault, status};
 use std::io;
 use std::io::Write;
 

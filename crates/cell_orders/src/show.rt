@@ -10,7 +10,7 @@ use crate::mistaken::wrong;
 use crate::texts::journal_in;
 use crate::times::{durations_in, tell_times};
 use cell_command::{Count, Escaped, Showing, read_count};
-use cell_lines::{WriteFault, status};
+use cell_output::{WriteFault, status};
 use cell_show::{Form, ShowError, show_beside, show_journal};
 use std::alloc::Global;
 use std::io;

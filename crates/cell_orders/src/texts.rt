@@ -1,14 +1,14 @@
 //! The texts of the commands, which are read as far as they decide.
 ghost use Rattle.std.specs.Prelude.{◌≡◌, ◌⊎◌, ℕ, List, Ok, Some, IfErr, IfOk, IfSome};
 ghost use Rattle.cell_explain.specs.Explained.{EndsAsAudit, EndsAsFaults, EndsAsScript};
-ghost use Rattle.cell_lines.specs.Lines.{status_of};
+ghost use Rattle.cell_audit.specs.Lines.{status_of};
 ghost use Rattle.cell_orders.specs.Texts.{TellsTooLong};
 
 use crate::failure::Failure;
 use crate::noted::Noted;
 use cell_audit::AuditError;
 use cell_explain::{explain_faults, explain_journal, explain_operator};
-use cell_lines::{WatchedWriter, WriteFault, status};
+use cell_output::{WatchedWriter, WriteFault, status};
 use cell_reading::{JournalText, ScriptText, journal_text, script_text, settings_text};
 use cell_sim::PlannedFault;
 use operator_desk::Line;

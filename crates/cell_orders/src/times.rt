@@ -4,8 +4,8 @@ ghost use Rattle.cell_orders.specs.Texts.{IsGiven, TellsTimes};
 
 use crate::failure::Failure;
 use crate::texts::settings_in;
-use cell_lines::{WatchedWriter, WriteFault, status};
 use cell_measures::{Durations, read_durations};
+use cell_output::{WatchedWriter, WriteFault, status};
 use std::alloc::Global;
 use std::io;
 use std::io::{ErrorKind, Write};

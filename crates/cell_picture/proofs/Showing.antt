@@ -16,11 +16,11 @@ use Rattle.cell_types.specs.declared.words.Pose.TheVariants as pose
 use Rattle.cell_types.specs.declared.words.Belt.TheVariants as belt
 use Rattle.cell_types.specs.declared.words.Place.TheVariants as place
 use Rattle.cell_types.specs.Same.{same_place, same_pose}
-use Rattle.cell_views.specs.Views.{plate_of, place_of, placed, is_at, at_of}
+use Rattle.cell_rules.specs.Views.{plate_of, place_of, placed, is_at, at_of}
 use Rattle.cell_journal.specs.declared.snapshot.Snapshot.{Snapshot}
 use Rattle.cell_journal.specs.Snapshots.{state_of}
-use Rattle.plate_book.specs.Rules.Invariants.{KeptState, forged_by_now}
-use Rattle.plate_book.specs.Rules.Seen.{SeesViews}
+use Rattle.cell_rules.specs.Invariants.{KeptState, forged_by_now}
+use Rattle.plate_book.specs.Seen.{SeesViews}
 use Rattle.cell_picture.specs.declared.facts.ShownPlate.{ShownPlate}
 use Rattle.cell_picture.specs.Shown.{is_forged, shown_at, facts_of}
 use Rattle.cell_picture.specs.Parts.{lamp_shown, plate_shown}

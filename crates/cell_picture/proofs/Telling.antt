@@ -7,9 +7,9 @@ use Rattle.cell_types.specs.declared.words.Colour.TheVariants as colour
 use Rattle.cell_types.specs.declared.words.Entry.{Entry}
 use Rattle.cell_types.specs.Same.{axis_number, station_number, zone_number, machine_number, belt_number}
 use Rattle.cell_types.specs.Texts.{all_station, all_axis, all_zone, all_machine, all_belt}
-use Rattle.cell_views.specs.Views.{plate_of, pose_of, holder_of, is_failed, is_asked, lamp_of}
+use Rattle.cell_rules.specs.Views.{plate_of, pose_of, holder_of, is_failed, is_asked, lamp_of}
 use Rattle.cell_journal.specs.Snapshots.{no_axis}
-use Rattle.plate_book.specs.Rules.Safety.{is_forged_as}
+use Rattle.cell_rules.specs.Safety.{is_forged_as}
 use Rattle.cell_picture.specs.declared.facts.ShownPlate.{ShownPlate}
 use Rattle.cell_picture.specs.declared.facts.Facts.{Facts}
 use Rattle.cell_picture.specs.Parts.{IsWhole, plate_shown}

@@ -1,6 +1,6 @@
 -- What is printed of an audit's answer that isn't legal
 use Rattle.std.specs.Prelude.{ℕ, List, ◌∷◌, ◌++◌, codes, decimal}
-use Rattle.plate_book.specs.Rules.Words.{refusal_text}
+use Rattle.cell_rules.specs.Words.{refusal_text}
 use Rattle.cell_audit.specs.declared.error.AuditError.{AuditError}
 use Rattle.cell_audit.specs.declared.error.AuditError.TheVariants as error
 

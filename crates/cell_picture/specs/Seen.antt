@@ -8,8 +8,8 @@ use Rattle.cell_types.specs.declared.words.Axis.{Axis}
 use Rattle.cell_types.specs.declared.words.Zone.{Zone}
 use Rattle.cell_types.specs.declared.words.Belt.{Belt}
 use Rattle.cell_types.specs.declared.words.Entry.{Entry}
-use Rattle.cell_views.specs.Views.{plate_of, pose_of, holder_of, is_failed, is_asked, lamp_of, expected_of, count_of}
-use Rattle.plate_book.specs.Rules.Safety.{is_forged_as}
+use Rattle.cell_rules.specs.Views.{plate_of, pose_of, holder_of, is_failed, is_asked, lamp_of, expected_of, count_of}
+use Rattle.cell_rules.specs.Safety.{is_forged_as}
 use Rattle.cell_picture.specs.declared.facts.ShownPlate.{ShownPlate}
 use Rattle.cell_picture.specs.declared.facts.Facts.{Facts}
 use Rattle.cell_picture.specs.Parts.{plate_shown, axis_shown, holder_shown, failed_shown, asked_shown, lamp_shown}

@@ -5,8 +5,8 @@ use Rattle.std.specs.Option.{option_map}
 use Rattle.cell_types.specs.declared.words.Station.{Station}
 use Rattle.cell_types.specs.declared.words.Entry.{Entry}
 use Rattle.cell_types.specs.Texts.{all_station, all_axis, all_zone, all_machine, all_belt}
-use Rattle.cell_views.specs.Views.{plate_of, pose_of, holder_of, is_failed, is_asked, lamp_of, expected_of, count_of}
-use Rattle.plate_book.specs.Rules.Safety.{is_forged_as}
+use Rattle.cell_rules.specs.Views.{plate_of, pose_of, holder_of, is_failed, is_asked, lamp_of, expected_of, count_of}
+use Rattle.cell_rules.specs.Safety.{is_forged_as}
 use Rattle.cell_picture.specs.declared.facts.ShownPlate.{ShownPlate}
 use Rattle.cell_picture.specs.declared.facts.Facts.{Facts}
 

@@ -4,7 +4,7 @@ use crate::machines::{draw_deposit, draw_feed, draw_presses, draw_table, draw_zo
 use crate::parts::holder_at;
 use crate::robot::draw_robot;
 use crate::{AnswerLine, Facts, Scene, ShownPlate};
-use cell_audit::WriteFault;
+use cell_output::WriteFault;
 use cell_sentences::EntrySentence;
 use cell_types::texts::{machine_word, zone_word};
 use cell_types::{PlateId, ZONES, Zone, owner, visitor};

@@ -1,9 +1,9 @@
 //! A sheet of text, on which frames and words are put before it is written.
 ghost use Rattle.std.specs.Prelude.{◌≡◌, true, IsErr};
-ghost use Rattle.cell_audit.specs.Watched.{IsSameWriter, has_refused};
+ghost use Rattle.cell_output.specs.Watched.{IsSameWriter, has_refused};
 
 use arrayvec::ArrayVec;
-use cell_audit::{WatchedWriter, WriteFault};
+use cell_output::{WatchedWriter, WriteFault};
 use std::fmt;
 use std::fmt::Write as _;
 use std::io::Write;

@@ -1,12 +1,12 @@
 //! The picture of the cell as text.
 ghost use Rattle.std.specs.Prelude.{◌≡◌, true, IsErr};
-ghost use Rattle.cell_audit.specs.Watched.{IsSameWriter, has_refused};
+ghost use Rattle.cell_output.specs.Watched.{IsSameWriter, has_refused};
 
 use crate::parts::{axis_at, holder_at, is_asked, is_failed, lamp_at, plate_at};
 use crate::sheet::{Area, COLUMNS, ROWS, Sheet, Sign};
 use crate::{AnswerLine, Facts, Scene, ShownPlate};
 use arrayvec::ArrayString;
-use cell_audit::{WatchedWriter, WriteFault};
+use cell_output::{WatchedWriter, WriteFault};
 use cell_sentences::{EntrySentence, arm_name, colour_name, machine_name};
 use cell_types::texts::{machine_word, pose_word, zone_word};
 use cell_types::{

@@ -1,10 +1,8 @@
-//! The router and the lights: which press takes the next plate, and which lights the belts want.
+//! The router and the lights: which press takes the next plate, and which lights the belts want. Their code and
+//! definitions stand in `cell_machines`, which asks them.
 #![tactic(auto)]
 
-pub mod lights;
-pub mod reads;
-pub mod router;
-
-pub use lights::{deposit_light_wanted, feed_light_wanted};
-pub use reads::{is_at_rest, is_held_by, is_occupied, rests_at};
-pub use router::choose_press;
+pub use cell_machines::{
+    choose_press, deposit_light_wanted, feed_light_wanted, is_at_rest, is_held_by, is_occupied,
+    rests_at,
+};

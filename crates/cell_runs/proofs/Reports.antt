@@ -3,9 +3,9 @@ use Rattle.std.proofs.Common.{◌≡◌, ℕ, Bool, List, Option, Result, Ok, Er
 use Rattle.std.specs.Prelude.{IfOk}
 use Rattle.cell_types.specs.declared.words.Entry.{Entry}
 use Rattle.cell_types.specs.declared.words.Totals.{Totals}
-use Rattle.cell_views.specs.Views.{count_of}
-use Rattle.cell_turns.specs.declared.plan.Plan.{Plan}
-use Rattle.cell_audit.specs.Watched.{WritesPart}
+use Rattle.cell_rules.specs.Views.{count_of}
+use Rattle.cell_ports.specs.declared.plan.Plan.{Plan}
+use Rattle.cell_output.specs.Watched.{WritesPart}
 use Rattle.cell_workers.specs.declared.ends.End.{End}
 use Rattle.cell_workers.specs.Report.{IsReport}
 use Rattle.operator_desk.specs.declared.line.Line.{Line}

@@ -2,8 +2,8 @@
 use Rattle.std.proofs.Common.{ℕ, ◌+◌, List, [], ◌∷◌, ◌++◌, subst, sym}
 use Rattle.std.proofs.Math.Nat.{zero-add}
 use Rattle.cell_types.specs.declared.words.Entry.{Entry}
-use Rattle.plate_book.specs.declared.limits.BookLimits.{BookLimits}
-use Rattle.cell_turns.specs.declared.plan.Plan.{Plan}
+use Rattle.cell_rules.specs.declared.limits.BookLimits.{BookLimits}
+use Rattle.cell_ports.specs.declared.plan.Plan.{Plan}
 use Rattle.cell_turns.specs.declared.schedule.Step.{Step}
 use Rattle.cell_turns.specs.declared.schedule.Step.TheVariants.{Hand}
 use Rattle.cell_turns.specs.declared.six.Six.{Six}

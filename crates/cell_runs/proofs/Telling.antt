@@ -4,13 +4,13 @@ use Rattle.std.specs.Prelude.{IfOk}
 use Rattle.cell_types.specs.declared.words.Entry.{Entry}
 use Rattle.cell_types.specs.declared.words.Totals.{Totals}
 use Rattle.cell_rows.specs.Rows.{rows_of}
-use Rattle.cell_turns.specs.declared.plan.Plan.{Plan}
+use Rattle.cell_ports.specs.declared.plan.Plan.{Plan}
 use Rattle.cell_audit.specs.Meaning.{Due, IsFault}
 use Rattle.cell_audit.specs.Reading.{IsBefore, SpellsFirst}
-use Rattle.cell_audit.specs.Watched.{WritesPart}
+use Rattle.cell_output.specs.Watched.{WritesPart}
 use Rattle.cell_audit.specs.declared.error.AuditError.{AuditError}
 use Rattle.cell_audit.specs.declared.error.AuditError.TheVariants as error
-use Rattle.cell_lines.specs.Lines.{IsAnswer, TellsAudit, TellsPart, WritesAnswer, lines_of}
+use Rattle.cell_audit.specs.Lines.{IsAnswer, TellsAudit, TellsPart, WritesAnswer, lines_of}
 use Rattle.operator_desk.specs.declared.line.Line.{Line}
 use Rattle.cell_runs.specs.Followed.{IsFollowed}
 use Rattle.cell_runs.specs.Runs.{kept, limits_of}

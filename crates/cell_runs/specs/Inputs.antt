@@ -5,7 +5,7 @@ use Rattle.cell_rows.specs.Rows.{rows_of}
 use Rattle.cell_rows.specs.Scripts.{Gives, lines_of}
 use Rattle.cell_rows.specs.declared.script.LineError.{LineError}
 use Rattle.cell_rows.specs.declared.script.LineError.TheVariants as error
-use Rattle.cell_lines.specs.Lines.{number_line}
+use Rattle.cell_output.specs.Numbers.{number_line}
 use Rattle.cell_settings.specs.Settings.{AnswersText, Numbers, plan_numbers}
 use Rattle.cell_settings.specs.Checked.{error_line, error_status}
 use Rattle.cell_sim.specs.Script.{next_fault}

@@ -4,9 +4,9 @@ use Rattle.std.specs.Prelude.{codes}
 use Rattle.std.specs.Io.KnownBytes.{Appends}
 use Rattle.cell_types.specs.declared.words.Entry.{Entry}
 use Rattle.cell_types.specs.declared.words.Totals.{Totals}
-use Rattle.cell_views.specs.Views.{count_of}
-use Rattle.plate_book.specs.declared.limits.BookLimits.{BookLimits}
-use Rattle.cell_turns.specs.declared.plan.Plan.{Plan}
+use Rattle.cell_rules.specs.Views.{count_of}
+use Rattle.cell_rules.specs.declared.limits.BookLimits.{BookLimits}
+use Rattle.cell_ports.specs.declared.plan.Plan.{Plan}
 use Rattle.cell_workers.specs.Report.{IsReport}
 use Rattle.cell_workers.specs.declared.ends.End.{End}
 use Rattle.cell_workers.specs.declared.ends.End.TheVariants as end
@@ -14,8 +14,8 @@ use Rattle.cell_workers.specs.declared.running.RunError.{RunError}
 use Rattle.cell_workers.specs.declared.running.RunError.TheVariants as error
 use Rattle.operator_desk.specs.declared.line.Line.{Line}
 use Rattle.cell_audit.specs.Text.{text_of}
-use Rattle.cell_audit.specs.Watched.{WritesPart}
-use Rattle.cell_lines.specs.Lines.{number_line}
+use Rattle.cell_output.specs.Watched.{WritesPart}
+use Rattle.cell_output.specs.Numbers.{number_line}
 use Rattle.cell_runs.specs.Inputs.{AreInputs, WritesError, input_line, input_status}
 use Rattle.cell_runs.specs.Rounds.{IsRun}
 use Rattle.cell_runs.specs.declared.inputs.Inputs.{Inputs}

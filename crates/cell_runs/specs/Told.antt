@@ -4,18 +4,18 @@ use Rattle.std.specs.Prelude.{codes, decimal}
 use Rattle.std.specs.Io.KnownBytes.{Appends}
 use Rattle.cell_types.specs.declared.words.Entry.{Entry}
 use Rattle.cell_types.specs.Spelling.{record_of}
-use Rattle.cell_views.specs.Views.{count_of}
+use Rattle.cell_rules.specs.Views.{count_of}
 use Rattle.cell_rows.specs.Rows.{rows_of}
-use Rattle.cell_turns.specs.declared.plan.Plan.{Plan}
+use Rattle.cell_ports.specs.declared.plan.Plan.{Plan}
 use Rattle.cell_workers.specs.declared.ends.End.{End}
 use Rattle.cell_workers.specs.declared.ends.End.TheVariants as end
 use Rattle.operator_desk.specs.declared.line.Line.{Line}
 use Rattle.cell_audit.specs.Meaning.{Due}
 use Rattle.cell_audit.specs.Reading.{SpellsFirst}
 use Rattle.cell_audit.specs.Text.{text_of}
-use Rattle.cell_audit.specs.Watched.{WritesPart}
+use Rattle.cell_output.specs.Watched.{WritesPart}
 use Rattle.cell_audit.specs.declared.error.AuditError.{AuditError}
-use Rattle.cell_lines.specs.Lines.{IsAnswer, WritesAnswer, lines_of}
+use Rattle.cell_audit.specs.Lines.{IsAnswer, WritesAnswer, lines_of}
 use Rattle.cell_runs.specs.Followed.{IsFollowed}
 use Rattle.cell_runs.specs.Inputs.{AreInputs, WritesError, input_line, input_status}
 use Rattle.cell_runs.specs.Runs.{Kept, counts_after, kept, limits_of}

@@ -2,8 +2,8 @@
 ghost use Rattle.std.specs.Prelude.{◌≡◌, List, IfOk, IsErr, Some, string_bytes, true};
 ghost use Rattle.cell_types.specs.declared.words.Entry.{Entry as EntryValue};
 ghost use Rattle.cell_audit.specs.Text.{text_of};
-ghost use Rattle.cell_audit.specs.Watched.{IsSameWriter, WritesPart, bytes_held, has_refused};
-ghost use Rattle.cell_turns.specs.declared.plan.Plan.{Plan as PlanValue};
+ghost use Rattle.cell_output.specs.Watched.{IsSameWriter, WritesPart, bytes_held, has_refused};
+ghost use Rattle.cell_ports.specs.declared.plan.Plan.{Plan as PlanValue};
 ghost use Rattle.operator_desk.specs.declared.line.Line.{Line};
 ghost use Rattle.cell_runs.specs.Followed.{IsFollowed};
 ghost use Rattle.cell_runs.specs.Runs.{counts_after, kept, limits_of};
@@ -12,9 +12,9 @@ ghost use Rattle.cell_runs.specs.Told.{followed_status};
 
 use crate::follow::{Followed, Following};
 use crate::report::write_counts;
-use cell_audit::{WatchedWriter, WriteError, WriteFault, write_journal_watched};
+use cell_audit::{WriteError, write_journal_watched};
 use cell_journal::Journal;
-use cell_lines::status;
+use cell_output::{WatchedWriter, WriteFault, status};
 use cell_types::{Entry, Field, Totals, spell};
 use cell_workers::End;
 use std::alloc::{AllocError, Global};

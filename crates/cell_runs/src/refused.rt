@@ -1,11 +1,10 @@
 //! What is printed of a text that is refused.
 ghost use Rattle.std.specs.Prelude.{◌≡◌, IfOk, IsErr, true};
-ghost use Rattle.cell_audit.specs.Watched.{IsSameWriter, WritesPart, bytes_held, has_refused};
+ghost use Rattle.cell_output.specs.Watched.{IsSameWriter, WritesPart, bytes_held, has_refused};
 ghost use Rattle.cell_runs.specs.Inputs.{WritesError, input_line, input_status, script_line, script_status};
 
 use crate::inputs::InputError;
-use cell_audit::{WatchedWriter, WriteFault};
-use cell_lines::{status, write_number};
+use cell_output::{WatchedWriter, WriteFault, status, write_number};
 use cell_rows::LineError;
 use cell_settings::write_checked;
 use std::io::Write;

@@ -1,9 +1,9 @@
 //! What is printed of a run.
 ghost use Rattle.std.specs.Prelude.{◌≡◌, List, map, IfOk, IsErr, OnOk, Some, true};
 ghost use Rattle.std.specs.Io.KnownBytes.{Appends};
-ghost use Rattle.cell_audit.specs.Watched.{IsSameWriter, WritesPart, bytes_held, has_refused};
-ghost use Rattle.plate_book.specs.declared.limits.BookLimits.{BookLimits};
-ghost use Rattle.cell_turns.specs.declared.plan.Plan.{Plan as PlanValue};
+ghost use Rattle.cell_output.specs.Watched.{IsSameWriter, WritesPart, bytes_held, has_refused};
+ghost use Rattle.cell_rules.specs.declared.limits.BookLimits.{BookLimits};
+ghost use Rattle.cell_ports.specs.declared.plan.Plan.{Plan as PlanValue};
 ghost use Rattle.cell_workers.specs.Report.{IsReport};
 ghost use Rattle.operator_desk.specs.declared.line.Line.{Line};
 ghost use Rattle.cell_runs.specs.Rounds.{IsRun};
@@ -12,9 +12,9 @@ ghost use Rattle.cell_runs.specs.Runs.{WritesRunError, counts_after, disagrees_l
 ghost use Rattle.cell_runs.specs.Runs.{word_of};
 
 use crate::rounds::Outcome;
-use cell_audit::{WatchedWriter, WriteError, WriteFault, write_journal_watched};
+use cell_audit::{WriteError, write_journal_watched};
 use cell_journal::Journal;
-use cell_lines::status;
+use cell_output::{WatchedWriter, WriteFault, status};
 use cell_types::Totals;
 use cell_workers::{End, Report, RunError};
 use itoa::Buffer;

@@ -5,10 +5,10 @@ ghost use Rattle.cell_runs.specs.Rounds.{IsRun};
 ghost use Rattle.cell_runs.specs.Runs.{limits_of};
 
 use crate::follow::{Following, follow_over};
+use crate::ports::sim_ports;
 use crate::rounds::{Outcome, run_over};
 use cell_journal::Journal;
 use cell_ledger::Blanks;
-pub(crate) use cell_sim::sim_ports as ports_of;
 use cell_sim::{FaultScript, World};
 use cell_workers::{OperatorPort, Plan};
 use operator_desk::Script;
@@ -42,7 +42,7 @@ pub fn simulate<R: AllocGlobal + Wait, O: OperatorPort>(
 {
     let alloc = rt.alloc();
     let book = empty_book(alloc, plan)?;
-    let mut ports = ports_of(rt, world, faults);
+    let mut ports = sim_ports(rt, world, faults);
     Ok(run_over::<_, _, Brand>(alloc, book, Blanks::new(1), &mut ports, hands, script, plan))
 }
 
@@ -63,7 +63,7 @@ pub fn follow_journal<R: AllocGlobal + Wait, O: OperatorPort>(
 {
     let alloc = rt.alloc();
     let book = empty_book(alloc, plan)?;
-    let mut ports = ports_of(rt, world, faults);
+    let mut ports = sim_ports(rt, world, faults);
     let blanks = Blanks::new(1);
     Ok(follow_over::<_, _, Brand>(
         alloc, book, blanks, &mut ports, hands, script, plan, journal,

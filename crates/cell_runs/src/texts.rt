@@ -1,18 +1,18 @@
 //! A run by its texts.
 ghost use Rattle.std.specs.Prelude.{◌≡◌, ◌↔◌, IfOk, IsErr, None, true};
-ghost use Rattle.cell_audit.specs.Watched.{IsSameWriter, bytes_held, has_refused};
+ghost use Rattle.cell_output.specs.Watched.{IsSameWriter, bytes_held, has_refused};
 ghost use Rattle.cell_runs.specs.Runs.{KeepsRun, LacksThread, PartOfReport, PartOfRounds, TellsPart, TellsRun};
 ghost use Rattle.cell_runs.specs.Runs.{WritesReport, WritesRounds, kept_of, limits_of};
 
 use crate::inputs::{Inputs, read_inputs};
+use crate::ports::sim_ports;
 use crate::refused::refuse_input;
 use crate::report::{write_outcome, write_report, write_run_error};
 use crate::rounds::Outcome;
-use crate::simulation::{ports_of, simulate};
-use cell_audit::{WatchedWriter, WriteFault};
+use crate::simulation::simulate;
 use cell_journal::Journal;
-use cell_lines::status;
 use cell_measures::Durations;
+use cell_output::{WatchedWriter, WriteFault, status};
 use cell_sim::{SimOperator, World};
 use cell_workers::{End, Plan, Report, RunError, run_cell};
 use std::alloc::AllocError;
@@ -110,7 +110,7 @@ fn write_threads<R: AllocGlobal + Threads + Wait + Sync, W: Write>(
     } = inputs;
     let alloc = rt.alloc();
     let world = Mutex::new(World::new(plan.plates).with_durations(durations));
-    let mut ports = ports_of(rt, &world, &faults);
+    let mut ports = sim_ports(rt, &world, &faults);
     let mut hands = SimOperator::new(rt, &world);
     match run_cell(rt, alloc, &mut ports, &mut hands, script, &plan) {
         Ok(report) => {

@@ -7,13 +7,13 @@ use Rattle.cell_types.specs.declared.words.Entry.TheVariants.{Lamp, Admitted, Cl
 use Rattle.cell_types.specs.declared.words.Entry.TheVariants.{Conveyed, Forged, Gripped, Dropped, Delivered, Declared}
 use Rattle.cell_types.specs.declared.words.Entry.TheVariants.{StopAsked, Quarantined, Repaired, Expected, Reinstated}
 use Rattle.cell_types.specs.Entries.{actor_of}
-use Rattle.plate_book.specs.declared.refusal.Refusal.{Refusal}
-use Rattle.plate_book.specs.declared.refusal.Refusal.TheVariants.{JournalFull, PlateLimit, MachineFailed}
-use Rattle.plate_book.specs.declared.refusal.Refusal.TheVariants.{MachineHealthy, OwnerFailed, WrongPose, ZoneTaken}
-use Rattle.plate_book.specs.declared.refusal.Refusal.TheVariants.{NotHolder, NotNeighbour, StationEmpty, StationFull}
-use Rattle.plate_book.specs.declared.refusal.Refusal.TheVariants.{WrongPlate, LampRed, LampAlready, NoPress}
-use Rattle.plate_book.specs.declared.refusal.Refusal.TheVariants.{AlreadyAsked, PlateStillThere, PlateExpected}
-use Rattle.plate_book.specs.declared.refusal.Refusal.TheVariants.{NotReturnable, OutOfMemory}
+use Rattle.cell_rules.specs.declared.refusal.Refusal.{Refusal}
+use Rattle.cell_rules.specs.declared.refusal.Refusal.TheVariants.{JournalFull, PlateLimit, MachineFailed}
+use Rattle.cell_rules.specs.declared.refusal.Refusal.TheVariants.{MachineHealthy, OwnerFailed, WrongPose, ZoneTaken}
+use Rattle.cell_rules.specs.declared.refusal.Refusal.TheVariants.{NotHolder, NotNeighbour, StationEmpty, StationFull}
+use Rattle.cell_rules.specs.declared.refusal.Refusal.TheVariants.{WrongPlate, LampRed, LampAlready, NoPress}
+use Rattle.cell_rules.specs.declared.refusal.Refusal.TheVariants.{AlreadyAsked, PlateStillThere, PlateExpected}
+use Rattle.cell_rules.specs.declared.refusal.Refusal.TheVariants.{NotReturnable, OutOfMemory}
 use Rattle.cell_sentences.specs.Names.{machine_name, the_machine, station_name, axis_name, axis_of_its_machine}
 use Rattle.cell_sentences.specs.Names.{way_to_pose, zone_name, arm_name, light_name, colour_name, cause_name}
 

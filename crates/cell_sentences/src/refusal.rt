@@ -3,7 +3,7 @@ ghost use Rattle.std.specs.Prelude.{◌≡◌, ◌++◌};
 ghost use Rattle.cell_sentences.specs.Sentences.{refusal_sentence};
 
 use crate::{axis_name, light_name, station_name, the_machine, zone_name};
-use plate_book::Refusal;
+use cell_rules::Refusal;
 use std::fmt;
 
 /// Shows a refusal as a sentence of what is so, as "the feed light is red".

@@ -2,8 +2,8 @@
 use Rattle.std.proofs.Common.{◌≡◌, ℕ, List, [], ◌∷◌, ◌++◌, Option, refl, sym, subst, append_assoc}
 use Rattle.std.specs.Io.KnownBytes.{Appends}
 use Rattle.std.proofs.KnownBytes.{Appends-trans}
-use Rattle.cell_audit.specs.Watched.{WritesPart}
-use Rattle.cell_audit.proofs.Pieces.{part-after}
+use Rattle.cell_output.specs.Watched.{WritesPart}
+use Rattle.cell_output.proofs.Pieces.{part-after}
 use Rattle.cell_settings.specs.Checked.{escaped, path_line}
 
 -- the name is written, and a part of the path

@@ -2,7 +2,7 @@
 use Rattle.std.proofs.Common.{◌≡◌, Result, Ok, Err, refl}
 use Rattle.std.specs.Result.{IsErrAnd}
 use Rattle.cell_settings.specs.Settings.{Gives, GivesNumbers, Numbers, ◌>>=◌}
-use Rattle.cell_turns.specs.declared.plan.Plan.{Plan}
+use Rattle.cell_ports.specs.declared.plan.Plan.{Plan}
 use Rattle.cell_settings.specs.declared.error.SettingsError.{SettingsError}
 use Rattle.cell_settings.specs.declared.error.SettingsError.TheVariants as error
 

@@ -3,7 +3,7 @@ use Rattle.std.specs.Prelude.{◌≡◌, ◌/◌, ◌%◌, ◌==◌, ◌||◌, �
 use Rattle.std.specs.Prelude.{slice_index, nat_lt, if◌then◌else◌, codes}
 use Rattle.std.specs.Io.KnownBytes.{Appends}
 use Rattle.std.specs.List.{concat}
-use Rattle.cell_audit.specs.Watched.{WritesPart}
+use Rattle.cell_output.specs.Watched.{WritesPart}
 use Rattle.cell_settings.specs.Settings.{AnswersText, Numbers}
 use Rattle.cell_settings.specs.declared.error.SettingsError.{SettingsError}
 use Rattle.cell_settings.specs.declared.error.SettingsError.TheVariants as error

@@ -7,7 +7,7 @@ use Rattle.cell_types.specs.Texts.{axis_word, all_axis}
 use Rattle.toml.specs.Data.{Data, Members, as_integer, as_table, get_member}
 use Rattle.toml.specs.Parse.{parse_document}
 use Rattle.cell_settings.specs.Keys.{dotted, stray, watched}
-use Rattle.cell_turns.specs.declared.plan.Plan.{Plan}
+use Rattle.cell_ports.specs.declared.plan.Plan.{Plan}
 use Rattle.cell_settings.specs.declared.error.SettingsError.{SettingsError}
 use Rattle.cell_settings.specs.declared.error.SettingsError.TheVariants as error
 

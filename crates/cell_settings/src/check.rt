@@ -1,16 +1,15 @@
 //! What is printed for settings.
 ghost use Rattle.std.specs.Prelude.{◌≡◌, IfOk, IsErr, OnOk, true};
 ghost use Rattle.std.specs.Io.KnownBytes.{Appends};
-ghost use Rattle.cell_audit.specs.Watched.{IsSameWriter, WritesPart, bytes_held, has_refused};
+ghost use Rattle.cell_output.specs.Watched.{IsSameWriter, WritesPart, bytes_held, has_refused};
 ghost use Rattle.cell_settings.specs.Checked.{TellsCheck, TellsPart, WritesLine, error_line, line_of, path_line};
 
 use crate::error::SettingsError;
 use crate::escaped::write_escaped;
 use crate::key_path::KeyPath;
 use crate::read::read_settings;
-use cell_audit::{WatchedWriter, WriteFault};
-use cell_lines::status;
-use cell_turns::Plan;
+use cell_output::{WatchedWriter, WriteFault, status};
+use cell_ports::Plan;
 use std::alloc::Global;
 use std::io::Write;
 

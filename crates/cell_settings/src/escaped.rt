@@ -1,11 +1,11 @@
 //! A path as it is printed.
 ghost use Rattle.std.specs.Prelude.{◌≡◌, ◌<◌, IsErr, OnOk, true};
 ghost use Rattle.std.specs.Io.KnownBytes.{Appends};
-ghost use Rattle.cell_audit.specs.Watched.{IsSameWriter, WritesPart, bytes_held, has_refused};
+ghost use Rattle.cell_output.specs.Watched.{IsSameWriter, WritesPart, bytes_held, has_refused};
 ghost use Rattle.cell_settings.specs.Checked.{escaped, escaped_byte, hex_digit};
 
 use crate::key_path::KeyPath;
-use cell_audit::{WatchedWriter, WriteFault};
+use cell_output::{WatchedWriter, WriteFault};
 use std::io::Write;
 
 const DIGITS: [u8; 16] = *b"0123456789ABCDEF";

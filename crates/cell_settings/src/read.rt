@@ -9,7 +9,7 @@ use crate::error::SettingsError;
 use crate::keys::check_keys;
 use crate::numbers::{axis_limits, member_number};
 use cell_diagnosis::Limits;
-use cell_turns::Plan;
+use cell_ports::Plan;
 use cell_types::{Axis, MAX_ENTRIES, MAX_PLATES};
 use std::alloc::Global;
 use toml::Table;

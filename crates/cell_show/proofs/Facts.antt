@@ -10,7 +10,7 @@ use Rattle.cell_audit.specs.Meaning.{Due, IsFault}
 use Rattle.cell_audit.specs.Reading.{IsBefore, SpellsFirst}
 use Rattle.cell_audit.specs.declared.error.AuditError.{AuditError}
 use Rattle.cell_audit.specs.declared.error.AuditError.TheVariants as error
-use Rattle.cell_lines.specs.Lines.{status_of}
+use Rattle.cell_audit.specs.Lines.{status_of}
 use Rattle.cell_show.specs.Beside.{WritesBeside}
 use Rattle.cell_show.specs.Shown.{AreGood, HasEntry, IsOther, IsPage, ShowsBeside, ShowsPage, TellsEntries}
 use Rattle.cell_show.specs.declared.error.ShowError.{ShowError}

@@ -2,11 +2,11 @@
 use Rattle.std.specs.Prelude.{ℕ, Option, Some, List, [], ◌∷◌, ◌++◌, codes, decimal}
 use Rattle.cell_types.specs.declared.words.Entry.{Entry}
 use Rattle.cell_types.specs.Same.{axis_number, belt_number, machine_number, station_number, zone_number}
-use Rattle.plate_book.specs.declared.refusal.Refusal.{Refusal}
-use Rattle.plate_book.specs.declared.refusal.Refusal.TheVariants.{MachineFailed, MachineHealthy, OwnerFailed, WrongPose}
-use Rattle.plate_book.specs.declared.refusal.Refusal.TheVariants.{ZoneTaken, NotHolder, StationEmpty, StationFull}
-use Rattle.plate_book.specs.declared.refusal.Refusal.TheVariants.{LampRed, LampAlready, AlreadyAsked, PlateStillThere}
-use Rattle.plate_book.specs.Rules.Words.{refusal_text}
+use Rattle.cell_rules.specs.declared.refusal.Refusal.{Refusal}
+use Rattle.cell_rules.specs.declared.refusal.Refusal.TheVariants.{MachineFailed, MachineHealthy, OwnerFailed, WrongPose}
+use Rattle.cell_rules.specs.declared.refusal.Refusal.TheVariants.{ZoneTaken, NotHolder, StationEmpty, StationFull}
+use Rattle.cell_rules.specs.declared.refusal.Refusal.TheVariants.{LampRed, LampAlready, AlreadyAsked, PlateStillThere}
+use Rattle.cell_rules.specs.Words.{refusal_text}
 use Rattle.cell_audit.specs.declared.error.AuditError.{AuditError}
 use Rattle.cell_audit.specs.declared.error.AuditError.TheVariants as error
 use Rattle.cell_sentences.specs.Sentences.{refusal_sentence}

@@ -10,10 +10,10 @@ use Rattle.cell_audit.specs.Meaning.{Due, IsFault}
 use Rattle.cell_audit.specs.Reading.{IsBefore, SpellsFirst}
 use Rattle.cell_audit.specs.declared.error.AuditError.{AuditError}
 use Rattle.cell_audit.specs.declared.error.AuditError.TheVariants as audit
-use Rattle.cell_lines.specs.Lines.{status_of}
-use Rattle.plate_book.specs.declared.limits.BookLimits.{BookLimits}
-use Rattle.plate_book.specs.declared.refusal.Refusal.{Refusal}
-use Rattle.plate_book.specs.Rules.Legal.{first_of}
+use Rattle.cell_audit.specs.Lines.{status_of}
+use Rattle.cell_rules.specs.declared.limits.BookLimits.{BookLimits}
+use Rattle.cell_rules.specs.declared.refusal.Refusal.{Refusal}
+use Rattle.cell_rules.specs.Legal.{first_of}
 use Rattle.cell_show.specs.Beside.{WritesBeside}
 use Rattle.cell_show.specs.Page.{WritesPage}
 use Rattle.cell_show.specs.declared.page.error.PageError.{PageError}

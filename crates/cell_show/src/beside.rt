@@ -7,7 +7,7 @@ ghost use Rattle.cell_show.specs.Shown.{AsksPast, HasBound, HasEntry, IsOther, S
 use crate::ShowError;
 use crate::page::write_beside;
 use crate::show::{Form, show_journal};
-use cell_lines::status;
+use cell_output::status;
 use std::alloc::Global;
 use std::io::{Read, Write};
 

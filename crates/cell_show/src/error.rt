@@ -3,7 +3,7 @@ ghost use Rattle.std.specs.Prelude.{◌≡◌};
 ghost use Rattle.cell_show.specs.Shown.{entries_word};
 
 use crate::page::{MAX_PAGE_ENTRIES, PageError};
-use cell_audit::WriteFault;
+use cell_output::WriteFault;
 use std::error::Error;
 use std::fmt;
 

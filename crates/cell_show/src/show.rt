@@ -3,7 +3,7 @@ ghost use Rattle.std.specs.Prelude.{◌≡◌, ◌≢◌, ◌≤◌, ◌<◌, �
 ghost use Rattle.cell_rows.specs.Rows.{IsOpen, current_row, device_failed, rows_left};
 ghost use Rattle.cell_types.specs.Records.{read_row};
 ghost use Rattle.cell_audit.specs.Migrated.{rows_in};
-ghost use Rattle.cell_lines.specs.Lines.{status_of};
+ghost use Rattle.cell_audit.specs.Lines.{status_of};
 ghost use Rattle.cell_show.specs.Shown.{TellsStatus, AsksPast, TellsEntries, HasBound, HasEntry, IsPage, IsBarred};
 ghost use Rattle.cell_show.specs.Shown.{IsRefused, ShowsPage};
 
@@ -11,8 +11,8 @@ use crate::ShowError;
 use crate::chart::{ChartError, draw_chart};
 use crate::page::write_page;
 use cell_audit::{AuditError, read_rows};
-use cell_lines::status;
 use cell_measures::Durations;
+use cell_output::status;
 use cell_picture::{Scene, draw_picture, draw_text, facts_after};
 use cell_rows::{RowReader, TellsFault, Watched};
 use cell_types::{Entry, Totals, read_fields};

@@ -15,7 +15,7 @@ mod world;
 /// Why a script of faults can't be read: its error is that of any script of lines.
 pub use cell_rows::LineError as FaultError;
 pub use fault::{Fault, PlannedFault};
-pub use port::{SimOperator, SimPort, sim_ports};
+pub use port::{SimOperator, SimPort};
 pub use script::FaultScript;
 pub use watch::{Occasion, SAFETY_RULES, SafetyRule};
 pub use world::World;

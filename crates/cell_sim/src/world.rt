@@ -22,7 +22,7 @@ use crate::script::FaultScript;
 use crate::watch::{SafetyRule, Watch};
 use cell_diagnosis::Reading;
 use cell_measures::Durations;
-use cell_turns::PortFault;
+use cell_ports::PortFault;
 use cell_types::{
     AXES, Arm, Axis, Belt, Colour, Command, Machine, Pose, STATIONS, Station, axes_of, axis_number,
     axis_of_arm, faced, home, is_before_press, is_pose_of, machine_of_axis, machine_of_station,

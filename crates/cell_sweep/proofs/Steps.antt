@@ -10,15 +10,15 @@ use Rattle.std.proofs.lemmas.List.{flat_map_more, get_or-map, length-map, map-ap
 use Rattle.std.proofs.lemmas.List.Elements.{All-append, All-cons, All-nil}
 use Rattle.cell_sim.specs.declared.fault.Fault.{Fault}
 use Rattle.cell_sim.specs.declared.fault.PlannedFault.{PlannedFault}
-use Rattle.cell_audit.specs.Watched.{WritesPart}
-use Rattle.cell_audit.specs.declared.watched.WriteFault.{WriteFault}
+use Rattle.cell_output.specs.Watched.{WritesPart}
+use Rattle.cell_output.specs.declared.watched.WriteFault.{WriteFault}
 use Rattle.cell_runs.specs.Inputs.{AreInputs}
 use Rattle.cell_runs.specs.declared.inputs.Inputs.{Inputs}
 use Rattle.cell_runs.specs.declared.inputs.InputError.{InputError}
 use Rattle.cell_types.specs.declared.words.Axis.{Axis}
 use Rattle.cell_types.specs.declared.words.Entry.{Entry}
 use Rattle.cell_explain.specs.Missed.{motions_of}
-use Rattle.cell_turns.specs.declared.plan.Plan.{Plan}
+use Rattle.cell_ports.specs.declared.plan.Plan.{Plan}
 use Rattle.cell_workers.specs.declared.ends.End.{End}
 use Rattle.cell_sweep.specs.declared.sweep.Stop.{Stop}
 use Rattle.cell_sweep.specs.declared.sweep.Stop.TheVariants as stop

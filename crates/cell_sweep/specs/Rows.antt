@@ -6,8 +6,8 @@ use Rattle.std.specs.Io.KnownBytes.{Appends}
 use Rattle.cell_types.specs.declared.words.Entry.{Entry}
 use Rattle.cell_types.specs.declared.words.Totals.{Totals}
 use Rattle.cell_types.specs.Texts.{axis_word}
-use Rattle.cell_views.specs.Views.{count_of}
-use Rattle.cell_turns.specs.declared.plan.Plan.{Plan}
+use Rattle.cell_rules.specs.Views.{count_of}
+use Rattle.cell_ports.specs.declared.plan.Plan.{Plan}
 use Rattle.cell_sim.specs.declared.fault.Fault.{Fault}
 use Rattle.cell_sim.specs.declared.fault.PlannedFault.{PlannedFault}
 use Rattle.cell_workers.specs.declared.ends.End.{End}

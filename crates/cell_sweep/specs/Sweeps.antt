@@ -3,7 +3,7 @@ use Rattle.std.specs.Prelude.{◌≡◌, ◌⊎◌, ℕ, Bool, true, List, [], �
 use Rattle.std.specs.List.{flat_map}
 use Rattle.cell_types.specs.declared.words.Axis.{Axis}
 use Rattle.cell_types.specs.declared.words.Entry.{Entry}
-use Rattle.cell_turns.specs.declared.plan.Plan.{Plan}
+use Rattle.cell_ports.specs.declared.plan.Plan.{Plan}
 use Rattle.cell_sim.specs.declared.fault.Fault.{Fault}
 use Rattle.cell_sim.specs.declared.fault.PlannedFault.{PlannedFault}
 use Rattle.cell_workers.specs.declared.ends.End.{End}

@@ -2,9 +2,9 @@
 ghost use Rattle.std.specs.Prelude.{IfErr, IfOk};
 ghost use Rattle.cell_sweep.specs.Rows.{RefusesRun, RunsTo};
 
+use cell_ports::Plan;
 use cell_runs::{InputError, Inputs, Outcome, read_inputs, simulate};
 use cell_sim::{SimOperator, World};
-use cell_turns::Plan;
 use cell_workers::End;
 use std::alloc::AllocError;
 use std::sync::{Mutex, Wait};

@@ -1,6 +1,6 @@
 //! A sweep by its texts.
 ghost use Rattle.std.specs.Prelude.{◌≡◌, ℕ, true, Err, IfErr, IfOk, IsErr, OnOk, slice_index};
-ghost use Rattle.cell_audit.specs.Watched.{IsSameWriter, bytes_held, has_refused};
+ghost use Rattle.cell_output.specs.Watched.{IsSameWriter, bytes_held, has_refused};
 ghost use Rattle.cell_types.specs.Same.{axis_number};
 ghost use Rattle.cell_sweep.specs.Cases.{cases_of};
 ghost use Rattle.cell_sweep.specs.declared.sweep.Stop.TheVariants as stop;
@@ -14,9 +14,8 @@ use crate::print::{counts_text, head_of, line_of};
 use crate::row::{Row, row_of};
 use crate::runs::{NoRun, run_texts};
 use crate::service::serve;
-use cell_audit::{WatchedWriter, WriteFault};
 use cell_explain::endings::motions;
-use cell_lines::status;
+use cell_output::{WatchedWriter, WriteFault, status};
 use cell_runs::{read_inputs, refuse_input};
 use cell_sim::{Fault, PlannedFault};
 use cell_workers::End;

@@ -3,8 +3,8 @@ use Rattle.std.proofs.Common.{◌≡◌, inl, inr, refl, true, add-zero, List, [
 use Rattle.std.proofs.Common.{◌∙◌, append_assoc, append-nil}
 use Rattle.std.specs.Prelude.{option_to_list}
 use Rattle.cell_types.specs.declared.words.Entry.{Entry}
-use Rattle.cell_turns.specs.declared.port.Act.{Act}
-use Rattle.cell_turns.specs.Logs.{ActLog, after_hand}
+use Rattle.cell_ports.specs.declared.port.Act.{Act}
+use Rattle.cell_ports.specs.Logs.{ActLog, after_hand}
 use Rattle.cell_turns.specs.Acts.{act_of, hands, ActedAtMost, Did}
 
 hands-push : (es : List Entry) (e : Entry) → hands (es ++ e ∷ []) ≡ hands es ++ option_to_list (act_of e)

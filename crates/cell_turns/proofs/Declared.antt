@@ -15,16 +15,16 @@ use Rattle.cell_types.specs.declared.words.Cause.{Cause}
 use Rattle.cell_types.specs.declared.words.Cause.TheVariants as cause
 use Rattle.cell_types.specs.declared.words.Entry.{Entry}
 use Rattle.cell_types.specs.declared.words.Entry.TheVariants.{Admitted, Conveyed, Forged, Delivered, Declared}
-use Rattle.cell_views.specs.Views.{plate_of, is_failed, is_asked, expected_of, is_admitted}
-use Rattle.cell_views.specs.Situations.{Situation, situation_of}
-use Rattle.plate_book.specs.declared.limits.BookLimits.{BookLimits}
+use Rattle.cell_rules.specs.Views.{plate_of, is_failed, is_asked, expected_of, is_admitted}
+use Rattle.cell_rules.specs.Situations.{Situation, situation_of}
+use Rattle.cell_rules.specs.declared.limits.BookLimits.{BookLimits}
 use Rattle.cell_diagnosis.specs.declared.motion.Motion.{Motion}
 use Rattle.cell_diagnosis.specs.declared.reading.Reading.{Reading}
 use Rattle.cell_diagnosis.specs.declared.verdict.Verdict.{Verdict}
 use Rattle.cell_diagnosis.specs.declared.verdict.Verdict.TheVariants.{Pending, Arrived, Fault}
 use Rattle.cell_machines.specs.Room.{is_bookable}
 use Rattle.cell_machines.specs.Useful.{wants, is_useful_now, is_useful}
-use Rattle.cell_turns.specs.declared.plan.Plan.{Plan}
+use Rattle.cell_ports.specs.declared.plan.Plan.{Plan}
 use Rattle.cell_turns.specs.declared.turns.decide.Ruling.{Ruling}
 use Rattle.cell_turns.specs.declared.turns.decide.Ruling.TheVariants.{Nothing, Books, PastLast, Proposes}
 use Rattle.cell_turns.specs.Sent.{is_command_fault}

@@ -13,11 +13,11 @@ use Rattle.cell_types.specs.declared.words.Entry.{Entry}
 use Rattle.cell_types.specs.declared.words.Entry.TheVariants.{Arrived as ArrivedAt, Conveyed, Forged}
 use Rattle.cell_types.specs.declared.cell.BeltMotion.{BeltMotion}
 use Rattle.cell_types.specs.Cell.{machine_of_axis, motion_to}
-use Rattle.cell_views.specs.Views.{going_of, plate_of, is_failed}
-use Rattle.cell_views.specs.Situations.{situation_of}
-use Rattle.plate_book.specs.declared.limits.BookLimits.{BookLimits}
-use Rattle.plate_book.specs.Rules.First.{first_true, ends_by_arrival, conveyed_tests}
-use Rattle.plate_book.specs.Rules.Bridged.{TellsWhatIsLeft}
+use Rattle.cell_rules.specs.Views.{going_of, plate_of, is_failed}
+use Rattle.cell_rules.specs.Situations.{situation_of}
+use Rattle.cell_rules.specs.declared.limits.BookLimits.{BookLimits}
+use Rattle.cell_rules.specs.First.{first_true, ends_by_arrival, conveyed_tests}
+use Rattle.cell_rules.specs.Bridged.{TellsWhatIsLeft}
 use Rattle.cell_turns.specs.Rulings.{conveyed, forged, ending, books}
 use Rattle.cell_turns.specs.Turns.{may_meet}
 use Rattle.cell_turns.proofs.Own.{IsOwn, OwnRuling}

@@ -2,11 +2,11 @@
 use Rattle.std.proofs.Common.{◌≡◌, ◌≢◌, true, false, Option, Some, None, List, refl, sym, ◌∙◌, subst, ◌⊎◌, inl, inr}
 use Rattle.cell_types.specs.declared.words.Machine.{Machine}
 use Rattle.cell_types.specs.declared.words.Entry.{Entry}
-use Rattle.plate_book.specs.declared.limits.BookLimits.{BookLimits}
-use Rattle.plate_book.specs.declared.refusal.Refusal.{Refusal}
-use Rattle.plate_book.specs.declared.refusal.Refusal.TheVariants.{JournalFull, PlateLimit, OutOfMemory}
-use Rattle.plate_book.specs.Rules.Legal.{first_of}
-use Rattle.cell_turns.specs.declared.plan.Plan.{Plan}
+use Rattle.cell_rules.specs.declared.limits.BookLimits.{BookLimits}
+use Rattle.cell_rules.specs.declared.refusal.Refusal.{Refusal}
+use Rattle.cell_rules.specs.declared.refusal.Refusal.TheVariants.{JournalFull, PlateLimit, OutOfMemory}
+use Rattle.cell_rules.specs.Legal.{first_of}
+use Rattle.cell_ports.specs.declared.plan.Plan.{Plan}
 use Rattle.cell_turns.specs.declared.turns.decide.Ruling.{Ruling}
 use Rattle.cell_turns.specs.declared.turns.decide.Ruling.TheVariants.{PastLast}
 use Rattle.cell_turns.specs.Rulings.{ruling}

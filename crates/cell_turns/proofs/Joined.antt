@@ -1,8 +1,8 @@
 -- Schedules, one after another
 use Rattle.std.proofs.Common.{ℕ, ◌+◌, List, [], ◌∷◌, ◌++◌, ap, subst, ◌∙◌, append_assoc, append-nil, add-zero}
 use Rattle.std.proofs.Common.{add_assoc}
-use Rattle.plate_book.specs.declared.limits.BookLimits.{BookLimits}
-use Rattle.cell_turns.specs.declared.plan.Plan.{Plan}
+use Rattle.cell_rules.specs.declared.limits.BookLimits.{BookLimits}
+use Rattle.cell_ports.specs.declared.plan.Plan.{Plan}
 use Rattle.cell_turns.specs.declared.schedule.Step.{Step}
 use Rattle.cell_turns.specs.declared.schedule.Step.TheVariants.{Turn, Hand}
 use Rattle.cell_turns.specs.declared.six.Six.{Six}

@@ -6,7 +6,7 @@ use Rattle.std.proofs.lemmas.List.Sums.{sum_by-append}
 use Rattle.cell_types.specs.declared.words.Command.{Command}
 use Rattle.cell_types.specs.declared.words.Entry.{Entry}
 use Rattle.cell_types.specs.Entries.{command_of}
-use Rattle.cell_turns.specs.Logs.{Log, after_sending}
+use Rattle.cell_ports.specs.Logs.{Log, after_sending}
 use Rattle.cell_turns.specs.Sent.{is_command_fault, fails_before, sent_for, command_faults, one_where, Sends}
 
 -- it takes the next entry to know that a command failed, so the new one decides on the one before it

@@ -6,7 +6,7 @@ use mathlib.Core.Bool.{Bool-set}
 use Rattle.std.specs.Prelude.{is_none}
 use Rattle.cell_types.specs.declared.words.Machine.{Machine}
 use Rattle.cell_types.specs.declared.words.Entry.{Entry}
-use Rattle.plate_book.specs.declared.limits.BookLimits.{BookLimits}
+use Rattle.cell_rules.specs.declared.limits.BookLimits.{BookLimits}
 use Rattle.cell_diagnosis.specs.declared.reading.Reading.{Reading}
 use Rattle.cell_diagnosis.specs.declared.axis_watch.AxisWatch.{AxisWatch}
 use Rattle.cell_diagnosis.specs.declared.rest_watch.RestWatch.{RestWatch}
@@ -14,7 +14,7 @@ use Rattle.cell_diagnosis.specs.RestFacts.{Noted}
 use Rattle.cell_diagnosis.specs.RestRules.{rest}
 use Rattle.cell_diagnosis.specs.RestWatches.{RestFits}
 use Rattle.cell_turns.specs.declared.watch.Memory.{Memory}
-use Rattle.cell_turns.specs.declared.plan.Plan.{Plan}
+use Rattle.cell_ports.specs.declared.plan.Plan.{Plan}
 use Rattle.cell_turns.specs.declared.turns.decide.Findings.{Findings}
 use Rattle.cell_turns.specs.declared.turns.decide.Ruling.{Ruling}
 use Rattle.cell_turns.specs.declared.watch.Watch.{Watch}

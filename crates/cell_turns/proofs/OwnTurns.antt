@@ -6,13 +6,13 @@ use Rattle.cell_types.specs.declared.words.Actor.TheVariants as actor
 use Rattle.cell_types.specs.declared.words.Entry.{Entry}
 use Rattle.cell_types.specs.declared.words.Entry.TheVariants.{Quarantined}
 use Rattle.cell_types.specs.Entries.{actor_of}
-use Rattle.cell_views.specs.Views.{is_quarantined}
-use Rattle.plate_book.specs.declared.limits.BookLimits.{BookLimits}
-use Rattle.plate_book.specs.declared.refusal.Refusal.{Refusal}
-use Rattle.plate_book.specs.declared.refusal.Refusal.TheVariants.{JournalFull}
-use Rattle.plate_book.specs.Rules.Bridged.{TellsWhatIsLeft}
-use Rattle.plate_book.specs.Rules.Legal.{first_of}
-use Rattle.cell_turns.specs.declared.plan.Plan.{Plan}
+use Rattle.cell_rules.specs.Views.{is_quarantined}
+use Rattle.cell_rules.specs.declared.limits.BookLimits.{BookLimits}
+use Rattle.cell_rules.specs.declared.refusal.Refusal.{Refusal}
+use Rattle.cell_rules.specs.declared.refusal.Refusal.TheVariants.{JournalFull}
+use Rattle.cell_rules.specs.Bridged.{TellsWhatIsLeft}
+use Rattle.cell_rules.specs.Legal.{first_of}
+use Rattle.cell_ports.specs.declared.plan.Plan.{Plan}
 use Rattle.cell_turns.specs.declared.turns.decide.Ruling.{Ruling}
 use Rattle.cell_turns.specs.declared.turns.decide.Ruling.TheVariants.{Nothing, Books, PastLast, Proposes}
 use Rattle.cell_turns.specs.Moving.{motion_of_machine}

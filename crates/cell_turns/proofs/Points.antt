@@ -5,7 +5,7 @@ use Rattle.cell_types.specs.declared.words.Cause.TheVariants as cause
 use Rattle.cell_types.specs.declared.words.Entry.{Entry}
 use Rattle.cell_diagnosis.specs.declared.motion.Motion.{Motion}
 use Rattle.cell_diagnosis.specs.declared.verdict.Verdict.{Verdict}
-use Rattle.cell_views.specs.Last.{when}
+use Rattle.cell_rules.specs.Last.{when}
 use Rattle.cell_turns.specs.declared.turns.decide.Ruling.{Ruling}
 use Rattle.cell_turns.specs.declared.turns.decide.Ruling.TheVariants.{Nothing, Proposes}
 use Rattle.cell_turns.specs.Rulings.{signed, declares, fault_found, end_found, first_ruling}

@@ -8,9 +8,9 @@ use Rattle.cell_types.specs.declared.words.Axis.{Axis}
 use Rattle.cell_types.specs.declared.words.Pose.{Pose}
 use Rattle.cell_types.specs.declared.words.Entry.{Entry}
 use Rattle.cell_types.specs.Cell.{machine_of_axis, axes_of}
-use Rattle.cell_views.specs.Views.{at_of, going_of}
+use Rattle.cell_rules.specs.Views.{at_of, going_of}
 use Rattle.cell_diagnosis.specs.declared.motion.Motion.{Motion}
-use Rattle.cell_turns.specs.declared.plan.Plan.{Plan}
+use Rattle.cell_ports.specs.declared.plan.Plan.{Plan}
 use Rattle.cell_turns.specs.Moving.{limits_of, motion_on, motion_of_axis, motion_of_machine}
 
 pub record Shown (J : List Entry) (m : Machine) (mo : Motion) : Type 0 where

@@ -13,9 +13,9 @@ use Rattle.cell_types.specs.declared.words.Entry.{Entry}
 use Rattle.cell_types.specs.declared.words.Entry.TheVariants.{Admitted, Delivered, Reinstated}
 use Rattle.cell_types.specs.Same.{same_colour}
 use Rattle.cell_types.specs.After.{is_plate}
-use Rattle.cell_views.specs.Views.{plate_of, is_failed, lamp_of, expected_of, is_admitted}
-use Rattle.plate_book.specs.declared.limits.BookLimits.{BookLimits}
-use Rattle.plate_book.specs.Rules.Bridged.{TellsWhatIsLeft}
+use Rattle.cell_rules.specs.Views.{plate_of, is_failed, lamp_of, expected_of, is_admitted}
+use Rattle.cell_rules.specs.declared.limits.BookLimits.{BookLimits}
+use Rattle.cell_rules.specs.Bridged.{TellsWhatIsLeft}
 use Rattle.cell_turns.specs.declared.turns.decide.Ruling.TheVariants.{Books, PastLast}
 use Rattle.cell_turns.specs.Rulings.{next_plate, laid_in, books, signed}
 use Rattle.cell_diagnosis.specs.declared.reading.Reading.{Reading}

@@ -8,12 +8,12 @@ use Rattle.cell_types.specs.declared.words.Entry.{Entry}
 use Rattle.cell_types.specs.declared.words.Entry.TheVariants.{Admitted}
 use Rattle.cell_types.specs.Same.{same_pose, pose_number}
 use Rattle.cell_types.specs.After.{is_plate}
-use Rattle.cell_views.specs.Views.{going_of, plate_of, is_at, has_other}
-use Rattle.cell_views.specs.Situations.{Situation}
-use Rattle.plate_book.specs.declared.refusal.Refusal.{Refusal}
-use Rattle.plate_book.specs.declared.refusal.Refusal.TheVariants.{JournalFull, PlateLimit}
-use Rattle.plate_book.specs.Rules.First.{first_true, is_pose}
-use Rattle.plate_book.specs.Rules.Bridged.{TellsWhatIsLeft}
+use Rattle.cell_rules.specs.Views.{going_of, plate_of, is_at, has_other}
+use Rattle.cell_rules.specs.Situations.{Situation}
+use Rattle.cell_rules.specs.declared.refusal.Refusal.{Refusal}
+use Rattle.cell_rules.specs.declared.refusal.Refusal.TheVariants.{JournalFull, PlateLimit}
+use Rattle.cell_rules.specs.First.{first_true, is_pose}
+use Rattle.cell_rules.specs.Bridged.{TellsWhatIsLeft}
 use Rattle.cell_turns.specs.Turns.{may_meet}
 
 -- any entry may meet a full journal, so that test may refuse it

@@ -2,9 +2,9 @@
 use Rattle.std.specs.Prelude.{◌≡◌, ◌⊎◌, List, [], ◌∷◌, ◌++◌, Option, Some, None, option_to_list}
 use Rattle.cell_types.specs.declared.words.Entry.{Entry}
 use Rattle.cell_types.specs.declared.words.Entry.TheVariants.{Quarantined, Repaired}
-use Rattle.cell_turns.specs.declared.port.Act.{Act}
-use Rattle.cell_turns.specs.declared.port.Act.TheVariants.{Remove, Home}
-use Rattle.cell_turns.specs.Logs.{ActLog}
+use Rattle.cell_ports.specs.declared.port.Act.{Act}
+use Rattle.cell_ports.specs.declared.port.Act.TheVariants.{Remove, Home}
+use Rattle.cell_ports.specs.Logs.{ActLog}
 
 -- he takes a plate out before it is booked, and sends a machine's axes home before its repair is
 abbrev pub act_of : Entry → Option Act

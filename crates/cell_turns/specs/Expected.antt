@@ -13,7 +13,7 @@ use Rattle.cell_types.specs.declared.words.Colour.TheVariants as colour
 use Rattle.cell_types.specs.declared.words.Entry.{Entry}
 use Rattle.cell_types.specs.Cell.{axes_of, stations_of}
 use Rattle.cell_types.specs.Same.{same_colour}
-use Rattle.cell_views.specs.Views.{at_of, going_of, plate_of, lamp_of}
+use Rattle.cell_rules.specs.Views.{at_of, going_of, plate_of, lamp_of}
 use Rattle.cell_diagnosis.specs.declared.expect.Expect.{Expect}
 
 -- the booked pose of an axis at rest; an axis that moves isn't looked at

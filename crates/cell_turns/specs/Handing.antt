@@ -3,11 +3,11 @@ use Rattle.std.specs.Prelude.{◌≡◌, ◌≢◌, ◌⊎◌, true, false, Opti
 use Rattle.cell_types.specs.declared.words.Actor.TheVariants as actor
 use Rattle.cell_types.specs.declared.words.Entry.{Entry}
 use Rattle.cell_types.specs.Entries.{actor_of}
-use Rattle.plate_book.specs.declared.limits.BookLimits.{BookLimits}
-use Rattle.plate_book.specs.Rules.Legal.{first_of}
+use Rattle.cell_rules.specs.declared.limits.BookLimits.{BookLimits}
+use Rattle.cell_rules.specs.Legal.{first_of}
 use Rattle.cell_turns.specs.declared.schedule.Handed.{Handed}
 use Rattle.cell_turns.specs.declared.schedule.Handed.TheVariants.{Spared, Failed, Booked}
-use Rattle.cell_turns.specs.Logs.{ActLog, after_hand}
+use Rattle.cell_ports.specs.Logs.{ActLog, after_hand}
 use Rattle.cell_turns.specs.Acts.{act_of}
 
 -- an entry of the operator that the book allows

@@ -1,12 +1,12 @@
 -- Schedules, one after another
 use Rattle.std.specs.Prelude.{ℕ, ◌≡◌, ◌+◌, Bool, true, List, ◌++◌}
-use Rattle.plate_book.specs.declared.limits.BookLimits.{BookLimits}
-use Rattle.plate_book.specs.Rules.History.{History}
-use Rattle.cell_turns.specs.declared.plan.Plan.{Plan}
+use Rattle.cell_rules.specs.declared.limits.BookLimits.{BookLimits}
+use Rattle.cell_rules.specs.History.{History}
+use Rattle.cell_ports.specs.declared.plan.Plan.{Plan}
 use Rattle.cell_turns.specs.declared.schedule.Step.{Step}
 use Rattle.cell_turns.specs.declared.six.Six.{Six}
 use Rattle.cell_turns.specs.declared.watch.Watch.{Watch}
-use Rattle.cell_turns.specs.Logs.{ActLog}
+use Rattle.cell_ports.specs.Logs.{ActLog}
 use Rattle.cell_turns.specs.Schedules.{Now, Leads, Scheduled}
 
 -- steps that lead from one state to a second, and steps that lead from there to a third, lead together from the first

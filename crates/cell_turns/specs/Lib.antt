@@ -1,5 +1,4 @@
 pub mod Six
-pub mod Logs
 pub mod Sent
 pub mod Acts
 pub mod Moving

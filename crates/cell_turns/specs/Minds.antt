@@ -3,7 +3,7 @@
 use Rattle.std.specs.Prelude.{◌≡◌, ◌&&◌, Bool, true, false, not, Option, None, List, [], length}
 use Rattle.cell_types.specs.declared.words.Machine.{Machine}
 use Rattle.cell_types.specs.declared.words.Entry.{Entry}
-use Rattle.cell_views.specs.Views.{is_failed}
+use Rattle.cell_rules.specs.Views.{is_failed}
 use Rattle.cell_diagnosis.specs.Ends.{last_are}
 use Rattle.cell_diagnosis.specs.RestFacts.{Noted, agrees}
 use Rattle.cell_diagnosis.specs.RestWatches.{RestFits}

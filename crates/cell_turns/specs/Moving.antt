@@ -7,10 +7,10 @@ use Rattle.cell_types.specs.declared.words.Axis.{Axis}
 use Rattle.cell_types.specs.declared.words.Entry.{Entry}
 use Rattle.cell_types.specs.Cell.{axes_of}
 use Rattle.cell_types.specs.Same.{axis_number}
-use Rattle.cell_views.specs.Views.{at_of, going_of}
+use Rattle.cell_rules.specs.Views.{at_of, going_of}
 use Rattle.cell_diagnosis.specs.Bounds.{Bounds}
 use Rattle.cell_diagnosis.specs.declared.motion.Motion.{Motion}
-use Rattle.cell_turns.specs.declared.plan.Plan.{Plan}
+use Rattle.cell_ports.specs.declared.plan.Plan.{Plan}
 
 -- how many readings a motion of the axis may take
 abbrev pub limits_of : Plan → Axis → Bounds

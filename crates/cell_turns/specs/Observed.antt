@@ -12,7 +12,7 @@ use Rattle.cell_diagnosis.specs.Readings.{seen}
 use Rattle.cell_diagnosis.specs.AxisRules.{verdict}
 use Rattle.cell_diagnosis.specs.RestFacts.{Noted, noted}
 use Rattle.cell_diagnosis.specs.RestRules.{rest}
-use Rattle.cell_turns.specs.declared.plan.Plan.{Plan}
+use Rattle.cell_ports.specs.declared.plan.Plan.{Plan}
 use Rattle.cell_turns.specs.declared.watch.Memory.{Memory}
 use Rattle.cell_turns.specs.declared.turns.decide.Findings.{Findings}
 use Rattle.cell_turns.specs.Moving.{motion_of_machine}

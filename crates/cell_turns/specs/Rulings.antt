@@ -18,13 +18,13 @@ use Rattle.cell_types.specs.declared.cell.Press.{Press}
 use Rattle.cell_types.specs.Cell.{home, machine_of_axis, motion_named, press_of}
 use Rattle.cell_types.specs.Limits.{max_plates}
 use Rattle.cell_types.specs.Same.{same_pose}
-use Rattle.cell_views.specs.Last.{when}
-use Rattle.cell_views.specs.Views.{is_failed, is_asked, is_admitted, plate_of, expected_of}
+use Rattle.cell_rules.specs.Last.{when}
+use Rattle.cell_rules.specs.Views.{is_failed, is_asked, is_admitted, plate_of, expected_of}
 use Rattle.cell_diagnosis.specs.declared.motion.Motion.{Motion}
 use Rattle.cell_diagnosis.specs.declared.reading.Reading.{Reading}
 use Rattle.cell_diagnosis.specs.declared.verdict.Verdict.{Verdict}
 use Rattle.cell_diagnosis.specs.declared.verdict.Verdict.TheVariants.{Arrived, Fault}
-use Rattle.cell_turns.specs.declared.plan.Plan.{Plan}
+use Rattle.cell_ports.specs.declared.plan.Plan.{Plan}
 use Rattle.cell_turns.specs.declared.watch.Memory.{Memory}
 use Rattle.cell_turns.specs.declared.turns.decide.Findings.{Findings}
 use Rattle.cell_turns.specs.declared.turns.decide.Ruling.{Ruling}

@@ -8,22 +8,22 @@ use Rattle.cell_types.specs.declared.words.Actor.TheVariants as actor
 use Rattle.cell_types.specs.declared.words.Entry.{Entry}
 use Rattle.cell_types.specs.Entries.{actor_of, command_of}
 use Rattle.cell_types.specs.Same.{same_machine}
-use Rattle.cell_views.specs.Views.{count_of}
-use Rattle.plate_book.specs.declared.limits.BookLimits.{BookLimits}
-use Rattle.plate_book.specs.declared.refusal.Refusal.{Refusal}
-use Rattle.plate_book.specs.Rules.History.{History}
-use Rattle.plate_book.specs.Rules.Legal.{first_of}
+use Rattle.cell_rules.specs.Views.{count_of}
+use Rattle.cell_rules.specs.declared.limits.BookLimits.{BookLimits}
+use Rattle.cell_rules.specs.declared.refusal.Refusal.{Refusal}
+use Rattle.cell_rules.specs.History.{History}
+use Rattle.cell_rules.specs.Legal.{first_of}
 use Rattle.cell_ledger.specs.Counts.{plus}
 use Rattle.cell_ledger.specs.Held.{Held, held}
 use Rattle.cell_diagnosis.specs.declared.reading.Reading.{Reading}
-use Rattle.cell_turns.specs.declared.plan.Plan.{Plan}
-use Rattle.cell_turns.specs.declared.port.Act.{Act}
+use Rattle.cell_ports.specs.declared.plan.Plan.{Plan}
+use Rattle.cell_ports.specs.declared.port.Act.{Act}
 use Rattle.cell_turns.specs.declared.schedule.Step.{Step}
 use Rattle.cell_turns.specs.declared.schedule.Step.TheVariants.{Turn, Hand}
 use Rattle.cell_turns.specs.declared.six.Six.{Six}
 use Rattle.cell_turns.specs.declared.watch.Watch.{Watch}
 use Rattle.cell_turns.specs.Six.{at, put}
-use Rattle.cell_turns.specs.Logs.{Log, ActLog}
+use Rattle.cell_ports.specs.Logs.{Log, ActLog}
 use Rattle.cell_turns.specs.Sent.{SendsUnread}
 use Rattle.cell_turns.specs.Acts.{act_of, DidMore}
 use Rattle.cell_turns.specs.Handing.{IsHis, IsSpared}

@@ -6,7 +6,7 @@ use Rattle.cell_types.specs.declared.words.Cause.TheVariants.{CommandFault}
 use Rattle.cell_types.specs.declared.words.Entry.{Entry}
 use Rattle.cell_types.specs.declared.words.Entry.TheVariants.{Declared}
 use Rattle.cell_types.specs.Entries.{command_of}
-use Rattle.cell_turns.specs.Logs.{Log}
+use Rattle.cell_ports.specs.Logs.{Log}
 
 abbrev pub is_command_fault : Entry → Bool
 is_command_fault (Declared m CommandFault) = true

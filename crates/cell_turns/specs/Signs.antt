@@ -6,7 +6,7 @@ use Rattle.cell_types.specs.declared.words.Belt.TheVariants as belt
 use Rattle.cell_types.specs.declared.words.Colour.TheVariants as colour
 use Rattle.cell_types.specs.declared.words.Entry.{Entry}
 use Rattle.cell_types.specs.Same.{same_colour}
-use Rattle.cell_views.specs.Views.{lamp_of}
+use Rattle.cell_rules.specs.Views.{lamp_of}
 use Rattle.cell_diagnosis.specs.declared.reading.Reading.{Reading}
 use Rattle.cell_diagnosis.specs.Readings.{bit}
 

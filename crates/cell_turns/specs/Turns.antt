@@ -8,17 +8,17 @@ use Rattle.cell_types.specs.declared.words.Entry.TheVariants.{Arrived, Conveyed,
 use Rattle.std.specs.Option.{option_and_then}
 use Rattle.cell_types.specs.Entries.{actor_of, command_of}
 use Rattle.cell_types.specs.declared.words.Actor.TheVariants as actor
-use Rattle.cell_views.specs.Views.{is_failed, is_asked, is_admitted, is_quarantined, count_of}
-use Rattle.plate_book.specs.declared.limits.BookLimits.{BookLimits}
-use Rattle.plate_book.specs.declared.refusal.Refusal.{Refusal}
-use Rattle.plate_book.specs.declared.refusal.Refusal.TheVariants.{JournalFull, PlateLimit, OutOfMemory}
-use Rattle.plate_book.specs.Rules.History.{History}
-use Rattle.plate_book.specs.Rules.Legal.{first_of}
+use Rattle.cell_rules.specs.Views.{is_failed, is_asked, is_admitted, is_quarantined, count_of}
+use Rattle.cell_rules.specs.declared.limits.BookLimits.{BookLimits}
+use Rattle.cell_rules.specs.declared.refusal.Refusal.{Refusal}
+use Rattle.cell_rules.specs.declared.refusal.Refusal.TheVariants.{JournalFull, PlateLimit, OutOfMemory}
+use Rattle.cell_rules.specs.History.{History}
+use Rattle.cell_rules.specs.Legal.{first_of}
 use Rattle.cell_ledger.specs.Counts.{plus}
 use Rattle.cell_ledger.specs.Held.{Held, held}
 use Rattle.cell_diagnosis.specs.declared.reading.Reading.{Reading}
 use Rattle.cell_machines.specs.Useful.{is_useful}
-use Rattle.cell_turns.specs.declared.plan.Plan.{Plan}
+use Rattle.cell_ports.specs.declared.plan.Plan.{Plan}
 use Rattle.cell_turns.specs.declared.watch.Memory.{Memory}
 use Rattle.cell_turns.specs.declared.turns.TurnError.{TurnError}
 use Rattle.cell_turns.specs.declared.turns.TurnError.TheVariants.{OutOfMemory as NoMemory, Refused}

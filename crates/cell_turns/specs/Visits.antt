@@ -7,8 +7,8 @@ use Rattle.cell_types.specs.declared.words.Zone.TheVariants as zone
 use Rattle.cell_types.specs.declared.words.Entry.{Entry}
 use Rattle.cell_types.specs.Cell.{visitor}
 use Rattle.cell_types.specs.After.{is_machine}
-use Rattle.cell_views.specs.Views.{holder_of}
-use Rattle.plate_book.specs.Rules.Claims.{claimed_since}
+use Rattle.cell_rules.specs.Views.{holder_of}
+use Rattle.plate_book.specs.Claims.{claimed_since}
 use Rattle.cell_turns.specs.declared.watch.Memory.{Memory}
 
 -- a zone that the machine owns passes the test

@@ -1,16 +1,16 @@
 //! What the operator does by hand, and its booking.
 ghost use Rattle.std.specs.Prelude.{◌≡◌, ◌++◌, true, false, None, IfOk, OnErr, is_ok, is_some, option_to_list};
-ghost use Rattle.cell_views.specs.Views.{count_of};
+ghost use Rattle.cell_rules.specs.Views.{count_of};
 ghost use Rattle.cell_ledger.specs.Counts.{plus};
 ghost use Rattle.cell_ledger.specs.Held.{held};
-ghost use Rattle.cell_turns.specs.Logs.{after_act, after_hand};
+ghost use Rattle.cell_ports.specs.Logs.{after_act, after_hand};
 ghost use Rattle.cell_turns.specs.Acts.{act_of, ActedAtMost};
 ghost use Rattle.cell_turns.specs.Handing.{IsHis, IsSpared, IsHanded, handed_entry, handed_log};
 
 use crate::schedule::{Handed, OutOfMemory};
 use crate::turns::book::book_entry;
-use crate::{Act, OperatorPort, PortFault};
 use cell_ledger::{Kept, Run, Shares};
+use cell_ports::{Act, OperatorPort, PortFault};
 use cell_types::{Actor, Entry, actor_of};
 use plate_book::Book;
 

@@ -4,8 +4,6 @@
 
 pub mod hands;
 pub mod joining;
-pub mod plan;
-pub mod port;
 pub mod schedule;
 pub mod scheduling;
 pub mod six;
@@ -14,8 +12,7 @@ pub mod watch;
 pub mod watches;
 mod watching;
 
-pub use plan::Plan;
-pub use port::{Act, OperatorPort, Port, PortFault};
+pub use cell_ports::{Act, OperatorPort, Plan, Port, PortFault};
 pub use schedule::{OutOfMemory, Step};
 pub use scheduling::{Ran, run_schedule, run_step};
 pub use six::{Ports, Six};

@@ -10,8 +10,8 @@ ghost use Rattle.std.specs.Prelude.{◌≡◌, ◌&&◌, ◌++◌, None, is_none
 ghost use Rattle.std.specs.Prelude.{vec_len, vec_capacity};
 ghost use Rattle.cell_types.specs.Entries.{actor_of};
 ghost use Rattle.cell_types.specs.declared.words.Actor.TheVariants as actors;
-ghost use Rattle.cell_views.specs.Views.{count_of};
-ghost use Rattle.plate_book.specs.Rules.Legal.{first_of};
+ghost use Rattle.cell_rules.specs.Views.{count_of};
+ghost use Rattle.cell_rules.specs.Legal.{first_of};
 ghost use Rattle.cell_ledger.specs.Counts.{plus};
 ghost use Rattle.cell_ledger.specs.Held.{held};
 ghost use Rattle.cell_turns.specs.Minds.{Mind, FitsMind, machine_of_watch, has_failed_command};
@@ -25,10 +25,11 @@ mod observe;
 pub(crate) mod remember;
 pub mod send;
 
-use crate::{Plan, Watch};
+use crate::Watch;
 use cell_diagnosis::Reading;
 use cell_ledger::{Kept, Run, Shares};
 use cell_machines::laws::{useful_is_bookable, useful_is_own};
+use cell_ports::Plan;
 use cell_types::{Command, Entry, Machine, command_of};
 use plate_book::Refusal;
 

@@ -8,3 +8,4 @@ pub mod Records
 pub mod Numbers
 pub mod Spelling
 pub mod After
+pub mod Room

@@ -19,9 +19,9 @@ use Rattle.cell_types.specs.declared.words.Entry.TheVariants.{Admitted, Arrived 
 use Rattle.cell_types.specs.declared.words.Entry.TheVariants.{Delivered, Declared, Reinstated}
 use Rattle.cell_types.specs.declared.cell.BeltMotion.{BeltMotion}
 use Rattle.cell_types.specs.Cell.{press_axis, motion_to}
-use Rattle.cell_views.specs.Views.{plate_of, is_failed, is_asked, expected_of, is_admitted}
-use Rattle.cell_views.specs.Situations.{Situation, situation_of}
-use Rattle.plate_book.specs.declared.limits.BookLimits.{BookLimits}
+use Rattle.cell_rules.specs.Views.{plate_of, is_failed, is_asked, expected_of, is_admitted}
+use Rattle.cell_rules.specs.Situations.{Situation, situation_of}
+use Rattle.cell_rules.specs.declared.limits.BookLimits.{BookLimits}
 use Rattle.cell_diagnosis.specs.declared.motion.Motion.{Motion}
 use Rattle.cell_diagnosis.specs.declared.reading.Reading.{Reading}
 use Rattle.cell_diagnosis.specs.declared.verdict.Verdict.{Verdict}
@@ -33,7 +33,7 @@ use Rattle.cell_diagnosis.specs.RestRules.{is_silent_at_rest, axis_fault, is_pla
 use Rattle.cell_diagnosis.specs.RestRules.{judged_at_rest, rest}
 use Rattle.cell_machines.specs.Room.{is_bookable}
 use Rattle.cell_machines.specs.Useful.{wants, is_useful_now, is_useful}
-use Rattle.cell_turns.specs.declared.plan.Plan.{Plan}
+use Rattle.cell_ports.specs.declared.plan.Plan.{Plan}
 use Rattle.cell_turns.specs.declared.watch.Memory.{Memory}
 use Rattle.cell_turns.specs.declared.turns.decide.Findings.{Findings}
 use Rattle.cell_turns.specs.declared.turns.decide.Ruling.{Ruling}

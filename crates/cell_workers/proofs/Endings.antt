@@ -17,12 +17,12 @@ use Rattle.cell_types.specs.declared.words.Entry.{Entry}
 use Rattle.cell_types.specs.declared.words.Entry.TheVariants.{Started, Conveyed, Forged, Declared}
 use Rattle.cell_types.specs.Cell.{machine_of_axis}
 use Rattle.cell_types.specs.Same.{same_axis, same_machine}
-use Rattle.cell_views.specs.Last.{last_some, when}
-use Rattle.cell_views.specs.Views.{sends, rests, going_of, is_failed, fails, is_at, placed, is_occupied, plate_of}
-use Rattle.plate_book.specs.Rules.Safety.{IsSafe, SafeEntry, IsSafeMove}
-use Rattle.plate_book.specs.Rules.Carrying.{IsCarrying}
-use Rattle.plate_book.proofs.Safe.Facts.{axis_same}
-use Rattle.plate_book.proofs.Safe.Views.{view_snoc}
+use Rattle.cell_rules.specs.Last.{last_some, when}
+use Rattle.cell_rules.specs.Views.{sends, rests, going_of, is_failed, fails, is_at, placed, is_occupied, plate_of}
+use Rattle.cell_rules.specs.Safety.{IsSafe, SafeEntry, IsSafeMove}
+use Rattle.cell_rules.specs.Carrying.{IsCarrying}
+use Rattle.cell_rules.proofs.Safe.Facts.{axis_same}
+use Rattle.cell_rules.proofs.Safe.Views.{view_snoc}
 use Rattle.cell_turns.specs.Rulings.{ending}
 use Rattle.cell_turns.specs.Turns.{ends_motion}
 

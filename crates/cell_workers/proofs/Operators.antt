@@ -9,13 +9,13 @@ use Rattle.operator_desk.specs.declared.action.Action.{Action}
 use Rattle.operator_desk.specs.declared.action.Action.TheVariants as action
 use Rattle.operator_desk.specs.declared.line.Line.{Line}
 use Rattle.operator_desk.specs.Next.{entry_of, holds, action_of, action_now, if_allowed, next_of, left_after}
-use Rattle.plate_book.specs.Rules.History.{History}
-use Rattle.plate_book.specs.Rules.Legal.{allowed, first_of}
-use Rattle.plate_book.specs.declared.limits.BookLimits.{BookLimits}
-use Rattle.plate_book.specs.declared.refusal.Refusal.{Refusal}
+use Rattle.cell_rules.specs.History.{History}
+use Rattle.cell_rules.specs.Legal.{allowed, first_of}
+use Rattle.cell_rules.specs.declared.limits.BookLimits.{BookLimits}
+use Rattle.cell_rules.specs.declared.refusal.Refusal.{Refusal}
 use Rattle.std.specs.Option.{option_and_then}
-use Rattle.cell_turns.specs.declared.port.Act.{Act}
-use Rattle.cell_turns.specs.Logs.{ActLog, after_hand}
+use Rattle.cell_ports.specs.declared.port.Act.{Act}
+use Rattle.cell_ports.specs.Logs.{ActLog, after_hand}
 use Rattle.cell_turns.specs.Acts.{act_of, Did}
 use Rattle.cell_turns.proofs.Acts.{did_push}
 use Rattle.cell_workers.specs.declared.hall.Ended.{Ended}

@@ -18,16 +18,16 @@ use Rattle.cell_types.specs.declared.words.Entry.{Entry}
 use Rattle.cell_types.specs.declared.words.Entry.TheVariants.{Lamp, Admitted, Claimed, Yielded, Started, Conveyed}
 use Rattle.cell_types.specs.declared.words.Entry.TheVariants.{Forged, Gripped, Dropped, Delivered}
 use Rattle.cell_types.specs.Entries.{actor_of}
-use Rattle.cell_views.specs.Views.{plate_of, is_failed, is_asked, expected_of, is_admitted}
-use Rattle.plate_book.specs.declared.limits.BookLimits.{BookLimits}
-use Rattle.plate_book.specs.Rules.History.{History}
+use Rattle.cell_rules.specs.Views.{plate_of, is_failed, is_asked, expected_of, is_admitted}
+use Rattle.cell_rules.specs.declared.limits.BookLimits.{BookLimits}
+use Rattle.cell_rules.specs.History.{History}
 use Rattle.cell_machines.specs.Useful.{is_useful, is_lamp}
 use Rattle.cell_machines.proofs.Own.{useful_own, plan_law}
 use Rattle.cell_diagnosis.specs.declared.motion.Motion.{Motion}
 use Rattle.cell_diagnosis.specs.declared.reading.Reading.{Reading}
 use Rattle.cell_diagnosis.specs.declared.verdict.Verdict.{Verdict}
 use Rattle.cell_diagnosis.specs.declared.verdict.Verdict.TheVariants.{Pending, Arrived, Fault}
-use Rattle.cell_turns.specs.declared.plan.Plan.{Plan}
+use Rattle.cell_ports.specs.declared.plan.Plan.{Plan}
 use Rattle.cell_turns.specs.declared.turns.decide.Findings.{Findings}
 use Rattle.cell_turns.specs.declared.turns.decide.Ruling.{Ruling}
 use Rattle.cell_turns.specs.declared.turns.decide.Ruling.TheVariants.{Nothing, Books, PastLast, Proposes}

@@ -15,8 +15,8 @@ use Rattle.cell_types.specs.declared.words.Cause.{Cause}
 use Rattle.cell_types.specs.declared.words.Entry.{Entry}
 use Rattle.cell_types.specs.Cell.{machine_of_axis, axes_of}
 use Rattle.cell_types.specs.Same.{same_axis, same_pose, same_colour}
-use Rattle.cell_views.specs.Views.{at_of, going_of, lamp_of}
-use Rattle.plate_book.proofs.Safe.Facts.{axis_same, pose_same}
+use Rattle.cell_rules.specs.Views.{at_of, going_of, lamp_of}
+use Rattle.cell_rules.proofs.Safe.Facts.{axis_same, pose_same}
 use Rattle.cell_diagnosis.specs.declared.motion.Motion.{Motion}
 use Rattle.cell_diagnosis.specs.declared.reading.Reading.{Reading}
 use Rattle.cell_diagnosis.specs.declared.expect.Expect.{Expect}
@@ -26,7 +26,7 @@ use Rattle.cell_diagnosis.specs.Readings.{bit, seen}
 use Rattle.cell_diagnosis.specs.AxisRules.{verdict}
 use Rattle.cell_diagnosis.specs.RestFacts.{Noted, noted}
 use Rattle.cell_diagnosis.specs.RestRules.{rest}
-use Rattle.cell_turns.specs.declared.plan.Plan.{Plan}
+use Rattle.cell_ports.specs.declared.plan.Plan.{Plan}
 use Rattle.cell_turns.specs.declared.watch.Memory.{Memory}
 use Rattle.cell_turns.specs.Moving.{limits_of, motion_on, motion_of_axis, motion_of_machine}
 use Rattle.cell_turns.specs.Signs.{shows_sign}

@@ -11,16 +11,16 @@ use Rattle.cell_types.specs.declared.words.Command.{Command}
 use Rattle.cell_types.specs.declared.words.Command.TheVariants.{AllOff}
 use Rattle.cell_types.specs.declared.words.Entry.{Entry}
 use Rattle.cell_types.specs.Entries.{actor_of}
-use Rattle.cell_views.specs.Views.{count_of}
-use Rattle.plate_book.specs.declared.limits.BookLimits.{BookLimits}
-use Rattle.plate_book.specs.Rules.Safety.{IsSafe}
-use Rattle.plate_book.specs.Rules.Carrying.{IsCarrying}
+use Rattle.cell_rules.specs.Views.{count_of}
+use Rattle.cell_rules.specs.declared.limits.BookLimits.{BookLimits}
+use Rattle.cell_rules.specs.Safety.{IsSafe}
+use Rattle.cell_rules.specs.Carrying.{IsCarrying}
 use Rattle.cell_ledger.specs.Counts.{plus}
 use Rattle.cell_ledger.specs.Held.{Held, held}
 use Rattle.cell_diagnosis.specs.declared.reading.Reading.{Reading}
-use Rattle.cell_turns.specs.declared.plan.Plan.{Plan}
+use Rattle.cell_ports.specs.declared.plan.Plan.{Plan}
 use Rattle.cell_turns.specs.declared.watch.Watch.{Watch}
-use Rattle.cell_turns.specs.Logs.{Log, after_read, after_command, after_sending}
+use Rattle.cell_ports.specs.Logs.{Log, after_read, after_command, after_sending}
 use Rattle.cell_turns.specs.Sent.{is_command_fault, command_faults, one_where, Sends}
 use Rattle.cell_turns.specs.Minds.{Mind, FitsMind, first_mind, with_failure, remembered, has_failed_command}
 use Rattle.cell_turns.specs.Turns.{IsDecided, mind_after}

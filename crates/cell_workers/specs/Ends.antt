@@ -7,8 +7,8 @@ use Rattle.cell_types.specs.declared.words.Station.TheVariants as station
 use Rattle.cell_types.specs.declared.words.Belt.TheVariants as belt
 use Rattle.cell_types.specs.declared.words.Colour.TheVariants as colour
 use Rattle.cell_types.specs.Same.{same_colour}
-use Rattle.cell_views.specs.Views.{count_of, plate_of, lamp_of, is_failed}
-use Rattle.cell_turns.specs.declared.plan.Plan.{Plan}
+use Rattle.cell_rules.specs.Views.{count_of, plate_of, lamp_of, is_failed}
+use Rattle.cell_ports.specs.declared.plan.Plan.{Plan}
 use Rattle.cell_turns.specs.Moving.{motion_of_machine}
 use Rattle.cell_turns.specs.Minds.{Mind, is_quiet}
 

@@ -22,7 +22,7 @@ use Rattle.cell_diagnosis.specs.Readings.{bit, Seen, seen}
 use Rattle.cell_diagnosis.specs.AxisRules.{verdict}
 use Rattle.cell_diagnosis.specs.RestFacts.{Noted, noted}
 use Rattle.cell_diagnosis.specs.RestRules.{rest}
-use Rattle.cell_turns.specs.declared.plan.Plan.{Plan}
+use Rattle.cell_ports.specs.declared.plan.Plan.{Plan}
 use Rattle.cell_turns.specs.Moving.{limits_of}
 
 -- readings as the watch of a motion sees them

@@ -1,19 +1,19 @@
 -- What the operator's worker does of his script, and what his hands did for his list of entries
 use Rattle.std.specs.Prelude.{◌≡◌, ◌+◌, ◌⊎◌, ⊤, true, Some, is_some, List, [], ◌∷◌, ◌++◌}
 use Rattle.cell_types.specs.declared.words.Entry.{Entry}
-use Rattle.cell_turns.specs.declared.port.Act.{Act}
-use Rattle.cell_turns.specs.Logs.{ActLog}
+use Rattle.cell_ports.specs.declared.port.Act.{Act}
+use Rattle.cell_ports.specs.Logs.{ActLog}
 use Rattle.cell_turns.specs.Acts.{act_of, hands}
 use Rattle.cell_workers.specs.declared.hall.Ended.{Ended}
 use Rattle.cell_workers.specs.declared.hall.Ended.TheVariants.{Told, Memory, Full, PortLost}
 use Rattle.operator_desk.specs.Next.{entry_of, left_after, next_of}
 use Rattle.operator_desk.specs.declared.action.Action.{Action}
 use Rattle.operator_desk.specs.declared.line.Line.{Line}
-use Rattle.plate_book.specs.Rules.History.{History}
-use Rattle.plate_book.specs.Rules.Legal.{first_of, legal}
-use Rattle.plate_book.specs.declared.limits.BookLimits.{BookLimits}
-use Rattle.plate_book.specs.declared.refusal.Refusal.{Refusal}
-use Rattle.plate_book.specs.declared.refusal.Refusal.TheVariants.{JournalFull}
+use Rattle.cell_rules.specs.History.{History}
+use Rattle.cell_rules.specs.Legal.{first_of, legal}
+use Rattle.cell_rules.specs.declared.limits.BookLimits.{BookLimits}
+use Rattle.cell_rules.specs.declared.refusal.Refusal.{Refusal}
+use Rattle.cell_rules.specs.declared.refusal.Refusal.TheVariants.{JournalFull}
 
 -- on some journal that is legal within the limits, the lines that aren't done yet give an action that is booked by this
 -- entry

@@ -5,10 +5,10 @@ use Rattle.cell_types.specs.declared.words.Actor.{Actor}
 use Rattle.cell_types.specs.declared.words.Actor.TheVariants as actor
 use Rattle.cell_types.specs.declared.words.Entry.{Entry}
 use Rattle.cell_types.specs.declared.words.Totals.{Totals}
-use Rattle.cell_views.specs.Views.{count_of}
-use Rattle.plate_book.specs.declared.limits.BookLimits.{BookLimits}
-use Rattle.plate_book.specs.Rules.Legal.{legal}
-use Rattle.plate_book.specs.Rules.Safety.{IsSafe}
+use Rattle.cell_rules.specs.Views.{count_of}
+use Rattle.cell_rules.specs.declared.limits.BookLimits.{BookLimits}
+use Rattle.cell_rules.specs.Legal.{legal}
+use Rattle.cell_rules.specs.Safety.{IsSafe}
 use Rattle.cell_ledger.specs.Counts.{nothing, plus}
 use Rattle.cell_turns.specs.Schedules.{entries_of}
 use Rattle.cell_workers.specs.Standing.{all_called_for}

@@ -7,7 +7,7 @@ use Rattle.cell_diagnosis.specs.declared.reading.Reading.{Reading}
 use Rattle.cell_diagnosis.specs.declared.verdict.Verdict.TheVariants.{Pending}
 use Rattle.cell_diagnosis.specs.RestFacts.{Noted}
 use Rattle.cell_diagnosis.specs.RestRules.{rest}
-use Rattle.cell_turns.specs.declared.plan.Plan.{Plan}
+use Rattle.cell_ports.specs.declared.plan.Plan.{Plan}
 use Rattle.cell_turns.specs.declared.watch.Watch.{Watch}
 use Rattle.cell_turns.specs.Moving.{limits_of}
 use Rattle.cell_turns.specs.Following.{Following}

@@ -7,19 +7,19 @@ use Rattle.cell_types.specs.declared.words.Actor.TheVariants as actor
 use Rattle.cell_types.specs.declared.words.Command.TheVariants.{AllOff}
 use Rattle.cell_types.specs.declared.words.Entry.{Entry}
 use Rattle.cell_types.specs.Entries.{actor_of}
-use Rattle.cell_views.specs.Views.{count_of}
+use Rattle.cell_rules.specs.Views.{count_of}
 use Rattle.cell_ledger.specs.Counts.{plus}
 use Rattle.cell_ledger.specs.Held.{Held, held}
 use Rattle.cell_diagnosis.specs.declared.reading.Reading.{Reading}
-use Rattle.cell_turns.specs.declared.plan.Plan.{Plan}
+use Rattle.cell_ports.specs.declared.plan.Plan.{Plan}
 use Rattle.cell_turns.specs.declared.watch.Watch.{Watch}
-use Rattle.cell_turns.specs.Logs.{Log}
+use Rattle.cell_ports.specs.Logs.{Log}
 use Rattle.cell_turns.specs.Sent.{is_command_fault, fails_before, sent_for, command_faults, one_where}
 use Rattle.cell_turns.specs.Minds.{has_failed_command}
 use Rattle.cell_turns.specs.Turns.{IsExcused}
 use Rattle.cell_turns.specs.declared.turns.TurnError.TheVariants.{Refused}
-use Rattle.plate_book.specs.declared.limits.BookLimits.{BookLimits}
-use Rattle.plate_book.specs.declared.refusal.Refusal.{Refusal}
+use Rattle.cell_rules.specs.declared.limits.BookLimits.{BookLimits}
+use Rattle.cell_rules.specs.declared.refusal.Refusal.{Refusal}
 use Rattle.cell_workers.specs.declared.ends.End.{End}
 use Rattle.cell_workers.specs.Evidence.{Backed, Backs}
 use Rattle.cell_workers.specs.Traces.{Saw}

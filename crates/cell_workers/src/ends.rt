@@ -1,11 +1,12 @@
 //! Which machines are idle, and how a run ends.
 ghost use Rattle.std.specs.Prelude.{◌≡◌, ◌⊎◌, is_none};
-ghost use Rattle.cell_views.specs.Views.{plate_of};
+ghost use Rattle.cell_rules.specs.Views.{plate_of};
 ghost use Rattle.cell_turns.specs.Minds.{Mind, FitsMind};
 ghost use Rattle.cell_workers.specs.Ends.{IsDone, is_idle, is_lit, is_vacant};
 
+use cell_ports::Plan;
+use cell_turns::Watch;
 use cell_turns::turns::expect::motion_of_machine;
-use cell_turns::{Plan, Watch};
 use cell_types::{Belt, Colour, Machine, Station};
 use plate_book::Book;
 

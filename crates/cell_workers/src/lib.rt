@@ -9,9 +9,9 @@ pub mod running;
 pub mod team;
 pub mod working;
 
+pub use cell_ports::{Act, OperatorPort, Plan, Port, PortFault};
 pub use cell_turns::{
-    Act, OperatorPort, OutOfMemory, Plan, Port, PortFault, Ports, Ran, Six, Step, TurnError, Watch,
-    Watches, run_schedule, run_step, turn,
+    OutOfMemory, Ports, Ran, Six, Step, TurnError, Watch, Watches, run_schedule, run_step, turn,
 };
 pub use ends::{End, end_at_rest, is_idle};
 pub use hall::{Ended, Hall, Room};

@@ -3,12 +3,12 @@ ghost use Rattle.std.specs.Prelude.{◌≡◌, ◌≢◌, ◌⊎◌, ◌++◌, �
 ghost use Rattle.std.specs.Prelude.{All, Some, IsSome, is_some};
 ghost use Rattle.cell_types.specs.Entries.{actor_of};
 ghost use Rattle.cell_types.specs.declared.words.Actor.TheVariants as actors;
-ghost use Rattle.cell_views.specs.Views.{count_of};
-ghost use Rattle.plate_book.specs.Rules.Legal.{first_of};
+ghost use Rattle.cell_rules.specs.Views.{count_of};
+ghost use Rattle.cell_rules.specs.Legal.{first_of};
 ghost use Rattle.operator_desk.specs.declared.line.Line.{Line};
 ghost use Rattle.cell_ledger.specs.Counts.{plus, count_one};
 ghost use Rattle.cell_ledger.specs.Held.{Held, held};
-ghost use Rattle.cell_turns.specs.Logs.{ActLog, after_hand};
+ghost use Rattle.cell_ports.specs.Logs.{ActLog, after_hand};
 ghost use Rattle.cell_turns.specs.Acts.{act_of};
 ghost use Rattle.cell_workers.specs.Operating.{DidHands, Followed, Follows, HandsEnded, IsDue, RefusedAs};
 ghost use Rattle.cell_workers.specs.Working.{Serves, Stands};

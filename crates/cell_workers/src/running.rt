@@ -3,7 +3,7 @@ ghost use Rattle.std.specs.Prelude.{◌≡◌, ◌≤◌, ◌+◌, ◌++◌, ◌
 ghost use Rattle.cell_types.specs.Entries.{actor_of};
 ghost use Rattle.cell_types.specs.Same.{same_machine};
 ghost use Rattle.cell_types.specs.declared.words.Machine.{Machine as MachineValue};
-ghost use Rattle.cell_views.specs.Views.{count_of};
+ghost use Rattle.cell_rules.specs.Views.{count_of};
 ghost use Rattle.cell_ledger.specs.Counts.{nothing, plus};
 ghost use Rattle.cell_ledger.specs.New.{AreBlank};
 ghost use Rattle.cell_turns.specs.Schedules.{same_actor, entries_of};

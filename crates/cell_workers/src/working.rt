@@ -3,10 +3,10 @@ ghost use Rattle.std.specs.Prelude.{◌≡◌, ◌≢◌, ◌<◌, ◌+◌, ◌&
 ghost use Rattle.std.specs.Prelude.{length, is_none, is_some, Some};
 ghost use Rattle.cell_types.specs.Entries.{actor_of};
 ghost use Rattle.cell_types.specs.declared.words.Actor.TheVariants as actors;
-ghost use Rattle.cell_views.specs.Views.{count_of};
+ghost use Rattle.cell_rules.specs.Views.{count_of};
 ghost use Rattle.cell_ledger.specs.Counts.{plus};
 ghost use Rattle.cell_ledger.specs.Held.{Held, held};
-ghost use Rattle.cell_turns.specs.Logs.{Log};
+ghost use Rattle.cell_ports.specs.Logs.{Log};
 ghost use Rattle.cell_turns.specs.Sent.{Sends};
 ghost use Rattle.cell_turns.specs.Minds.{machine_of_watch, has_failed_command};
 ghost use Rattle.cell_workers.specs.Traces.{Saw};

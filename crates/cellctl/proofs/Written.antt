@@ -1,7 +1,7 @@
 -- What was written for a run, by what its call answered
 use Rattle.std.proofs.Common.{◌≡◌, ℕ, Result, Ok, Err, rules, subst, sym}
 use Rattle.std.specs.Prelude.{IfErr, IfOk, IsErr, MatchResult}
-use Rattle.cell_audit.specs.declared.watched.WriteFault.{WriteFault}
+use Rattle.cell_output.specs.declared.watched.WriteFault.{WriteFault}
 use Rattle.cell_runs.specs.declared.texts.Left.{Left}
 
 -- what is handed on beside a run's answer leaves that answer as it is

@@ -5,7 +5,7 @@ use Rattle.std.specs.Io.KnownBytes.{Appends, Keeps}
 use Rattle.clap.specs.Words.{HasKind, Text as Word, fault_of, kind_of}
 use Rattle.clap.specs.declared.error.Error.{Error}
 use Rattle.clap.specs.declared.error.kind.ErrorKind.{ErrorKind}
-use Rattle.cell_audit.specs.declared.watched.WriteFault.{WriteFault}
+use Rattle.cell_output.specs.declared.watched.WriteFault.{WriteFault}
 use Rattle.cell_command.specs.Orders.{IsOrdered}
 use Rattle.cell_command.specs.Shape.{cellctl}
 use Rattle.cell_command.specs.declared.order.Running.{Running}

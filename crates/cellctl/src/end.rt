@@ -4,7 +4,7 @@ ghost use Rattle.std.specs.Io.KnownBytes.{Appends};
 ghost use Rattle.cellctl.specs.Ends.{end_lines, failed_line, lines_below, or_failed, stream_failed, unknown_failed};
 
 use cell_command::{Resource, tell_failure};
-use cell_lines::status;
+use cell_output::status;
 use std::io;
 use std::io::Write;
 

@@ -2,7 +2,7 @@
 ghost use Rattle.std.specs.Prelude.{◌≡◌, ◌≢◌};
 ghost use Rattle.std.specs.IoError.{error_kind};
 
-use cell_lines::status;
+use cell_output::status;
 use std::io;
 use std::io::ErrorKind;
 

@@ -3,8 +3,8 @@ ghost use Rattle.std.specs.Prelude.{◌≡◌, ◌⊎◌, IfOk, List, OnOk, ℕ}
 ghost use Rattle.std.specs.Io.KnownBytes.{Appends};
 
 use cell_journal::Journal;
-use cell_lines::{WatchedWriter, WriteFault, status};
 use cell_measures::{Durations, lines_of, measure};
+use cell_output::{WatchedWriter, WriteFault, status};
 use cell_runs::Left;
 use std::alloc::{AllocError, Global};
 use std::io::Write;

@@ -16,8 +16,8 @@ ghost use Rattle.cellctl.specs.Carried.{IsTurnedAway, Obeys, ended, status_of_er
 
 use cell_command::{Escaped, Resource, read_words};
 use cell_explain::endings::write_ending;
-use cell_lines::status;
 use cell_orders::{Failure, Noted};
+use cell_output::status;
 use clap::Error;
 use clap::error::ErrorKind;
 use end::{Failed, Faults, tell_end};

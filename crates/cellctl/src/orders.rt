@@ -8,12 +8,12 @@ use crate::least::tell_least;
 use crate::sweep::sweep_words;
 use cell_command::{Driving, Order, Running};
 use cell_drive::{drive_texts, measure_texts};
-use cell_lines::{WriteFault, status};
 use cell_measures::Durations;
 use cell_orders::{
     Failure, audit_file, check_file, durations_in, explain_words, explore_words, journal_in,
     measure_words, migrate_file, script_in, settings_in, show_words, tell_times, tell_too_long,
 };
+use cell_output::{WriteFault, status};
 use cell_runs::{KeptRun, Left, follow_texts_kept, run_texts_kept};
 use std::io::{Read, Write};
 use std::rt::Files;

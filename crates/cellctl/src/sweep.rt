@@ -5,8 +5,8 @@ ghost use Rattle.cellctl.specs.Carried.{SweepsFiles, SweepsSome};
 ghost use Rattle.cellctl.specs.Swept.{AreKinds, AreMotions, HasNoKind, IsNoCount};
 
 use cell_command::Sweeping;
-use cell_lines::WriteFault;
 use cell_orders::{Failure, script_in, settings_in, tell_too_long, wrong};
+use cell_output::WriteFault;
 use cell_sim::Fault;
 use cell_sweep::{KINDS, KindsError, Sweep, read_kinds, sweep_texts};
 use cell_types::number::read_number;

@@ -3,9 +3,9 @@ use Rattle.std.specs.Prelude.{Bool, true, nat_le, List, [], ◌∷◌, Option, S
 use Rattle.std.specs.Option.{option_and_then}
 use Rattle.cell_types.specs.declared.words.Entry.{Entry}
 use Rattle.cell_types.specs.declared.words.Entry.TheVariants.{StopAsked, Quarantined, Repaired, Expected}
-use Rattle.cell_views.specs.Views.{count_of, is_failed, plate_of}
-use Rattle.plate_book.specs.Rules.History.{History}
-use Rattle.plate_book.specs.Rules.Legal.{allowed}
+use Rattle.cell_rules.specs.Views.{count_of, is_failed, plate_of}
+use Rattle.cell_rules.specs.History.{History}
+use Rattle.cell_rules.specs.Legal.{allowed}
 use Rattle.operator_desk.specs.declared.action.Action.{Action}
 use Rattle.operator_desk.specs.declared.action.Action.TheVariants as action
 use Rattle.operator_desk.specs.declared.line.Line.{Line}

@@ -2,14 +2,8 @@ pub mod Appended
 pub mod Outward
 pub mod Arrays
 pub mod Recording
-pub mod Safe
-pub mod Places
 pub mod Listing
 pub mod Waiting
-pub mod Profiles
-pub mod Order
-pub mod Declaring
-pub mod Carried
 pub mod Tellings
 pub mod Readings
 pub mod Seen

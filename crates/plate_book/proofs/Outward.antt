@@ -1,8 +1,8 @@
 -- The tests of an arm's way out, in their five parts
 use Rattle.std.proofs.Common.{◌≡◌, Bool, List, [], ◌∷◌, ◌++◌, refl, append_assoc}
 use Rattle.std.specs.Option.{option_or}
-use Rattle.plate_book.specs.declared.refusal.Refusal.{Refusal}
-use Rattle.plate_book.specs.Rules.First.{first_true}
+use Rattle.cell_rules.specs.declared.refusal.Refusal.{Refusal}
+use Rattle.cell_rules.specs.First.{first_true}
 use Rattle.plate_book.proofs.Appended.{first_true_append}
 
 -- the code asks part by part, and the rules make one list of all the tests

@@ -3,15 +3,15 @@ ghost use Rattle.std.specs.Prelude.{◌≡◌, ◌≤◌, ◌||◌, not};
 ghost use Rattle.cell_types.specs.Same.{same_pose};
 ghost use Rattle.cell_types.specs.Cell.{is_pose_of};
 ghost use Rattle.plate_book.specs.Records.Recorded.{recorded};
-ghost use Rattle.plate_book.specs.Rules.First.{not_at_rest, not_resting_at, cannot_go, not_going, zone_taken};
-ghost use Rattle.plate_book.specs.Rules.First.{not_holder, station_empty, station_full, plate_not_at, other_plate_at};
-ghost use Rattle.plate_book.specs.Rules.First.{lamp_red, lamp_already, visited, still_there, journal_full, plate_limit};
-ghost use Rattle.plate_book.specs.Rules.First.{machine_failed, machine_healthy, owner_failed, visits_failed};
-ghost use Rattle.plate_book.specs.Rules.First.{no_neighbour, wrong_number, ends_by_arrival, no_arrival, not_waiting};
-ghost use Rattle.plate_book.specs.Rules.First.{plate_expected, not_returnable, not_expected};
+ghost use Rattle.cell_rules.specs.First.{not_at_rest, not_resting_at, cannot_go, not_going, zone_taken};
+ghost use Rattle.cell_rules.specs.First.{not_holder, station_empty, station_full, plate_not_at, other_plate_at};
+ghost use Rattle.cell_rules.specs.First.{lamp_red, lamp_already, visited, still_there, journal_full, plate_limit};
+ghost use Rattle.cell_rules.specs.First.{machine_failed, machine_healthy, owner_failed, visits_failed};
+ghost use Rattle.cell_rules.specs.First.{no_neighbour, wrong_number, ends_by_arrival, no_arrival, not_waiting};
+ghost use Rattle.cell_rules.specs.First.{plate_expected, not_returnable, not_expected};
 
 use crate::registers::Registers;
-use crate::{BookLimits, Refusal};
+use cell_rules::{BookLimits, Refusal};
 use cell_types::{
     Axis, Belt, Colour, Entry, Machine, PlateId, Pose, Station, Zone, is_before_press, is_pose_of,
     machine_of_station, owner, visitor,

@@ -2,18 +2,18 @@
 ghost use Rattle.std.specs.Prelude.{◌≡◌, Some};
 ghost use Rattle.cell_types.specs.Cell.{axis_of_arm, faced_of};
 ghost use Rattle.plate_book.specs.Records.Recorded.{recorded};
-ghost use Rattle.plate_book.specs.Rules.First.{first_true, feed_belt_tests, deposit_belt_tests, press_tests};
-ghost use Rattle.plate_book.specs.Rules.First.{lamp_tests, arm_tests, outward_tests, faces, started_tests, all_resting};
+ghost use Rattle.cell_rules.specs.First.{first_true, feed_belt_tests, deposit_belt_tests, press_tests};
+ghost use Rattle.cell_rules.specs.First.{lamp_tests, arm_tests, outward_tests, faces, started_tests, all_resting};
 
-use crate::Refusal;
 use crate::checks::first_true;
 use crate::registers::Registers;
+use cell_rules::Refusal;
 use cell_types::{
     Arm, Axis, Belt, Colour, Facing, Machine, PRESS1, PRESS2, Pose, Press, Station, Zone,
     axis_of_arm,
 };
 
-#[tactic(auto, unfolding(crate::specs::Rules::First::first_true))]
+#[tactic(auto, unfolding(cell_rules::specs::First::first_true))]
 impl Registers {
     pub fn lamp_tests(&self, belt: Belt, colour: Colour) -> Option<Refusal>
         ensures { result ≡ first_true (lamp_tests (recorded self.now) belt colour) }

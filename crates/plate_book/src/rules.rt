@@ -3,22 +3,22 @@ ghost use Rattle.std.specs.Prelude.{◌≡◌, ◌+◌, ◌<◌, ◌≤◌, ◌�
 ghost use Rattle.plate_book.specs.Records.Recorded.{recorded};
 ghost use Rattle.cell_types.specs.Cell.{motion_to, machine_of_station, station_of_arm, faced_of, grips_at, drops_at};
 ghost use Rattle.cell_types.specs.declared.words.Entry.TheVariants.{Admitted};
-ghost use Rattle.plate_book.specs.Rules.First.{first_true, claimed_tests, parked_tests, conveyed_tests, forged_tests};
-ghost use Rattle.plate_book.specs.Rules.First.{handing_tests, quarantined_tests, repaired_tests, expected_tests};
-ghost use Rattle.plate_book.specs.Rules.First.{reinstated_tests, any_visited, any_still_there, first, is_faced, faces};
-ghost use Rattle.plate_book.specs.Rules.First.{kind_tests, machine_failed, not_holder, neighbour_tests, not_at_rest};
+ghost use Rattle.cell_rules.specs.First.{first_true, claimed_tests, parked_tests, conveyed_tests, forged_tests};
+ghost use Rattle.cell_rules.specs.First.{handing_tests, quarantined_tests, repaired_tests, expected_tests};
+ghost use Rattle.cell_rules.specs.First.{reinstated_tests, any_visited, any_still_there, first, is_faced, faces};
+ghost use Rattle.cell_rules.specs.First.{kind_tests, machine_failed, not_holder, neighbour_tests, not_at_rest};
 
 use crate::checks::first_true;
 use crate::conditions::no_neighbour;
 use crate::registers::Registers;
-use crate::{BookLimits, Refusal};
+use cell_rules::{BookLimits, Refusal};
 use cell_types::{
     Arm, Axis, Belt, Colour, Entry, Facing, Machine, PlateId, Pose, Station, ZONES, Zone, axes_of,
     axis_of_arm, drops_at, faced, grips_at, machine_of_axis, machine_of_belt, machine_of_station,
     motion_to, press_of, station_of_arm,
 };
 
-#[tactic(auto, unfolding(crate::specs::Rules::First::first_true))]
+#[tactic(auto, unfolding(cell_rules::specs::First::first_true))]
 impl Registers {
     pub fn claimed_tests(&self, machine: Machine, zone: Zone) -> Option<Refusal>
         ensures { result ≡ first_true (claimed_tests (recorded self.now) machine zone) }
@@ -124,7 +124,7 @@ impl Registers {
         ])
     }
 
-    #[tactic(auto, unfolding(crate::specs::Rules::First::first_true, crate::specs::Rules::First::any_visited))]
+    #[tactic(auto, unfolding(cell_rules::specs::First::first_true, cell_rules::specs::First::any_visited))]
     fn any_visited(&self, machine: Machine) -> Option<Refusal>
         ensures { result ≡ first_true (any_visited (recorded self.now) machine) }
     {
@@ -137,7 +137,7 @@ impl Registers {
         None
     }
 
-    #[tactic(auto, unfolding(crate::specs::Rules::First::any_still_there))]
+    #[tactic(auto, unfolding(cell_rules::specs::First::any_still_there))]
     fn any_still_there(&self, machine: Machine) -> Option<Refusal>
         ensures { result ≡ first_true (any_still_there (recorded self.now) machine) }
     {

@@ -1,7 +1,7 @@
 //! Methods that don't keep to the protocol, and devices that fail.
 use crate::sample::{COMMANDS, ENTRIES, driven, has_line};
 use cell_drive::{DriveOptions, drive_texts};
-use cell_lines::WriteFault;
+use cell_output::WriteFault;
 use std::process::Abort;
 use std::sync::Wait;
 use std::test::Fail;

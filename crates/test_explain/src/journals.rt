@@ -1,7 +1,7 @@
 //! What is said of journals: legal ones, refused ones and ones that can't be read.
 use crate::said::{Kind, check_texts};
-use cell_audit::WriteFault;
 use cell_explain::explain_journal;
+use cell_output::WriteFault;
 
 // A legal journal has the lines of the audit.
 const LEGAL: [(&str, &str); 2] = [

@@ -2,7 +2,7 @@
 ghost use Rattle.std.specs.Prelude.{◌≡◌, ◌+◌, ◌++◌, ◌∷◌, [], true, is_ok, if◌then◌else◌};
 
 use crate::Failing;
-use cell_turns::{Act, OperatorPort, PortFault};
+use cell_ports::{Act, OperatorPort, PortFault};
 use cell_types::{Machine, Station};
 use std::alloc::{AllocError, Global};
 

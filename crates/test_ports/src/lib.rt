@@ -9,7 +9,6 @@ mod sent;
 mod six;
 mod still;
 
-pub use cell_sim::sim_ports;
 pub use failing::Failing;
 pub use hands::TellingHands;
 pub use ports::TellingPort;

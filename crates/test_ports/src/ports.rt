@@ -3,7 +3,7 @@ ghost use Rattle.std.specs.Prelude.{◌≡◌, ◌+◌, true, if◌then◌else�
 
 use crate::Failing;
 use cell_diagnosis::Reading;
-use cell_turns::{Port, PortFault};
+use cell_ports::{Port, PortFault};
 use cell_types::Command;
 use std::alloc::{AllocError, Global};
 

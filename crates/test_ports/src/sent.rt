@@ -1,6 +1,6 @@
 //! What ports were sent and hands did, beside the entries that were booked.
 use crate::{Failing, TellingHands, TellingPort};
-use cell_turns::Act;
+use cell_ports::Act;
 use cell_turns::hands::act_of;
 use cell_types::{Cause, Command, Entry, command_of};
 

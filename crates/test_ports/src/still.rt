@@ -1,6 +1,7 @@
 //! A port and hands that reach no machine.
 use cell_diagnosis::Reading;
-use cell_turns::{OperatorPort, Port, PortFault, Six};
+use cell_ports::{OperatorPort, Port, PortFault};
+use cell_turns::Six;
 use cell_types::{Command, Machine, Station};
 
 /// A port that shows the same reading for ever, and takes every command.

@@ -2,8 +2,8 @@
 use cell_audit::{AuditError, audit};
 use cell_explain::endings::write_ending;
 use cell_journal::Journal;
-use cell_lines::WriteFault;
 use cell_measures::Durations;
+use cell_output::WriteFault;
 use cell_runs::{KeptRun, Left, follow_texts, run_texts_kept};
 use cell_types::Totals;
 use std::alloc::Global;

@@ -1,7 +1,7 @@
 //! Texts that are explained.
 use crate::texts::{PLAIN, PROFILE_1, clearing};
-use cell_audit::WriteFault;
 use cell_explain::{explain_faults, explain_journal, explain_operator, explain_settings};
+use cell_output::WriteFault;
 use std::alloc::Global;
 use std::process::Abort;
 use std::test::Fail;

@@ -1,7 +1,7 @@
 //! Texts that are read, judged and written.
 use cell_audit::{AuditError, MigrateError, WriteError};
 use cell_diagnosis::Limits;
-use cell_lines::WriteFault;
+use cell_output::WriteFault;
 use cell_settings::SettingsError;
 use cell_sim::{FaultError, FaultScript, SimPort, World};
 use cell_turns::{Plan, Port};
@@ -211,7 +211,7 @@ fn check_audit_lines<R: AllocGlobal + Abort>(rt: &R, last: &[u8]) -> Result<(), 
     let text = clearing(alloc, PROFILE_1, last)?;
     let mut written = Vec::with_capacity(alloc, ROOM)?;
     call_begins(alloc);
-    let answer = cell_lines::audit_lines(alloc, text.as_slice(), &mut written);
+    let answer = cell_audit::audit_lines(alloc, text.as_slice(), &mut written);
     call_ends(alloc, is_wanted(answer));
     let due = b"legal 10\nadmitted 1\nforged 0\nquarantined 1\ndelivered 0\n";
     check_written(rt, answer, written.as_slice(), 0, due);
@@ -273,7 +273,7 @@ fn migrate_lines(rt: HostRuntime) -> Result<(), Fail> {
     let mut written = Vec::with_capacity(alloc, ROOM)?;
     let mut errors = Vec::with_capacity(alloc, ROOM)?;
     call_begins(alloc);
-    let answer = cell_lines::migrate_lines(alloc, text.as_slice(), &mut written, &mut errors);
+    let answer = cell_audit::migrate_lines(alloc, text.as_slice(), &mut written, &mut errors);
     call_ends(alloc, is_wanted(answer));
     check_written(&rt, answer, written.as_slice(), 0, due.as_slice());
     assert!(rt; errors.as_slice().is_empty());

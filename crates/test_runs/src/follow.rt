@@ -1,7 +1,7 @@
 //! Journals of runs that are followed, by their texts.
 use crate::rounds::{read_case, told};
 use cell_audit::audit;
-use cell_lines::WriteFault;
+use cell_output::WriteFault;
 use cell_runs::follow_texts;
 use std::process::Abort;
 use std::sync::Wait;

@@ -1,6 +1,6 @@
 //! Texts that are refused, and writers that fail, in rounds and on threads.
 use crate::rounds::{read_case, told};
-use cell_lines::WriteFault;
+use cell_output::WriteFault;
 use cell_runs::run_texts;
 use std::process::Abort;
 use std::sync::Wait;

@@ -1,6 +1,6 @@
 //! Runs on threads by their texts: what is written, and the status.
 use crate::rounds::{read_case, told};
-use cell_lines::audit_lines;
+use cell_audit::audit_lines;
 use std::process::Abort;
 use std::sync::Wait;
 use std::test::Fail;

@@ -1,4 +1,4 @@
-//! The tests of `cell_rows`, `cell_audit`, `cell_lines`, `operator_desk` and `cell_settings`.
+//! The tests of `cell_rows`, `cell_output`, `cell_audit`, `operator_desk` and `cell_settings`.
 #![tactic(auto)]
 
 #[cfg(test)]

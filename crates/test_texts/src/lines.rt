@@ -1,6 +1,7 @@
 //! What is printed for an audit of texts, and what readers and writers that fail leave of it.
 use crate::audit::{Begin, text_begun};
-use cell_lines::{WriteFault, audit_lines};
+use cell_audit::audit_lines;
+use cell_output::WriteFault;
 use std::alloc::Global;
 use std::io::Read;
 use std::process::Abort;

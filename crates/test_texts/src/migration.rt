@@ -1,7 +1,7 @@
 //! The migration of texts from profile 1, whole, cut and from readers that fail, and to writers that fail.
 use crate::audit::{CARRIED, FOUR_ENTRIES, due_for_a_cut_text, judges};
-use cell_audit::{AuditError, MigrateError, migrate};
-use cell_lines::{WriteFault, migrate_lines};
+use cell_audit::{AuditError, MigrateError, migrate, migrate_lines};
+use cell_output::WriteFault;
 use cell_types::{AXES, BELTS, Belt, Entry, MACHINES, Totals, ZONES};
 use cell_views::{
     count_of, expected_of, holder_of, is_asked, is_failed, lamp_of, place_of, pose_of,

@@ -1,6 +1,6 @@
 //! What settings say, and what is printed for them.
 use cell_diagnosis::Limits;
-use cell_lines::WriteFault;
+use cell_output::WriteFault;
 use cell_settings::{KeyPath, SettingsError, check_lines, read_settings};
 use std::alloc::Global;
 use std::process::Abort;

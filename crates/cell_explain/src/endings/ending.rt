@@ -1,7 +1,7 @@
 //! The whole of what is told of a run's end.
 ghost use Rattle.std.specs.Prelude.{◌≡◌, IfOk, OnOk, true};
 ghost use Rattle.std.specs.Io.KnownBytes.{Appends};
-ghost use Rattle.plate_book.specs.Rules.Legal.{legal};
+ghost use Rattle.cell_rules.specs.Legal.{legal};
 ghost use Rattle.cell_explain.specs.Endings.{ending_of, greatest, limits_of, run_of};
 
 use crate::endings::counts::{write_laid_back, write_unadmitted};
@@ -11,7 +11,7 @@ use crate::endings::limit::write_limit;
 use crate::endings::operator::write_operator;
 use crate::endings::plates::write_plates;
 use cell_journal::Journal;
-use cell_turns::Plan;
+use cell_ports::Plan;
 use cell_workers::End;
 use plate_book::Book;
 use std::alloc::{AllocError, Global};

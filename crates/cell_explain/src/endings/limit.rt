@@ -3,7 +3,7 @@ ghost use Rattle.std.specs.Prelude.{OnOk};
 ghost use Rattle.std.specs.Io.KnownBytes.{Appends};
 ghost use Rattle.cell_explain.specs.Limit.{full_line, limit_of};
 
-use cell_turns::Plan;
+use cell_ports::Plan;
 use cell_workers::End;
 use plate_book::Book;
 use std::io::{Result, Write};

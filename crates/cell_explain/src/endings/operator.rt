@@ -2,7 +2,7 @@
 ghost use Rattle.std.specs.Prelude.{◌≡◌, ◌≤◌, OnOk, length};
 ghost use Rattle.std.specs.Io.KnownBytes.{Appends};
 ghost use Rattle.operator_desk.specs.Lines.{line_of};
-ghost use Rattle.plate_book.specs.Rules.Legal.{first_of};
+ghost use Rattle.cell_rules.specs.Legal.{first_of};
 ghost use Rattle.cell_explain.specs.Waiting.{is_operator, line_wait, lines_done, refusal_line, task_wait, trigger_wait};
 ghost use Rattle.cell_explain.specs.Waiting.{undone_line, waiting_of};
 ghost use Rattle.cell_explain.specs.Endings.{script_lines};

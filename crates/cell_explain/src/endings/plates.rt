@@ -2,7 +2,7 @@
 ghost use Rattle.std.specs.Prelude.{◌≡◌, OnOk};
 ghost use Rattle.std.specs.Io.KnownBytes.{Appends};
 ghost use Rattle.cell_types.specs.Same.{same_pose};
-ghost use Rattle.cell_views.specs.Views.{going_of, pose_of};
+ghost use Rattle.cell_rules.specs.Views.{going_of, pose_of};
 ghost use Rattle.cell_explain.specs.Plates.{belt_entry, next_entry, plate_line, plates_of, press_entry_at};
 ghost use Rattle.cell_explain.specs.Plates.{press_for_arm, told_at};
 

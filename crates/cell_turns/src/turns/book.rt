@@ -1,18 +1,19 @@
 //! The fourth step of a turn: the entry of what was decided is booked and listed.
 ghost use Rattle.std.specs.Prelude.{◌≡◌, ◌<◌, ◌++◌, None, IfOk, IfErr, IfSome, OnOk, OnErr, option_to_list, vec_len};
 ghost use Rattle.std.specs.Prelude.{vec_capacity};
-ghost use Rattle.cell_views.specs.Views.{count_of};
-ghost use Rattle.plate_book.specs.Rules.Legal.{first_of};
+ghost use Rattle.cell_rules.specs.Views.{count_of};
+ghost use Rattle.cell_rules.specs.Legal.{first_of};
 ghost use Rattle.cell_ledger.specs.Counts.{plus};
 ghost use Rattle.cell_ledger.specs.Held.{held};
 ghost use Rattle.cell_turns.specs.Turns.{IsRuled, IsUnbooked};
 ghost use Rattle.cell_turns.specs.declared.turns.decide.Ruling.TheVariants.{PastLast};
 
+use crate::Watch;
 use crate::schedule::OutOfMemory;
 use crate::turns::decide::Ruling;
-use crate::{Plan, Watch};
 use cell_ledger::{Kept, Run, Shares};
 use cell_machines::propose;
+use cell_ports::Plan;
 use cell_types::{Entry, Machine};
 use plate_book::{Book, Refusal};
 

@@ -5,15 +5,15 @@ ghost use Rattle.cell_types.specs.Cell.{visitor};
 ghost use Rattle.cell_types.specs.After.{is_machine};
 ghost use Rattle.cell_types.specs.Same.{same_colour};
 ghost use Rattle.cell_types.specs.declared.words.Colour.{Colour as ColourValue};
-ghost use Rattle.cell_views.specs.Views.{lamp_of, holder_of};
+ghost use Rattle.cell_rules.specs.Views.{lamp_of, holder_of};
 ghost use Rattle.cell_turns.specs.Moving.{motion_on, motion_of_axis, motion_of_machine};
 ghost use Rattle.cell_turns.specs.Visits.{is_visited, was_claimed, is_unvisited};
 ghost use Rattle.cell_turns.specs.Expected.{pose_at_rest, pose_of_axis, poses_at_rest, bit_where, is_booked_at};
 ghost use Rattle.cell_turns.specs.Expected.{booked_plates, belt_bits, unwatched_plates, expected_of};
 
-use crate::Plan;
 use crate::watch::Memory;
 use cell_diagnosis::{Expect, Motion};
+use cell_ports::Plan;
 use cell_types::{Axis, Belt, Colour, Machine, Pose, Zone, axes_of, stations_of, visitor};
 use plate_book::Book;
 

@@ -11,11 +11,11 @@ ghost use Rattle.cell_turns.specs.Signs.{shows_sign};
 ghost use Rattle.cell_turns.specs.Following.{Following, FitsAxis};
 ghost use Rattle.cell_turns.specs.Observed.{same_motion, followed, with_reading, axis_noted, axis_verdict, rest_noted};
 
-use crate::Plan;
 use crate::turns::decide::Findings;
 use crate::turns::expect::{expected_of, is_green, is_unvisited, motion_of_machine};
 use crate::watch::Watch;
 use cell_diagnosis::{AxisWatch, Motion, Reading, Verdict, bit};
+use cell_ports::Plan;
 use cell_types::{Axis, Belt, Machine, Pose};
 use plate_book::Book;
 

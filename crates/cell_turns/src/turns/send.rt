@@ -1,10 +1,11 @@
 //! The last step of a turn: the command of the entry is sent.
 ghost use Rattle.std.specs.Prelude.{◌≡◌, true, false, is_some, if◌then◌else◌};
 ghost use Rattle.cell_types.specs.Entries.{command_of};
-ghost use Rattle.cell_turns.specs.Logs.{after_sending};
+ghost use Rattle.cell_ports.specs.Logs.{after_sending};
 ghost use Rattle.cell_turns.specs.Minds.{Mind, FitsMind, machine_of_watch, has_failed_command, with_failure};
 
-use crate::{Port, Watch};
+use crate::Watch;
+use cell_ports::Port;
 use cell_types::{Entry, command_of};
 
 /// Sends the command of an entry that was just booked, and notes in the watch that the port failed, if it did. It

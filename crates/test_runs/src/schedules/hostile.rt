@@ -13,6 +13,7 @@ use crate::schedules::stage::Stage;
 use crate::schedules::tally::Tally;
 use cell_journal::Journal;
 use cell_ledger::{Blanks, Run};
+use cell_runs::sim_ports;
 use cell_sim::{FaultScript, SimOperator, World};
 use cell_turns::{OperatorPort, Port, Ran, Six, Step, Watch};
 use cell_types::{Actor, Machine, Totals, actor_of};
@@ -20,7 +21,7 @@ use plate_book::Book;
 use std::marker::Brand;
 use std::process::Abort;
 use std::sync::{Mutex, Wait};
-use test_ports::{StillHands, StillPort, TellingHands, TellingPort, sim_ports};
+use test_ports::{StillHands, StillPort, TellingHands, TellingPort};
 
 /// The first seed of all.
 const SEED: u64 = 0x5e_ed0f_5eed;

@@ -9,6 +9,7 @@ use crate::schedules::checks::is_lawful;
 use crate::schedules::stage::{Devices, Stage};
 use cell_diagnosis::Limits;
 use cell_ledger::{Blanks, Run};
+use cell_runs::sim_ports;
 use cell_sim::{FaultScript, SimOperator, World};
 use cell_turns::{OperatorPort, Plan, Port, Step};
 use cell_types::{MACHINES, Machine};
@@ -17,7 +18,7 @@ use plate_book::Book;
 use std::marker::Brand;
 use std::process::Abort;
 use std::sync::{Mutex, Wait};
-use test_ports::{Failing, sim_ports};
+use test_ports::Failing;
 
 /// How many entries the journal takes, and how many answers and commands a port keeps.
 const ROOM: u32 = 10_000;

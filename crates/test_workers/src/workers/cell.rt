@@ -2,13 +2,13 @@
 use crate::sim::steps::faults_of;
 use crate::workers::reports::check_report;
 use cell_diagnosis::Limits;
+use cell_runs::sim_ports;
 use cell_sim::{SimOperator, World};
 use cell_workers::{OperatorPort, Plan, Port, Report, Six, run_cell};
 use operator_desk::Script;
 use std::process::Abort;
 use std::sync::{Mutex, Wait};
 use std::thread::Threads;
-use test_ports::sim_ports;
 
 /// As many entries or turns as any run of a test has room for.
 pub(crate) const AMPLE: u32 = 100_000;

@@ -5,13 +5,14 @@ use crate::workers::cell::{AMPLE, plan_of, run_over, script_of};
 use crate::workers::reports::check_end;
 use crate::workers::rooms::check_entries;
 use crate::workers::telling::check_sent;
+use cell_runs::sim_ports;
 use cell_sim::{SimOperator, World};
 use cell_types::{MACHINES, Machine, Station};
 use cell_workers::{Act, End, Report, Six};
 use std::process::Abort;
 use std::sync::{Mutex, Wait};
 use std::thread::Threads;
-use test_ports::{Failing, TellingHands, TellingPort, did, sim_ports, telling_ports};
+use test_ports::{Failing, TellingHands, TellingPort, did, telling_ports};
 use test_samples::{CLEARED_PRESS, STUCK_PRESS, entries_of};
 
 /// How many answers of a port, commands to it and acts of the operator a test keeps: more than a run of a few plates

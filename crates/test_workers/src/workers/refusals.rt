@@ -7,11 +7,11 @@ use crate::workers::cell::{AMPLE, plan_of, script_of};
 use crate::workers::operators::STOPS;
 use crate::workers::reports::{check_end, check_report};
 use crate::workers::rooms::{Work, play_in_room};
+use cell_runs::sim_ports;
 use cell_sim::{SimOperator, World};
 use cell_workers::{End, Plan, Report, RunError};
 use std::process::Abort;
 use std::sync::Mutex;
-use test_ports::sim_ports;
 use test_samples::{CLEARED_PRESS, STUCK_PRESS, call_begins, call_ends};
 
 // The feed belt's worker alone isn't lost. Its list needs room for one more entry at each turn.

@@ -1,7 +1,7 @@
 -- A run of a low status went well, so all that it had to write was written, part after part
 use Rattle.std.proofs.Common.{ap}
-use Rattle.plate_book.specs.Rules.History.{History}
-use Rattle.cell_turns.specs.Logs.{no_log}
+use Rattle.cell_rules.specs.History.{History}
+use Rattle.cell_ports.specs.Logs.{no_log}
 use Rattle.cell_method.specs.Rounds.{start}
 use Rattle.cell_drive.proofs.Drove.{drove, of-ok, of-told}
 use Rattle.cell_drive.proofs.by_entries.drive_entries.Goals as goal

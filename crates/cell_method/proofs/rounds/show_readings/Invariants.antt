@@ -1,6 +1,6 @@
 use Rattle.std.proofs.Common.{List, Option}
 use Rattle.cell_types.specs.declared.words.Entry.{Entry}
-use Rattle.plate_book.specs.declared.limits.BookLimits.{BookLimits}
+use Rattle.cell_rules.specs.declared.limits.BookLimits.{BookLimits}
 use Rattle.cell_method.specs.Lines.{Row}
 use Rattle.cell_method.specs.Rounds.{Fits, Goes, Stand}
 use Rattle.cell_method.proofs.rounds.show_readings.Given as goal

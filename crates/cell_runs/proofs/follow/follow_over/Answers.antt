@@ -1,6 +1,6 @@
 -- A run with an empty book starts where runs start, and how it ended tells what was booked
 use Rattle.std.proofs.Common.{◌∙◌, ap, rules}
-use Rattle.plate_book.specs.Rules.History.{History}
+use Rattle.cell_rules.specs.History.{History}
 use Rattle.cell_runs.proofs.Acting.{ends_match, ends_started}
 use Rattle.cell_runs.proofs.follow.follow_over.Goals as goal
 

@@ -1,7 +1,7 @@
 -- Each way in which a journal was followed has its own first line and its own status
 use Rattle.std.proofs.Common.{◌≡◌, ◌∙◌, List, ℕ, ap, inl, refl, rules, subst, sym}
 use Rattle.std.specs.Io.KnownBytes.{Appends}
-use Rattle.cell_audit.specs.Watched.{WritesPart}
+use Rattle.cell_output.specs.Watched.{WritesPart}
 use Rattle.cell_runs.specs.Runs.{counts_after}
 use Rattle.cell_runs.specs.Told.{first_line, followed_status}
 use Rattle.cell_runs.proofs.followed.write_lines.Goals as goal

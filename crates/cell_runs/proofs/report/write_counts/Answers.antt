@@ -2,7 +2,7 @@
 use Rattle.std.proofs.Common.{◌∙◌, subst}
 use Rattle.std.specs.Prelude.{OnOk}
 use Rattle.std.specs.Io.KnownBytes.{Appends}
-use Rattle.cell_audit.specs.Watched.{WritesPart}
+use Rattle.cell_output.specs.Watched.{WritesPart}
 use Rattle.cell_runs.proofs.Counts.{pieces-counts}
 use Rattle.cell_runs.proofs.report.write_counts.Goals as goal
 

@@ -1,6 +1,6 @@
 -- A run with an empty book starts where runs start, and its book has what its last round left
 use Rattle.std.proofs.Common.{◌∙◌, ap, rules}
-use Rattle.plate_book.specs.Rules.History.{History}
+use Rattle.cell_rules.specs.History.{History}
 use Rattle.cell_runs.proofs.OneRound.{ended_started}
 use Rattle.cell_runs.proofs.rounds.run_over.Goals as goal
 

@@ -1,6 +1,6 @@
 -- A round is the turns and then the operator's act; it ends the run where either is stopped, or where all rest
 use Rattle.std.proofs.Common.{◌≡◌, ap, length, rules}
-use Rattle.plate_book.specs.Rules.History.{History}
+use Rattle.cell_rules.specs.History.{History}
 use Rattle.cell_turns.specs.Schedules.{now}
 use Rattle.cell_runs.specs.Rounds.{place}
 use Rattle.cell_runs.proofs.OneRound.{err_of, ends_in, stopped_turns, stopped_act, whole_round, book_at_rest}

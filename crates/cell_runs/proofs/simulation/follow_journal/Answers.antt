@@ -1,7 +1,7 @@
 -- The book is opened empty and by the plan's limits, so the following is one within these
 use Rattle.std.proofs.Common.{ap, subst}
-use Rattle.plate_book.specs.declared.limits.BookLimits.{BookLimits}
-use Rattle.plate_book.specs.Rules.History.{History}
+use Rattle.cell_rules.specs.declared.limits.BookLimits.{BookLimits}
+use Rattle.cell_rules.specs.History.{History}
 use Rattle.cell_runs.specs.Followed.{IsFollowed}
 use Rattle.cell_runs.proofs.simulation.follow_journal.Goals as goal
 

@@ -1,6 +1,6 @@
 -- Where a write is refused, the pieces of the bytes before are written whole
 use Rattle.std.proofs.Common.{◌∙◌, ap, refl, sym}
-use Rattle.cell_audit.proofs.Pieces.{part-after, piece-after, pieces-split}
+use Rattle.cell_output.proofs.Pieces.{part-after, piece-after, pieces-split}
 use Rattle.cell_settings.specs.Checked.{escaped, escaped_byte}
 use Rattle.cell_settings.proofs.escaped.write_escaped.Goals as goal
 

@@ -2,7 +2,7 @@
 use Rattle.std.proofs.Common.{◌≡◌, map, take}
 use Rattle.std.specs.List.{concat}
 use Rattle.std.specs.Io.KnownBytes.{Appends}
-use Rattle.cell_audit.specs.Watched.{IsSameWriter, bytes_held, has_refused}
+use Rattle.cell_output.specs.Watched.{IsSameWriter, bytes_held, has_refused}
 use Rattle.cell_settings.specs.Checked.{escaped_byte}
 use Rattle.cell_settings.proofs.escaped.write_escaped.Given as goal
 

@@ -1,6 +1,6 @@
 -- The loop over the cases
 use Rattle.std.proofs.Common.{take}
-use Rattle.cell_audit.specs.Watched.{IsSameWriter, bytes_held}
+use Rattle.cell_output.specs.Watched.{IsSameWriter, bytes_held}
 use Rattle.cell_sweep.specs.Sweeps.{TellsCases, wanted}
 use Rattle.cell_sweep.proofs.sweep.write_rows.Given as goal
 

@@ -1,6 +1,6 @@
 use Rattle.std.proofs.Common.{not, ap, ◌∙◌}
 use Rattle.cell_turns.specs.Acts.{act_of}
-use Rattle.cell_turns.specs.Logs.{after_hand}
+use Rattle.cell_ports.specs.Logs.{after_hand}
 use Rattle.cell_turns.proofs.Acts.{acted_once}
 use Rattle.cell_turns.proofs.hands.hand.Goals as goal
 

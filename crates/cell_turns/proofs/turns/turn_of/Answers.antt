@@ -1,5 +1,5 @@
 use Rattle.std.proofs.Common.{ap, ◌∙◌, sym}
-use Rattle.plate_book.specs.Rules.History.{History}
+use Rattle.cell_rules.specs.History.{History}
 use Rattle.cell_turns.proofs.Minds.{ruling_is, decided, fits_turned}
 use Rattle.cell_turns.proofs.Declared.{fault_booked}
 use Rattle.cell_turns.proofs.OwnTurns.{own_turn, own_actor}

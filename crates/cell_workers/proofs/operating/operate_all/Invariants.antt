@@ -2,7 +2,7 @@ use Rattle.std.proofs.Common.{◌≡◌, true, List}
 use Rattle.cell_types.specs.declared.words.Actor.TheVariants as actor
 use Rattle.cell_ledger.specs.Held.{Held}
 use Rattle.operator_desk.specs.declared.line.Line.{Line}
-use Rattle.cell_turns.specs.Logs.{ActLog}
+use Rattle.cell_ports.specs.Logs.{ActLog}
 use Rattle.cell_workers.specs.Operating.{DidHands, Followed}
 use Rattle.cell_workers.specs.Working.{Serves}
 use Rattle.cell_workers.proofs.operating.operate_all.Given as goal

@@ -1,6 +1,6 @@
 use Rattle.std.proofs.Common.{◌+◌, length, ap, ◌∙◌}
 use Rattle.cell_types.specs.declared.words.Actor.TheVariants as actor
-use Rattle.cell_turns.specs.Logs.{Log}
+use Rattle.cell_ports.specs.Logs.{Log}
 use Rattle.cell_workers.proofs.Workers.{serves_start, sends_begun, shown_start, sent_all, evidence, turns_answered}
 use Rattle.cell_workers.proofs.Workers.{lost_more}
 use Rattle.cell_workers.proofs.working.run_worker.Goals as goal

@@ -1,7 +1,7 @@
 use Rattle.std.proofs.Common.{◌≡◌, true, false}
 use Rattle.cell_types.specs.declared.words.Actor.TheVariants as actor
 use Rattle.cell_ledger.specs.Held.{Held}
-use Rattle.cell_turns.specs.Logs.{Log}
+use Rattle.cell_ports.specs.Logs.{Log}
 use Rattle.cell_turns.specs.Sent.{Sends}
 use Rattle.cell_turns.specs.Minds.{machine_of_watch, has_failed_command}
 use Rattle.cell_workers.specs.Working.{Serves, Shown}

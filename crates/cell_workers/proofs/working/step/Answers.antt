@@ -1,6 +1,6 @@
 use Rattle.std.proofs.Common.{ap, ◌∙◌, refl, false, ◌+◌}
 use Rattle.cell_types.specs.Entries.{command_of}
-use Rattle.cell_turns.specs.Logs.{Log}
+use Rattle.cell_ports.specs.Logs.{Log}
 use Rattle.cell_turns.proofs.Logs.{sends_booked}
 use Rattle.cell_workers.proofs.Workers.{serves_turn, shown_turn, shown_sent, answered_quiet, answered_shown, at_none}
 use Rattle.cell_workers.proofs.Workers.{saw_sent, sends_read, answers_sent}

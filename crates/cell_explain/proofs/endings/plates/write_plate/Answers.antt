@@ -1,6 +1,6 @@
 -- What is told of a plate is whether the entry that would be its next is allowed, or why it isn't
 use Rattle.std.proofs.Common.{◌≡◌, None, Some, sym}
-use Rattle.plate_book.specs.Rules.Legal.{first_of}
+use Rattle.cell_rules.specs.Legal.{first_of}
 use Rattle.cell_explain.specs.Plates.{next_entry}
 use Rattle.cell_explain.proofs.endings.plates.write_plate.Goals as goal
 

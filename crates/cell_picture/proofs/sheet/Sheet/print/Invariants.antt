@@ -1,5 +1,5 @@
 -- The loop over the rows of signs
-use Rattle.cell_audit.specs.Watched.{IsSameWriter}
+use Rattle.cell_output.specs.Watched.{IsSameWriter}
 use Rattle.cell_picture.proofs.sheet.Sheet.print.Given as goal
 
 -- it still writes to the same writer

@@ -1,6 +1,6 @@
 use Rattle.std.proofs.Common.{◌≡◌, drop}
 use Rattle.plate_book.specs.Records.Recorded.{recorded}
-use Rattle.plate_book.specs.Rules.First.{first_true, all_resting}
+use Rattle.cell_rules.specs.First.{first_true, all_resting}
 use Rattle.plate_book.proofs.registers.Registers.not_all_resting.Given as goal
 
 abbrev pub invariant-loop-rest : goal.invariant-loop-rest

@@ -1,3 +1,0 @@
-pub mod Reads
-pub mod Router
-pub mod Lights

@@ -1,0 +1,14 @@
+pub mod Last
+pub mod Views
+pub mod Situations
+pub mod First
+pub mod Numbers
+pub mod Words
+pub mod History
+pub mod Legal
+pub mod Profiles
+pub mod Safety
+pub mod Carrying
+pub mod Invariants
+pub mod SituationIn
+pub mod Bridged

@@ -1,5 +1,0 @@
-use Rattle.plate_book.proofs.Carried.{carrying_when_legal}
-use Rattle.plate_book.proofs.laws.healthy_motions_carry.Goals as goal
-
-pub returns : goal.returns
-returns c = carrying_when_legal
