@@ -1,7 +1,7 @@
 -- What is said of a script's text
 use Rattle.std.specs.Prelude.{◌≡◌, ◌⊎◌, ℕ, List, [], length, Result, Ok, Err, codes}
 use Rattle.cell_rows.specs.Rows.{rows_of}
-use Rattle.cell_rows.specs.Scripts.{Gives, Reading, lines_of}
+use Rattle.cell_rows.specs.Scripts.{Gives, Reading, lines_of, script_status}
 use Rattle.cell_rows.specs.declared.script.LineError.{LineError}
 use Rattle.cell_rows.specs.declared.script.LineError.TheVariants as error
 use Rattle.cell_explain.specs.Sayings.{good_line, long_line}
@@ -10,9 +10,7 @@ use Rattle.cell_explain.specs.Told.{SaysNothing, SaysRecord}
 -- the status of an answer to a script
 abbrev pub script_ends : {L : Type 0} → Result (List L) LineError → ℕ
 script_ends (Ok lines) = 0
-script_ends (Err (error.Unreadable place)) = 1
-script_ends (Err error.TooManyLines) = 1
-script_ends (Err error.OutOfMemory) = 4
+script_ends (Err e) = script_status e
 
 -- what is said of a script of this name by the answer of its reading: how many lines it has, or the first record that
 -- is no line, or where the first of too many lines begins

@@ -41,6 +41,12 @@ lines_after read lines (row ∷ rest) =
 abbrev pub lines_of : {L : Type 0} → Reading L → List Row → Result (List L) LineError
 lines_of read rows = lines_after read [] rows
 
+-- the status by which a program tells a script's error
+abbrev pub script_status : LineError → ℕ
+script_status (error.Unreadable i) = 1
+script_status error.TooManyLines = 1
+script_status error.OutOfMemory = 4
+
 -- the answer is the one that is due, unless memory was refused
 abbrev pub Gives : {X : Type 0} → Result X LineError → Result X LineError → Type 0
 Gives (Ok x) due = due ≡ Ok x

@@ -2,7 +2,7 @@
 use Rattle.std.specs.Prelude.{◌≡◌, ℕ, List, [], Option, Result, Ok, Err, codes}
 use Rattle.std.specs.Io.KnownBytes.{Appends}
 use Rattle.cell_rows.specs.Rows.{rows_of}
-use Rattle.cell_rows.specs.Scripts.{Gives, lines_of}
+use Rattle.cell_rows.specs.Scripts.{Gives, lines_of, script_status}
 use Rattle.cell_rows.specs.declared.script.LineError.{LineError}
 use Rattle.cell_rows.specs.declared.script.LineError.TheVariants as error
 use Rattle.cell_output.specs.Numbers.{number_line}
@@ -39,7 +39,7 @@ AreInputs settings faults operator (Err (input.Operator e)) =
     (numbers : Numbers) × AreSettings settings numbers
     × ((planned : List PlannedFault) × AreFaults faults planned × Gives (Err e) (lines_of line_of (rows_of operator)))
 
--- the line of a script that is refused: the first words, by which a record that is no line or too many are told
+-- a refused script's line, by its words for a record that is no line and for too many lines
 abbrev pub script_line : List ℕ → List ℕ → LineError → List ℕ
 script_line unread long (error.Unreadable i) = number_line unread i
 script_line unread long error.TooManyLines = long
@@ -50,12 +50,6 @@ fault_line e = script_line (codes "faults unreadable") (codes "faults too long\n
 
 abbrev pub operator_line : LineError → List ℕ
 operator_line e = script_line (codes "operator unreadable") (codes "operator too long\n") e
-
--- and the status
-abbrev pub script_status : LineError → ℕ
-script_status (error.Unreadable i) = 1
-script_status error.TooManyLines = 1
-script_status error.OutOfMemory = 4
 
 -- the line of a text that is refused, and the status
 abbrev pub input_line : InputError → List ℕ

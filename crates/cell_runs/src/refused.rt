@@ -1,7 +1,8 @@
 //! What is printed of a text that is refused.
 ghost use Rattle.std.specs.Prelude.{◌≡◌, IfOk, IsErr, true};
 ghost use Rattle.cell_output.specs.Watched.{IsSameWriter, WritesPart, bytes_held, has_refused};
-ghost use Rattle.cell_runs.specs.Inputs.{WritesError, input_line, input_status, script_line, script_status};
+ghost use Rattle.cell_rows.specs.Scripts.{script_status};
+ghost use Rattle.cell_runs.specs.Inputs.{WritesError, input_line, input_status, script_line};
 
 use crate::inputs::InputError;
 use cell_output::{WatchedWriter, WriteFault, status, write_number};

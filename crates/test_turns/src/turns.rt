@@ -140,7 +140,7 @@ fn length_of_turns<R: Run>(
     length
 }
 
-// The same on a book, with ledgers that are blank.
+// The same over a book and blank ledgers, which it takes together.
 fn take_turns<R: Run>(
     rt: &impl Abort,
     alloc: Global,
@@ -159,7 +159,7 @@ fn take_turns<R: Run>(
     length_of_turns(rt, alloc, kept, shares, machine, plan, fault, turns)
 }
 
-// The same on a book with blank ledgers.
+// The same over a book alone, with blank ledgers of its own.
 fn length_after<R: AllocGlobal + Abort>(
     rt: &R,
     book: Book,
