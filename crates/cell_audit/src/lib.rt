@@ -1,4 +1,5 @@
-//! A journal's text: its audit, whether the text spells a legal journal and what that journal counts, and its writing.
+//! A journal's text: its audit, whether the text spells a legal journal and what that journal counts, its writing, its
+//! migration, and what is printed for an audit and a migration.
 #![tactic(auto)]
 
 mod booking;

@@ -1,4 +1,4 @@
-//! The machine cores: what each of the six machines does next.
+//! The machine cores: what each of the six machines does next, with the router and the lights that they ask.
 #![tactic(auto)]
 
 mod belts;

@@ -1,5 +1,5 @@
-//! The turns of the machines on one thread: what a turn books and which command it answers, what a port tells of what
-//! it was asked, and where a schedule of turns leads.
+//! The turns of the machines on one thread: what a turn books and which command it answers, and where a schedule of
+//! turns leads.
 #![tactic(auto)]
 
 pub mod hands;

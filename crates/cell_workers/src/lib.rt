@@ -1,5 +1,6 @@
 //! The workers of a run: six machines' and the operator's, each on a thread of its own, over one book under one lock.
-//! Ports, watches, turns and schedules on one thread are those of `cell_turns`, handed on under this crate's name.
+//! Ports and plans are those of `cell_ports`, and watches, turns and schedules on one thread those of `cell_turns`, all
+//! handed on under this crate's name.
 #![tactic(auto)]
 
 pub mod ends;
