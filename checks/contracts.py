@@ -398,9 +398,26 @@ def open_modules(crate):
         modules.add(module)
         text = blanked(read(f"{folder}/{module.replace('::', '/') or 'lib'}.rt"), "//")
         due += [f"{module}::{it}".removeprefix("::") for it in re.findall(r"^pub mod (\w+);", text, re.MULTILINE)]
-        for paths in re.findall(r"^pub use ([^;]*);", text, re.MULTILINE):
-            names |= {tuple(path.split("::")) for path in expand(paths)}
-    return modules, {(it[-1], tuple(part for part in it[:-1] if part not in ("crate", "self", "super"))) for it in names}
+        for path in handed_on(text):
+            names.add((path[-1], *last_module(folder, path)))
+    return modules, {(it[0], it[1:]) for it in names}
+
+
+def handed_on(text):
+    """The paths in a module's `pub use`, from its crate or from the module itself."""
+    found = [path.split("::") for paths in re.findall(r"^pub use ([^;]*);", text, re.MULTILINE) for path in expand(paths)]
+    return [[part for part in path if part not in ("crate", "self", "super")] for path in found]
+
+
+def last_module(folder, path):
+    """The module that has what a path names, also where the one that is named has it from one below by `pub use`."""
+    module = path[:-1]
+    file = f"{folder}/{'/'.join(module)}.rt"
+    if module and os.path.isfile(file):
+        for below in handed_on(blanked(read(file), "//")):
+            if below[-1] == path[-1] and len(below) > 1:
+                return last_module(folder, [*module, *below])
+    return module
 
 
 def is_open(item, modules, names):

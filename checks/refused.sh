@@ -113,11 +113,10 @@ refuse_calls() {
     local crate
     {
         list_tests test_refused '::' 0
-        list_tests test_refused_texts '::' 0
         list_tests test_workers 'refusals::' 0
-        list_tests test_commands 'refused::' 1
+        list_tests test_orders 'commands::refused::' 1
     } > "$folder/tests"
-    for crate in test_refused test_refused_texts test_workers test_commands; do
+    for crate in test_refused test_workers test_orders; do
         if ! grep -q "^$crate " "$folder/tests"; then
             wrong=$((wrong + 1))
             echo "$crate: no test to which memory could be refused"

@@ -2,3 +2,5 @@ mod Arguments
 mod Endings
 mod Showing
 pub mod Measuring
+pub mod Counted
+pub mod Known

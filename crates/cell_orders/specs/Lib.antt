@@ -4,3 +4,5 @@ pub mod Explores
 pub mod Measured
 pub mod Shows
 pub mod Texts
+pub mod Parts
+pub mod Ends

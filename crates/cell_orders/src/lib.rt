@@ -1,6 +1,6 @@
 //! What is done for an order of the command line that runs no cell: the audit, the migration, the pictures, the
 //! explanations and the measures of a journal, the check of a run's settings, and the search through every order of
-//! events. Files are read here, and what can't be read is told by the name of its file.
+//! events. Files are read here as far as they decide, and what can't be read is told by the name of its file.
 #![tactic(auto)]
 
 mod asked;
@@ -11,6 +11,7 @@ mod judge;
 mod measure;
 mod mistaken;
 mod noted;
+mod reading;
 mod show;
 mod texts;
 mod times;
@@ -22,6 +23,7 @@ pub use judge::{audit_file, check_file, migrate_file};
 pub use measure::measure_words;
 pub use mistaken::wrong;
 pub use noted::Noted;
+pub use reading::{JournalText, ScriptText, journal_text, script_text, settings_text};
 pub use show::show_words;
 pub use texts::{journal_in, script_in, settings_in, tell_too_long};
 pub use times::{durations_in, tell_times};

@@ -6,10 +6,10 @@ ghost use Rattle.cell_orders.specs.Texts.{TellsTooLong};
 
 use crate::failure::Failure;
 use crate::noted::Noted;
+use crate::reading::{JournalText, ScriptText, journal_text, script_text, settings_text};
 use cell_audit::AuditError;
 use cell_explain::{explain_faults, explain_journal, explain_operator};
 use cell_output::{WatchedWriter, WriteFault, status};
-use cell_reading::{JournalText, ScriptText, journal_text, script_text, settings_text};
 use cell_sim::PlannedFault;
 use operator_desk::Line;
 use std::alloc::{AllocError, Global};

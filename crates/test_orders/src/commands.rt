@@ -1,0 +1,4 @@
+//! The tests of `cell_command`.
+mod refused;
+mod told;
+mod words;
