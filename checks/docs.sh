@@ -141,25 +141,36 @@ look_at_crates() {
     [ "$(wc -l < README.md)" -le 80 ] || wrong "README.md has more than 80 lines"
 }
 
-# Each crate of the product is in a row of the README's map, and needs only crates of that row and of rows above.
+# Each crate of the product is in the README's map, behind those that it stands on, and in docs/CRATES.md in the row of its
+# number: one more than the greatest of those.
 look_at_layers() {
     local told
     told=$(awk '
         FNR == NR && /^\| `/ {
-            row++
             sub(/^\| /, "")
             sub(/ \|.*/, "")
             while (match($0, /`[a-z_]+`/)) {
-                layer[substr($0, RSTART + 1, RLENGTH - 2)] = row
+                layer[substr($0, RSTART + 1, RLENGTH - 2)] = ++place
                 $0 = substr($0, RSTART + RLENGTH)
             }
         }
         FNR == NR { next }
         { sub(/:$/, "", $1) }
         $1 ~ /^test_/ { next }
-        !($1 in layer) { print "README.md has no layer with " $1; next }
-        { for (i = 2; i <= NF; i++) if (layer[$i] > layer[$1]) print "README.md has " $1 " below " $i ", on which it stands" }
-    ' README.md crates.txt)
+        !($1 in layer) { print "README.md has no place for " $1; next }
+        { for (i = 2; i <= NF; i++) if (layer[$i] > layer[$1]) print "README.md has " $1 " before " $i ", on which it stands" }
+    ' README.md crates.txt
+    awk '
+        FNR == NR && /^[1-9] / { for (i = 2; i <= NF && $i ~ /^[a-z]+_[a-z]+$|^cellctl$/; i++) row[$i] = $1 }
+        FNR == NR { next }
+        { sub(/:$/, "", $1) }
+        $1 ~ /^test_/ { next }
+        {
+            level[$1] = 1
+            for (i = 2; i <= NF; i++) if (level[$i] >= level[$1]) level[$1] = level[$i] + 1
+            if (row[$1] != level[$1]) print "docs/CRATES.md has " $1 " in row " row[$1] ", and it belongs in row " level[$1]
+        }
+    ' docs/CRATES.md crates.txt)
     [ -z "$told" ] || wrong "$told"
 }
 

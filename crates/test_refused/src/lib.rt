@@ -1,8 +1,9 @@
 //! The tests of calls that are refused memory: those of the book, of turns and of runs, and those that read, judge,
 //! write, show or explain texts. Each marks one call, so that a library below the program can refuse memory to that
-//! call alone (docs/HOSTILE.md). It says which answers are right with ample memory and which without; in the modules
-//! books, turns and runs also that what the call was lent is as it was where memory was wanting. The tests of the calls
-//! of cell_workers stand in test_workers, whose rooms they need, and those of the command line in test_orders.
+//! call alone (docs/HOSTILE.md). It says which answers are right with ample memory and which without; those of `apply`
+//! and `turn` also that what the call was lent is as it was where memory was wanting, and that of `run_schedule` that
+//! the steps before stand. The tests of the calls of cell_workers stand in test_workers, whose rooms they need, and
+//! those of the command line in test_orders.
 #![tactic(auto)]
 
 #[cfg(test)]
