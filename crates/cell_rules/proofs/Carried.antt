@@ -31,10 +31,10 @@ use Rattle.cell_types.proofs.Left.{after_snoc}
 use Rattle.cell_rules.proofs.Safe.Bridge.{good_cell, good_passed, good_when_legal, along, marks_of}
 
 -- a station isn't empty
-abbrev Full : Snapshot → Station → Type 0
+abbrev pub Full : Snapshot → Station → Type 0
 Full s t = is_some (s.plate t) ≡ true
 
-abbrev Carried : Snapshot → Type 0
+abbrev pub Carried : Snapshot → Type 0
 Carried s = (a : Axis) (q : Pose) (t : Station) → s.going a ≡ Some q → carries_from a q ≡ Some t
     → s.failed (machine_of_axis a) ≡ false → Full s t
 
@@ -223,7 +223,7 @@ enters_full s place marks k p v i n t e =
     comes_full s.plate k Station.FeedIn t (λ d. n t (sym i ∙ v.plates.there t k d)) e
 
 -- a plate leaves no station from which a healthy machine's motion carries it
-carried_step : (l : BookLimits) (s : Snapshot) (place : ℕ → Place) (marks : ℕ → ℕ) (e : Entry) → Inv s place marks
+pub carried_step : (l : BookLimits) (s : Snapshot) (place : ℕ → Place) (marks : ℕ → ℕ) (e : Entry) → Inv s place marks
     → Passed (tests l (situation_in s) e) → Carried s → Carried (step e s)
 carried_step l s place marks (Entry.Admitted k) v h c = λ a q t g e f.
     let n : k ≡ s.admitted + 1 = eqb-true k (s.admitted + 1) (not_false (k == s.admitted + 1) h.1.1.1.0) in

@@ -27,8 +27,9 @@ use Rattle.cell_types.specs.Cell.{machine_of_station, axis_of_arm, station_of_ar
 use Rattle.cell_rules.specs.Situations.{Situation}
 use Rattle.cell_rules.specs.declared.limits.BookLimits.{BookLimits}
 use Rattle.cell_rules.specs.declared.refusal.Refusal.{Refusal}
-use Rattle.cell_rules.specs.declared.refusal.Refusal.TheVariants.{OutOfMemory}
-use Rattle.cell_rules.specs.First.{first, first_true, tests, not_resting_at, not_holder, all_resting, lamp_tests}
+use Rattle.cell_rules.specs.declared.refusal.Refusal.TheVariants.{JournalFull, OutOfMemory}
+use Rattle.cell_rules.specs.First.{first, first_true, kind_tests, tests, not_resting_at, not_holder, all_resting}
+use Rattle.cell_rules.specs.First.{lamp_tests}
 use Rattle.cell_rules.specs.First.{parked_tests, faces, outward_tests, arm_tests, press_tests, feed_belt_tests}
 use Rattle.cell_rules.specs.First.{deposit_belt_tests, started_tests, conveyed_tests, forged_tests, handing_tests}
 use Rattle.cell_rules.specs.First.{neighbour_tests, any_visited, any_still_there, station_empty, other_plate_at}
@@ -125,17 +126,25 @@ repaired_ascends : (c : Situation) (m : Machine) → ascends_from 4 (any_visited
 unfolding any_visited any_still_there
 repaired_ascends c m = refl
 
+pub kind_ascends : (l : BookLimits) (c : Situation) (e : Entry) → ascends_from 2 (kind_tests l c e) ≡ true
+kind_ascends l c (Lamp b to) = lamp_ascends c b to
+kind_ascends l c (Yielded m z) = yielded_ascends c m z
+kind_ascends l c (Started a to) = started_ascends c a to
+kind_ascends l c (Conveyed a k dest) = conveyed_ascends c a k (motion_to a dest)
+kind_ascends l c (Forged m k) = forged_ascends c m k
+kind_ascends l c (Gripped x k src) = handing_ascends c x src src (station_of_arm x) k (grips_at x src)
+kind_ascends l c (Dropped x k dest) = handing_ascends c x dest (station_of_arm x) dest k (drops_at x dest)
+kind_ascends l c (Quarantined k src) = quarantined_ascends c (machine_of_station src) src k
+kind_ascends l c (Repaired m) = repaired_ascends c m
+kind_ascends l c _ = refl
+
+-- the journal's room is tested first
 pub tests_ascend : (l : BookLimits) (c : Situation) (e : Entry) → ascends_from 1 (tests l c e) ≡ true
-tests_ascend l c (Lamp b to) = lamp_ascends c b to
-tests_ascend l c (Yielded m z) = yielded_ascends c m z
-tests_ascend l c (Started a to) = started_ascends c a to
-tests_ascend l c (Conveyed a k dest) = conveyed_ascends c a k (motion_to a dest)
-tests_ascend l c (Forged m k) = forged_ascends c m k
-tests_ascend l c (Gripped x k src) = handing_ascends c x src src (station_of_arm x) k (grips_at x src)
-tests_ascend l c (Dropped x k dest) = handing_ascends c x dest (station_of_arm x) dest k (drops_at x dest)
-tests_ascend l c (Quarantined k src) = quarantined_ascends c (machine_of_station src) src k
-tests_ascend l c (Repaired m) = repaired_ascends c m
-tests_ascend l c _ = refl
+tests_ascend l c e = from_one (kind_tests l c e) (kind_ascends l c e)
+  where
+    from_one : (ts : List (Bool × Refusal)) → ascends_from 2 ts ≡ true → ascends_from 1 ts ≡ true
+    from_one [] h = refl
+    from_one (t ∷ ts) h = grind (arith, nat_tests)
 
 -- the first test that holds has the least number of those that hold, and none has the last
 chosen : (b : Bool) (q r : Refusal) (o : Option Refusal) → refusal_number q ≤ 20 → (o ≡ Some r → refusal_number r ≤ 20)
@@ -170,6 +179,25 @@ first_is_no_memory l c e h = let n : 21 ≤ 20 = small 1 (tests l c e) OutOfMemo
 -- the first test that holds has the least number of those that hold
 le_trans : (n m k : ℕ) → nat_le n m ≡ true → nat_le m k ≡ true → nat_le n k ≡ true
 le_trans n m k a b = grind (arith, nat_tests)
+
+at_least_case : (n : ℕ) (t : Bool × Refusal) (o : Option Refusal) (r : Refusal) (b : Bool)
+    → (if b then Some t.1 else o) ≡ Some r → nat_le n (refusal_number t.1) ≡ true
+    → (o ≡ Some r → nat_le (refusal_number t.1) (refusal_number r) ≡ true) → nat_le n (refusal_number r) ≡ true
+at_least_case n t o r true e h f = let i : t.1 ≡ r = cc in rw (← i) h
+at_least_case n t o r false e h f = le_trans n (refusal_number t.1) (refusal_number r) h (f e)
+
+at_least : (n : ℕ) (ts : List (Bool × Refusal)) (r : Refusal) → ascends_from n ts ≡ true → first_true ts ≡ Some r
+    → nat_le n (refusal_number r) ≡ true
+unfolding first_true
+at_least n [] r h e = cc
+at_least n (t ∷ ts) r h e =
+    let p = and_both (nat_le n (refusal_number t.1)) (ascends_from (refusal_number t.1) ts) h in
+    at_least_case n t (first_true ts) r t.0 e p.0 (at_least (refusal_number t.1) ts r p.1)
+
+-- no test but the first is about the journal's room
+pub not_full : (l : BookLimits) (c : Situation) (e : Entry) → first_true (kind_tests l c e) ≢ Some JournalFull
+not_full l c e h =
+    let n : nat_le 2 1 ≡ true = at_least 2 (kind_tests l c e) JournalFull (kind_ascends l c e) h in cc
 
 -- in a list in order the numbers only grow
 all_later : (r : ℕ) (n : ℕ) (ts : List (Bool × Refusal)) → nat_le r n ≡ true → ascends_from n ts ≡ true

@@ -1,5 +1,5 @@
 -- An arm starts: its tests say where it stands, and it keeps the part of the invariant about axes and zones.
-use Rattle.std.proofs.Common.{◌≡◌, ◌≢◌, Bool, true, false, cond, Option, Some, None, is_some, refl, sym, ap, ◌∙◌}
+use Rattle.std.proofs.Common.{◌≡◌, ◌≢◌, true, Option, None, is_some, refl, sym, ap, ◌∙◌}
 use Rattle.std.proofs.Common.{arith, if◌then◌else◌}
 use Rattle.cell_types.specs.declared.words.Axis.{Axis}
 use Rattle.cell_types.specs.declared.words.Pose.{Pose}
@@ -11,8 +11,8 @@ use Rattle.cell_rules.specs.First.{outward_tests, arm_tests}
 use Rattle.cell_types.specs.After.{is_machine, Snapshot, with_at}
 use Rattle.cell_rules.specs.SituationIn.{situation_in}
 use Rattle.cell_rules.proofs.Safe.Facts.{pose_same, Axes, axes_of, rest, going_to, Passed}
-use Rattle.cell_rules.proofs.Safe.Motion.{Spot, TableSpot, Load1, Load2, Unload1, Unload2, DepositSpot, spot_arm}
-use Rattle.cell_rules.proofs.Safe.Motion.{Holders, Facing, ArmSafe, facing, TableWaits, may_go, MotionSafe, Away}
+use Rattle.cell_rules.proofs.Safe.Motion.{Spot, spot_arm}
+use Rattle.cell_rules.proofs.Safe.Motion.{Holders, Facing, ArmSafe, facing, may_go, MotionSafe, Away}
 use Rattle.cell_rules.proofs.Safe.Motion.{facing_put, arm_put, fits_put, fits_starts, begun, begun_owned}
 
 -- the arm itself moves out, or on its way

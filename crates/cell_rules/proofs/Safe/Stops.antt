@@ -7,7 +7,7 @@ use Rattle.cell_types.specs.Same.{same_axis}
 use Rattle.cell_types.specs.Cell.{axis_of_arm}
 use Rattle.cell_types.specs.After.{with_at}
 use Rattle.cell_rules.proofs.Safe.Facts.{pose_same, Axes, rest}
-use Rattle.cell_rules.proofs.Safe.Motion.{Spot, Holders, Facing, ArmSafe, inside, facing, TableWaits, fits}
+use Rattle.cell_rules.proofs.Safe.Motion.{Spot, Holders, Facing, ArmSafe, inside, facing, fits}
 use Rattle.cell_rules.proofs.Safe.Motion.{MotionSafe, Away, put_rest, facing_put, fits_put}
 
 -- an axis that moves isn't one that rests
