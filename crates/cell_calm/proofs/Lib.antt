@@ -1,0 +1,12 @@
+pub mod Room
+pub mod Entering
+pub mod Still
+pub mod Ends
+pub mod Decided
+pub mod Orders
+pub mod Possible
+pub mod Refused
+pub mod Nothing
+pub mod Resting
+pub mod Finished
+pub mod Runs

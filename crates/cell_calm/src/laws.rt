@@ -1,0 +1,54 @@
+//! Laws of calm runs, in which no machine is declared failed and no stop is asked. Each function's contract is the law,
+//! and its body is empty.
+ghost use Rattle.std.specs.Prelude.{◌≡◌, ◌≤◌, ◌*◌, ℕ, Bool, false, true, List, [], length};
+ghost use Rattle.cell_types.specs.declared.words.Entry.{Entry};
+ghost use Rattle.cell_types.specs.After.{after, opening};
+ghost use Rattle.cell_rules.specs.Views.{count_of};
+ghost use Rattle.cell_rules.specs.declared.limits.BookLimits.{BookLimits};
+ghost use Rattle.cell_ports.specs.declared.plan.Plan.{Plan};
+ghost use Rattle.cell_turns.specs.declared.schedule.Step.{Step};
+ghost use Rattle.cell_turns.specs.declared.six.Six.{Six};
+ghost use Rattle.cell_turns.specs.Minds.{Mind};
+ghost use Rattle.cell_turns.specs.Schedules.{Leads, now};
+ghost use Rattle.cell_workers.specs.declared.ends.End.TheVariants as end;
+ghost use Rattle.operator_desk.specs.declared.line.Line.{Line};
+ghost use Rattle.cell_runs.specs.Rounds.{IsRun};
+ghost use Rattle.cell_useful.specs.Moves.{is_finished};
+ghost use Rattle.cell_progress.specs.Orders.{IsPossible, cell_of};
+ghost use Rattle.cell_calm.specs.Calm.{HasRoom, is_calm};
+
+/// The journal of a calm run, whatever the machines' turns and whatever the readings and the operator, is an order of
+/// events in which nothing may fail and nobody serves: each entry is among those that can happen after the ones before
+/// it. So all that holds of every order of events holds of it.
+pub fn calm_runs_are_orders()
+    ensures { (l : BookLimits) (p : Plan) (first minds : Six Mind) (steps : List Step) (refused failed : ℕ)
+        (J : List Entry) → Leads l p (now [] first) steps refused failed (now J minds) → is_calm J ≡ true
+        → IsPossible p.plates false (λ m. false) opening J }
+{}
+
+/// So it has at most 76 entries for each plate.
+pub fn calm_runs_are_short()
+    ensures { (l : BookLimits) (p : Plan) (first minds : Six Mind) (steps : List Step) (refused failed : ℕ)
+        (J : List Entry) → Leads l p (now [] first) steps refused failed (now J minds) → is_calm J ≡ true
+        → length J ≤ 76 * p.plates }
+{}
+
+/// Where the limits leave room for the plan, no turn of it is refused.
+pub fn calm_turns_are_booked()
+    ensures { (l : BookLimits) (p : Plan) (first minds : Six Mind) (steps : List Step) (refused failed : ℕ)
+        (J : List Entry) → Leads l p (now [] first) steps refused failed (now J minds) → is_calm J ≡ true
+        → HasRoom l p.plates → refused ≡ 0 }
+{}
+
+/// A calm run in rounds, where the limits leave room for the plan, never ends because the journal is full or the
+/// plates' numbers have run out, and never comes to rest with plates left; where it ends finished, nothing more can
+/// happen, and all plates of the plan are delivered.
+pub fn calm_runs_deliver_all()
+    ensures never_full { (l : BookLimits) (p : Plan) (script : List Line) (J : List Entry)
+        → IsRun l p script J end.Full → is_calm J ≡ true → HasRoom l p.plates → ⊥ }
+    ensures never_stalled { (l : BookLimits) (p : Plan) (script : List Line) (J : List Entry)
+        → IsRun l p script J end.Stalled → is_calm J ≡ true → HasRoom l p.plates → ⊥ }
+    ensures finished { (l : BookLimits) (p : Plan) (script : List Line) (J : List Entry)
+        → IsRun l p script J end.Finished → is_calm J ≡ true → HasRoom l p.plates
+        → (is_finished p.plates false (cell_of (after J)) ≡ true) × ((count_of J).delivered ≡ p.plates) }
+{}
