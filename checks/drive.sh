@@ -1,8 +1,8 @@
 #!/usr/bin/env bash
 # Lets the example methods drive the simulated cell, with no fault, and with a press that fails and an operator; looks at how
-# each run ends, and that the hasty one breaks the rule that it says. Then it has compare.py print its table. Where python3
-# isn't there it says so and does nothing. Usage: checks/drive.sh     Build the program first: ./cellctl --prove does. CELLCTL
-# names another one.
+# each run ends, and that the hasty one breaks the rule that it says. Then it has compare.py print its table, and results.py
+# a row of CSV of a method that breaks a rule and of one that writes nothing. Where python3 isn't there it says so and does
+# nothing. Usage: checks/drive.sh     Build the program first: ./cellctl --prove does. CELLCTL names another one.
 set -u
 here=$(cd "$(dirname "$0")/.." && pwd) || exit 1
 export CELLCTL=${CELLCTL:-$here/crates/cellctl/out/cellctl}
@@ -54,4 +54,19 @@ if ! "$methods/compare.py" raw:"$methods/careful.py" raw:"$methods/hasty.py" "$m
     failed=1
 fi
 echo "drive: compare.py took $(($(date +%s) - start)) s"
+
+# The second method writes nothing, and is ended after five seconds.
+printf '#!/bin/sh\nexec sleep 100\n' > "$work/mute"
+chmod 755 "$work/mute"
+cat > "$work/due" << 'EOF'
+method,fault,end,delivered,lost,broken,rule,round,command,untrue,rounds
+hasty.py,,finished,0,6,12,ArmInPress,29,"on,press_one,top,",,272
+mute,,silent,,,,,,,,
+EOF
+timeout 60 examples/results.py --quick --csv --seconds 5 --only "raw:./$methods/hasty.py" --only "$work/mute" \
+    > "$work/rows" 2> "$work/told"
+if ! diff "$work/due" "$work/rows"; then
+    echo "  wanted: these rows (< due, > printed) of results.py --csv"
+    failed=1
+fi
 exit "$failed"

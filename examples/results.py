@@ -1,14 +1,13 @@
 #!/usr/bin/env python3
 """Makes the tables of docs/RESULTS.md. From the repository's top:
 
-    examples/results.py [METHOD..]
+    examples/results.py [OPTION..] [METHOD..]
 
 runs the methods below, and those that are named, by the same settings: without a fault, and with each kind of fault in each
 motion of each axis, alone. A METHOD is named as to examples/methods/compare.py. With `--quick` there are only the rows without
-a fault, and seconds in place of minutes.
+a fault, and seconds in place of minutes. The options `--only METHOD`, `--csv` and `--seconds N` are those of compare.py.
 """
 import argparse
-import concurrent.futures
 import csv
 import datetime
 import os
@@ -38,23 +37,16 @@ def faults(settings):
     return list(csv.DictReader(told.splitlines()))
 
 
-def runs_of(method, folder, count):
-    """What is told of a method's run without a fault, and with each of so many."""
-    def one(number):
-        return compare.run(method, (f"{folder}/settings", f"{folder}/{number}", "/dev/null"))
-    with concurrent.futures.ThreadPoolExecutor(os.cpu_count()) as pool:
-        return list(pool.map(one, range(count + 1)))
-
-
-def results(methods, is_quick):
-    """The faults, and the runs of each method."""
+def results(methods, asked):
+    """The scripts of the runs, the faults of all but the first, and the runs of each method."""
     with tempfile.TemporaryDirectory() as folder:
         settings = Path(folder, "settings")
         settings.write_text(compare.SETTINGS)
-        rows = [] if is_quick else faults(str(settings))
-        for number, script in enumerate(["", *map(compare.script_of, rows)]):
+        rows = [] if asked.quick else faults(str(settings))
+        scripts = ["", *map(compare.script_of, rows)]
+        for number, script in enumerate(scripts):
             Path(folder, str(number)).write_text(script)
-        return rows, [runs_of(method, folder, len(rows)) for method in methods]
+        return scripts, rows, [compare.compare(method, folder, len(rows), asked) for method in methods]
 
 
 def row(*cells):
@@ -71,9 +63,10 @@ def without_faults(each):
 def with_faults(faulty):
     """The rows of the runs with a fault: ends, sums and means."""
     yield row("finished", *(sum(run.get("end") == "finished" for run in runs) for runs in faulty))
+    yield from (row(*cells) for cells in compare.silent(faulty))
     yield row("all plates but one, or all", *(sum(run.get("delivered", 0) >= PLATES - 1 for run in runs) for runs in faulty))
     for word in SUMS:
-        yield row(word, *(sum(run[word] for run in runs) if word in runs[0] else "-" for runs in faulty))
+        yield row(word, *(sum(run.get(word, 0) for run in runs) if any(word in run for run in runs) else "-" for runs in faulty))
     yield row("rounds, mean", *(round(statistics.mean(run.get("rounds", 0) for run in runs)) for runs in faulty))
 
 
@@ -96,12 +89,17 @@ def show(title, names, rows):
 
 
 def main():
-    words = argparse.ArgumentParser(description="Makes the tables of docs/RESULTS.md.")
-    words.add_argument("--quick", action="store_true", help="only the rows without a fault")
-    words.add_argument("methods", nargs="*", metavar="METHOD", help="a program, or raw: and a program by commands")
-    asked = words.parse_args()
+    parser = argparse.ArgumentParser(description="Makes the tables of docs/RESULTS.md.",
+                                     epilog="Example: examples/results.py --quick --csv --only careful.py --only guarded.py")
+    parser.add_argument("--quick", action="store_true", help="only the rows without a fault")
+    compare.add_options(parser)
+    asked = parser.parse_args()
     methods = METHODS | {os.path.basename(method): method for method in asked.methods}
-    rows, each = results(methods.values(), asked.quick)
+    methods = dict(compare.chosen(parser, list(methods.items()), asked.only))
+    scripts, rows, each = results(methods.values(), asked)
+    if asked.csv:
+        compare.write_csv(methods, scripts, each)
+        return
     faulty = [runs[1:] for runs in each]
     version = subprocess.run([compare.CELLCTL, "--version"], stdout=subprocess.PIPE, text=True).stdout.strip()
     print(f"Made on {datetime.date.today()} by {version}, on {os.cpu_count()} processors ({processor()}).")

@@ -4,8 +4,8 @@
     examples/exercises/check.py NUMBER [FILE]
 
 FILE is the answer; where none is given it is the file `mine` with the ending of the exercise's starting file, in its folder. The
-status is 0 if it is solved, else 1, and a line says what is missing. The last exercise has 42 runs, or with `--all` 126. A method's
-run is ended after a minute.
+status is 0 if it is solved, else 1, and a line says what is missing. The last exercise has 42 runs, or with `--all` 126. A method
+that owes a line, or its end, for a minute is ended.
 """
 import argparse
 import concurrent.futures
@@ -73,7 +73,7 @@ def drive(folder, method, faults="/dev/null"):
 
 def need_told(run, when):
     """The method was there when the run ended: it copied what the cell told then. Else there is what it said first."""
-    need(run.get("end") != compare.LATE, f"{when} the run {compare.LATE}")
+    need(run.get("end") != compare.SILENT, f"{when} the method owed a line, or its end, for {compare.SECONDS} seconds")
     said = f'first it said "{run["end"].strip()}", and the commands of TASK.md show the rest' if "end" in run else "it said nothing"
     need(run.get("end") in ENDS, f"{when} the method broke off before the run's end: {said}")
 
