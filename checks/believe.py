@@ -11,6 +11,7 @@ counts besides. A type that is seen as another value has no fields for a caller,
 are only steps of proofs aren't listed. Of std and of the kit's crates it lists the names apart. It reads the sources and
 proves nothing. Exit status 2: no such call, or several."""
 
+import re
 import sys
 
 sys.dont_write_bytecode = True
@@ -96,7 +97,11 @@ class Reach:
         for name, other in own.items():
             if contracts.is_named(name, words):
                 self.add_definition(other)
-        self.follow_imports(words, [one for one in imports if one[0] not in own])
+        modules = [one for one in imports if not one[2] and one[1] in contracts.specs().modules]
+        for name, source, _ in modules:
+            for word in re.findall(rf"\b{name}\.(\w+)", it.text):
+                self.follow_path(source, word)
+        self.follow_imports(words, [one for one in imports if one[0] not in own and one not in modules])
 
     def follow_imports(self, words, imports):
         for name, path, old in imports:
