@@ -33,7 +33,8 @@ use Rattle.cell_machines.specs.Robot.{of_plate, wants_handing, handings, has_han
 use Rattle.cell_progress.specs.Orders.{cell_of}
 use Rattle.cell_progress.specs.Rank.{robot_rank, has_work, works_in, is_there, is_turned_in}
 use Rattle.cell_progress.proofs.RobotRank.{any_kept, SameAxes, Bits}
-use Rattle.cell_progress.proofs.RobotFalls.{OneZone, lower, is_mine, holds_in, is_there_in, work_only, not_so}
+use Rattle.cell_progress.proofs.RobotFalls.{OneZone, lower, is_mine, holds_in, is_there_in, work_only}
+use Rattle.cell_progress.proofs.Machines.{not_so}
 use Rattle.cell_progress.proofs.RobotFalls.{robots_arm, jobs_moved}
 
 abbrev pub other : Arm → Arm

@@ -16,10 +16,7 @@ use Rattle.cell_progress.proofs.Happening.{is_service, no_service}
 use Rattle.cell_progress.proofs.States.{Done, Served, unserved_done, served_done, not_both}
 use Rattle.cell_progress.proofs.Taken.{taken}
 use Rattle.cell_progress.proofs.Counted.{plates_at}
-use Rattle.cell_progress.proofs.Onward.{kept, one_fails, whole_after, few_after}
-
-finished_nil : (l n : Bool) → (not l && n) ≡ true → n ≡ true
-finished_nil l n h = grind arith
+use Rattle.cell_progress.proofs.Onward.{kept, finished_nil, one_fails, whole_after, few_after}
 
 -- without an operator no plate is cleared
 none_cleared : (s : Snapshot) (plan : ℕ) (may : Machine → Bool) (es : List Entry) → IsPossible plan false may s es

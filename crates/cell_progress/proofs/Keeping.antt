@@ -162,7 +162,7 @@ keep_cleared s k _ e = (refl, (λ h. h), λ h. h)
 abbrev pub Others : Snapshot → Entry → Machine → Type 0
 Others s e m = (o : Machine) → same_machine m o ≡ false → part o (next e s) ≤ part o (cell_of s)
 
-le_same : (n : ℕ) → n ≤ n
+pub le_same : (n : ℕ) → n ≤ n
 le_same n = omega arith
 
 le_equal : (n m : ℕ) → n ≡ m → n ≤ m

@@ -1,5 +1,5 @@
 -- Where nothing can happen, healthy machines are at rest and wait
-use Rattle.std.proofs.Common.{◌≡◌, ◌≢◌, ℕ, true, false, Some, None, is_some, List, [], ◌∷◌, arith, ◌⊎◌}
+use Rattle.std.proofs.Common.{◌≡◌, ◌≢◌, ℕ, true, false, Some, None, is_some, List, [], ◌∷◌, arith, ◌⊎◌, Bool, refl}
 use Rattle.cell_types.specs.declared.words.Machine.{Machine}
 use Rattle.cell_types.specs.declared.words.Station.{Station}
 use Rattle.cell_types.specs.declared.words.Axis.{Axis}
@@ -38,6 +38,10 @@ pub record Kept (s : Snapshot) : Type 0 where
   pub top_one : s.at Axis.PressOne ≡ Pose.Top → s.holder Zone.Z3 ≡ Some Machine.Press1
   pub top_two : s.at Axis.PressTwo ≡ Pose.Top → s.holder Zone.Z4 ≡ Some Machine.Press2
   pub expected : s.expected ≡ None
+
+pub not_so : (b : Bool) → (b ≡ true → ⊥) → b ≡ false
+not_so true h = absurd (h refl)
+not_so false h = refl
 
 -- one press or the other
 pub data Which : Type 0 where

@@ -15,7 +15,7 @@ use Rattle.cell_rules.proofs.Safe.Facts.{pose_same, machine_same, zone_same, axe
 use Rattle.cell_rules.proofs.Safe.Motion.{ArmSafe, Facing, Spot, spot_arm, spot_station}
 use Rattle.cell_rules.proofs.Safe.Step.{hands, at_spot}
 use Rattle.cell_progress.specs.Orders.{cell_of, unnumbered}
-use Rattle.cell_progress.proofs.Machines.{Which, press}
+use Rattle.cell_progress.proofs.Machines.{Which, not_so, press}
 use Rattle.cell_progress.proofs.Happening.{Happens, by_wish, Wanted}
 use Rattle.cell_progress.proofs.Taken.{taken, occupied_after}
 use Rattle.cell_progress.proofs.Passing.{Allowed}
@@ -59,9 +59,6 @@ pub not_visited : (s : Snapshot) (m : Machine) (z : Zone) → Passed (any_visite
 unfolding any_visited is_machine
 not_visited s m z h e = grind (arith, machine_same)
 
-falsely : (b : Bool) → (b ≡ true → ⊥) → b ≡ false
-falsely b n = grind arith
-
 -- an axis on which a visitor relies stays at rest
 pub relied_on : (s : Snapshot) (e : Entry) (y : Axis) (z : Zone) (r : Pose) → Allowed s e
     → s.holder z ≡ Some (visitor z) → owner z ≡ machine_of_axis y → axes_of s y ≡ rest r → axes_of (step e s) y ≡ rest r
@@ -85,7 +82,7 @@ pub keeps_zone : (plan : ℕ) (may : Machine → Bool) (s : Snapshot) (e : Entry
     → s.holder y ≡ Some w → (step e s).holder y ≡ Some w
 unfolding is_machine
 keeps_zone plan may s (Claimed m z) y w _ p _ _ d = grind (arith, pose_same)
-keeps_zone plan may s (Yielded m z) y w h p u r d = rw (falsely (same_zone z y) gives) d
+keeps_zone plan may s (Yielded m z) y w h p u r d = rw (not_so (same_zone z y) gives) d
   where
     gives : same_zone z y ≡ true → ⊥
     gives i =

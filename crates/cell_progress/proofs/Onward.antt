@@ -36,6 +36,10 @@ one_fails first may failed o w = (o.0, o.1, λ m e. o.2 m (w m (or_right (may m)
     or_right : (a b : Bool) → b ≡ true → (a || b) ≡ true
     or_right a b e = grind arith
 
+-- where it is finished nothing can happen but a failure
+pub finished_nil : (l n : Bool) → (not l && n) ≡ true → n ≡ true
+finished_nil l n h = grind arith
+
 -- nothing is stuck after entries that can happen
 abbrev pub Free : ℕ → Bool → (Machine → Bool) → Snapshot → Type 0
 Free plan serves may s = (es : List Entry) → IsPossible plan serves may s es

@@ -37,7 +37,7 @@ use Rattle.cell_progress.proofs.RobotRank.{robot_kept, robot_eight, robot_most}
 use Rattle.cell_progress.proofs.RobotFalls.{holds_none}
 use Rattle.cell_progress.proofs.ArmFalls.{handing, Reach, reach_bits, out_most}
 use Rattle.cell_progress.proofs.Keeping.{next, part_held, freed_mine, freed_other, keep_table, keep_repaired, keep_low}
-use Rattle.cell_progress.proofs.Keeping.{keep_cleared}
+use Rattle.cell_progress.proofs.Keeping.{keep_cleared, le_same}
 
 -- no part is raised but one, or two
 abbrev pub up : Machine → ℕ → Machine → ℕ
@@ -220,10 +220,7 @@ repaired_other s machine.Table machine.Table w n r = cc
 repaired_other s machine.Press1 machine.Press1 w n r = cc
 repaired_other s machine.Press2 machine.Press2 w n r = cc
 repaired_other s machine.Deposit machine.Deposit w n r = cc
-repaired_other s _ o w n r = le (part o (cell_of s))
-  where
-    le : (n : ℕ) → n ≤ n
-    le n = omega arith
+repaired_other s _ o w n r = le_same (part o (cell_of s))
 
 repaired_else : (s : Snapshot) (m o : Machine) → Repairs s m → same_machine m o ≡ false
     → same_machine o machine.Robot ≡ false → part o (next (Repaired m) s) ≤ part o (cell_of s) + up_repaired m o

@@ -24,6 +24,7 @@ use Rattle.cell_machines.specs.Robot.{is_drawn_in, holds_a_zone, is_at_job}
 use Rattle.cell_progress.specs.Orders.{cell_of}
 use Rattle.cell_progress.specs.Rank.{robot_rank, robot_by, any_zone, has_work, works_in, is_there, there_in}
 use Rattle.cell_progress.specs.Rank.{is_turned_in}
+use Rattle.cell_progress.proofs.Machines.{not_so}
 use Rattle.cell_progress.proofs.RobotRank.{any_is, any_tells, motion, Bits, rank_bits}
 
 -- the robot has both arms in, as the wish says
@@ -77,10 +78,6 @@ there_only : (s : Snapshot) (z : Zone) → OneZone s → s.holder z ≡ Some mac
     → is_there (cell_of s) ≡ true → is_turned_in (cell_of s) z ≡ true
 unfolding is_there
 there_only s z one m h = only s (is_turned_in (cell_of s)) z one m h
-
-pub not_so : (b : Bool) → (b ≡ true → ⊥) → b ≡ false
-not_so true h = absurd (h refl)
-not_so false h = refl
 
 pub drawn_bits : (s : Snapshot) → DrawnIn s → Bits (cell_of s) false false false false
 unfolding is_drawn_in

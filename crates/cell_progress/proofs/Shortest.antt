@@ -1,5 +1,5 @@
 -- How low the rank can get, and so how many entries there can be
-use Rattle.std.proofs.Common.{◌≡◌, ◌≢◌, ◌⊎◌, ℕ, ◌+◌, ◌-◌, ◌*◌, ◌<◌, ◌≤◌, Bool, true, false, ◌&&◌, not, Option, Some}
+use Rattle.std.proofs.Common.{◌≡◌, ◌≢◌, ◌⊎◌, ℕ, ◌+◌, ◌-◌, ◌*◌, ◌<◌, ◌≤◌, Bool, true, false, Option, Some}
 use Rattle.std.proofs.Common.{None, is_some, ◌||◌, List, [], ◌∷◌, arith, length, suc}
 use Rattle.std.specs.Prelude.{nat_lt}
 use Rattle.std.specs.List.{Contains}
@@ -22,7 +22,7 @@ use Rattle.cell_progress.proofs.States.{Done, served_done}
 use Rattle.cell_progress.proofs.Robots.{holds_nothing}
 use Rattle.cell_progress.proofs.Whole.{Whole, whole_start, whole_step, whole_from}
 use Rattle.cell_progress.proofs.Falls.{falls}
-use Rattle.cell_progress.proofs.Onward.{kept, goes, served_free, whole_after}
+use Rattle.cell_progress.proofs.Onward.{kept, finished_nil, goes, served_free, whole_after}
 
 -- the rank falls with every entry
 pub rank_law : (plan : ℕ) (serves : Bool) (may : Machine → Bool) (es : List Entry) (e : Entry)
@@ -102,9 +102,6 @@ rank_least plan may s p w =
     sums (length g.rest) (rank plan (may_then g.rest may) (cell_of t)) (rank plan may (cell_of s))
     (rank_last t plan (may_then g.rest may) x d.done) (bounded plan true may s g.rest w g.possible)
   where
-    finished_nil : (l n : Bool) → (not l && n) ≡ true → n ≡ true
-    finished_nil l n h = grind arith
-
     sums : (n a b : ℕ) → 9 ≤ a → n + a ≤ b → 9 ≤ b
     sums n a b h i = omega arith
 

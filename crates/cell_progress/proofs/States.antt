@@ -14,9 +14,9 @@ use Rattle.cell_useful.specs.Events.{arrived, forged}
 use Rattle.cell_useful.specs.Moves.{is_nil, acts_of, is_left, is_to_move, is_stuck}
 use Rattle.cell_progress.specs.Orders.{cell_of, IsOnePress}
 use Rattle.cell_progress.proofs.Quiet.{Quiet, quiet, Unserved, unserved, mended}
-use Rattle.cell_progress.proofs.Machines.{Kept, Which, First, Second, press, axis_rests, press_rests, feed_rests}
+use Rattle.cell_progress.proofs.Machines.{Kept, Which, First, Second, not_so, press, axis_rests, press_rests}
 use Rattle.cell_progress.proofs.Machines.{deposit_rests, wants_none, feed_free, TableWaits, table_waits, press_waits}
-use Rattle.cell_progress.proofs.Machines.{DepositWaits, deposit_waits}
+use Rattle.cell_progress.proofs.Machines.{feed_rests, DepositWaits, deposit_waits}
 use Rattle.cell_progress.proofs.Robots.{Drawn, HoldsNone, drawn, holds_none, no_job, State, broken, waits, Waiting}
 use Rattle.cell_progress.proofs.Robots.{arm_two_empty, press_empty, arm_one_empty, table_empty, feed_end_empty}
 use Rattle.cell_progress.proofs.Robots.{feed_in_empty, all_admitted}
@@ -121,10 +121,6 @@ done s plan n k q i ft fd some =
     let l2 = press_left s Second refl p2 in
     assumption
 
-not_true_is : (b : Bool) → (b ≡ true → ⊥) → b ≡ false
-not_true_is true h = absurd (h refl)
-not_true_is false h = refl
-
 pub not_both : (f : Machine → Bool) → IsOnePress f → f Machine.Press1 ≡ true → f Machine.Press2 ≡ true → ⊥
 not_both f o a b = let d : Machine.Press1 ≡ Machine.Press2 = o.2 Machine.Press1 a ∙ sym (o.2 Machine.Press2 b) in cc
 
@@ -143,7 +139,7 @@ unserved_done s plan n k o h =
     no_press m p (inr e) n1 n2 i = n2 (i ∙ e)
 
     well : (m : Machine) → m ≢ Machine.Press1 → m ≢ Machine.Press2 → s.failed m ≡ false
-    well m n1 n2 = not_true_is (s.failed m) (λ e. no_press m o.0 o.1 n1 n2 (o.2 m e))
+    well m n1 n2 = not_so (s.failed m) (λ e. no_press m o.0 o.1 n1 n2 (o.2 m e))
 
 -- with one who serves all are healthy: nobody visits Feed and the robot, and they visit nobody
 idle_served : (s : Snapshot) (plan : ℕ) → Kept s → Quiet plan (cell_of s) → Unserved (cell_of s) → Idle s
