@@ -1,5 +1,5 @@
 -- What the operator's worker does of his script, and what his hands did for his list of entries
-use Rattle.std.specs.Prelude.{◌≡◌, ◌+◌, ◌⊎◌, ⊤, true, Some, is_some, List, [], ◌∷◌, ◌++◌}
+use Rattle.std.specs.Prelude.{◌≡◌, ◌≢◌, ◌+◌, ◌⊎◌, ⊤, true, Some, is_some, List, [], ◌∷◌, ◌++◌}
 use Rattle.cell_types.specs.declared.words.Entry.{Entry}
 use Rattle.cell_ports.specs.declared.port.Act.{Act}
 use Rattle.cell_ports.specs.Logs.{ActLog}
@@ -10,6 +10,7 @@ use Rattle.operator_desk.specs.Next.{entry_of, left_after, next_of}
 use Rattle.operator_desk.specs.declared.action.Action.{Action}
 use Rattle.operator_desk.specs.declared.line.Line.{Line}
 use Rattle.cell_rules.specs.History.{History}
+use Rattle.cell_rules.specs.Views.{is_quarantined}
 use Rattle.cell_rules.specs.Legal.{first_of, legal}
 use Rattle.cell_rules.specs.declared.limits.BookLimits.{BookLimits}
 use Rattle.cell_rules.specs.declared.refusal.Refusal.{Refusal}
@@ -47,11 +48,13 @@ pub record IsRefusedBy (l : BookLimits) (e : Entry) (why : Refusal) : Type 0 whe
   pub lawful : legal history.limits history.entries ≡ true
   pub refused : first_of history.limits history.entries e ≡ Some why
 
--- the end by which the refusal of an entry's booking is told; memory may have been wanting to the list too
+-- the end by which the refusal of a booking is told, once the list has a place for the entry: only the quarantine wants
+-- memory then, Full is the refusal by a full journal, and PortLost any other. The journals of the last two aren't tied
+-- to the run's book.
 abbrev pub RefusedAs : BookLimits → Entry → Ended → Type 0
-RefusedAs l e Memory = ⊤
+RefusedAs l e Memory = is_quarantined e ≡ true
 RefusedAs l e Full = IsRefusedBy l e JournalFull
-RefusedAs l e PortLost = (why : Refusal) × IsRefusedBy l e why
+RefusedAs l e PortLost = (why : Refusal) × (why ≢ JournalFull) × IsRefusedBy l e why
 RefusedAs l e _ = ⊥
 
 -- from one log to another exactly the acts of these entries were done, and none failed

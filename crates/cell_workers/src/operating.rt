@@ -1,6 +1,6 @@
 //! The operator's worker.
-ghost use Rattle.std.specs.Prelude.{◌≡◌, ◌≢◌, ◌⊎◌, ◌++◌, ◌∷◌, [], List, true, IfOk, IfErr, OnOk, OnErr, IfSome, IfNone};
-ghost use Rattle.std.specs.Prelude.{All, Some, IsSome, is_some};
+ghost use Rattle.std.specs.Prelude.{◌≡◌, ◌≢◌, ◌<◌, ◌⊎◌, ◌++◌, ◌∷◌, [], List, true, IfOk, IfErr, OnOk, OnErr, IfSome};
+ghost use Rattle.std.specs.Prelude.{IfNone, All, Some, IsSome, is_some, vec_capacity, vec_len};
 ghost use Rattle.cell_types.specs.Entries.{actor_of};
 ghost use Rattle.cell_types.specs.declared.words.Actor.TheVariants as actors;
 ghost use Rattle.cell_rules.specs.Views.{count_of};
@@ -45,7 +45,8 @@ impl<R: Run> Hall<R> {
             (plus bookings.old.shares.counts (count_one entry))) }
         ensures unchanged { OnErr result ((bookings.new.entries.items ≡ bookings.old.entries.items)
             × (bookings.new.shares ≡ bookings.old.shares)) }
-        ensures refused { IfErr result (λ ended. RefusedAs R.limits entry ended) }
+        ensures refused { vec_len bookings.old.entries < vec_capacity bookings.old.entries
+            → IfErr result (λ ended. RefusedAs R.limits entry ended) }
         ensures allowed { is_some (first_of self.old.kept.limits self.old.kept.entries entry) ≢ true
             → IfErr result (λ ended. ended ≡ Ended.Memory) }
         ensures kept { OnErr result (self.new.kept ≡ self.old.kept) }
@@ -89,7 +90,8 @@ fn locked_booking<R: Run, W: Wait>(
         (plus bookings.old.shares.counts (count_one entry))) }
     ensures unchanged { OnErr result ((bookings.new.entries.items ≡ bookings.old.entries.items)
         × (bookings.new.shares ≡ bookings.old.shares)) }
-    ensures refused { IfErr result (λ ended. RefusedAs R.limits entry ended) }
+    ensures refused { vec_len bookings.old.entries < vec_capacity bookings.old.entries
+        → IfErr result (λ ended. RefusedAs R.limits entry ended) }
 {
     let taken = room.hall.lock(rt).take(bookings, entry);
     if taken != Err(Ended::PortLost) {
