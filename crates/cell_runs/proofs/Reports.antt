@@ -15,9 +15,10 @@ use Rattle.cell_runs.specs.Runs.{PartOfRounds, PrintsOrStops, WritesReport, Writ
 -- printing doesn't look at the plan, so what the report has to do with it may be told afterwards
 pub report-printed : {E : Type 0} (r : Result ℕ E) (journal : Bool) (e : End) (J : List Entry) (t : Totals)
     (ws : List (List Entry × Totals)) (old new : Option (List ℕ))
-    → IfOk r (PrintsOrStops journal e t J old new) → IfOk r (λ status. (plan : Plan) → IsReport (limits_of plan) J t ws
-    → WritesReport journal plan old new status (Some (kept J e plan)))
-report-printed (Ok status) journal e J t ws old new printed = λ plan is. inl (e, J, t, ws, is, printed, refl)
+    → IfOk r (PrintsOrStops journal e t J old new)
+    → IfOk r (λ status. (plan : Plan) (script : List Line) → IsReport (limits_of plan) script J t ws
+    → WritesReport journal plan script old new status (Some (kept J e plan)))
+report-printed (Ok status) journal e J t ws old new printed = λ plan script is. inl (e, J, t, ws, is, printed, refl)
 report-printed (Err error) journal e J t ws old new printed = printed
 
 -- the printer has the book's journal and the totals that the book counted, which are those of the run

@@ -110,24 +110,25 @@ WritesRunError old new error.OutOfMemory status = WritesError old new [] 4 statu
 WritesRunError old new error.ThreadRefused status = WritesError old new [] 4 status
 WritesRunError old new error.JournalDisagrees status = WritesError old new disagrees_line 1 status
 
--- a run on threads by this plan has a report, which is printed with the run's end, and it is kept; or why there is none
--- is told
-abbrev pub WritesReport : Bool → Plan → Option (List ℕ) → Option (List ℕ) → ℕ → Option Kept → Type 0
-WritesReport journal plan old new status run =
-    ((e : End) × (J : List Entry) × (t : Totals) × (ws : List (List Entry × Totals)) × IsReport (limits_of plan) J t ws
-    × PrintsOrStops journal e t J old new status × (run ≡ Some (kept J e plan)))
+-- a run on threads by this plan and this script of the operator has a report, which is printed with the run's end, and
+-- it is kept; or why there is none is told
+abbrev pub WritesReport : Bool → Plan → List Line → Option (List ℕ) → Option (List ℕ) → ℕ → Option Kept → Type 0
+WritesReport journal plan script old new status run =
+    ((e : End) × (J : List Entry) × (t : Totals) × (ws : List (List Entry × Totals))
+    × IsReport (limits_of plan) script J t ws × PrintsOrStops journal e t J old new status
+    × (run ≡ Some (kept J e plan)))
     ⊎ ((why : RunError) × WritesRunError old new why status × (run ≡ None))
 
 -- a first part of what is printed of a report, or of the line where there is none, was written, and not all of it
-abbrev pub PartOfReport : Bool → BookLimits → Option (List ℕ) → Option (List ℕ) → Type 0
-PartOfReport journal limits old new =
-    ((e : End) × (J : List Entry) × (t : Totals) × (ws : List (List Entry × Totals)) × IsReport limits J t ws
+abbrev pub PartOfReport : Bool → BookLimits → List Line → Option (List ℕ) → Option (List ℕ) → Type 0
+PartOfReport journal limits script old new =
+    ((e : End) × (J : List Entry) × (t : Totals) × (ws : List (List Entry × Totals)) × IsReport limits script J t ws
     × WritesPart old new (shown journal e t J))
     ⊎ WritesPart old new disagrees_line
 
 abbrev pub WritesRun : Bool → Bool → Inputs → Option (List ℕ) → Option (List ℕ) → ℕ → Option Kept → Type 0
 WritesRun false journal inputs old new status run = WritesRounds journal inputs.plan inputs.script old new status run
-WritesRun true journal inputs old new status run = WritesReport journal inputs.plan old new status run
+WritesRun true journal inputs old new status run = WritesReport journal inputs.plan inputs.script old new status run
 
 -- what is printed of a run's texts, or of the first that is refused; a run is kept
 abbrev pub WritesInputs : Bool → Bool → Option (List ℕ) → Option (List ℕ) → ℕ → Option Kept → Result Inputs InputError
@@ -151,7 +152,7 @@ TellsRun settings faults operator threads journal old new status =
 
 abbrev pub PartOfRun : Bool → Bool → Inputs → Option (List ℕ) → Option (List ℕ) → Type 0
 PartOfRun false journal inputs old new = PartOfRounds journal inputs.plan inputs.script old new
-PartOfRun true journal inputs old new = PartOfReport journal (limits_of inputs.plan) old new
+PartOfRun true journal inputs old new = PartOfReport journal (limits_of inputs.plan) inputs.script old new
 
 abbrev pub PartOfInputs : Bool → Bool → Option (List ℕ) → Option (List ℕ) → Result Inputs InputError → Type 0
 PartOfInputs threads journal old new (Ok inputs) = PartOfRun threads journal inputs old new

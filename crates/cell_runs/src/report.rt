@@ -140,14 +140,15 @@ pub fn write_report<W: Write>(
     writer: &mut WatchedWriter<'_, W>,
 ) -> Result<u8, WriteFault>
     ensures writer { IsSameWriter writer.old writer.new }
-    ensures whole { IfOk result (λ status. (plan : PlanValue)
-        → IsReport (limits_of plan) report.now.journal.entries report.now.totals
+    ensures whole { IfOk result (λ status. (plan : PlanValue) (script : List Line)
+        → IsReport (limits_of plan) script report.now.journal.entries report.now.totals
         (map (λ w. (w.0.items, w.1)) report.now.workers)
-        → WritesReport journal plan (bytes_held W.contents writer.old) (bytes_held W.contents writer.new) status
+        → WritesReport journal plan script (bytes_held W.contents writer.old) (bytes_held W.contents writer.new) status
         (Some (kept report.now.journal.entries report.now.end plan))) }
-    ensures part { IsErr result → (limits : BookLimits)
-        → IsReport limits report.now.journal.entries report.now.totals (map (λ w. (w.0.items, w.1)) report.now.workers)
-        → PartOfReport journal limits (bytes_held W.contents writer.old) (bytes_held W.contents writer.new) }
+    ensures part { IsErr result → (limits : BookLimits) (script : List Line)
+        → IsReport limits script report.now.journal.entries report.now.totals
+        (map (λ w. (w.0.items, w.1)) report.now.workers)
+        → PartOfReport journal limits script (bytes_held W.contents writer.old) (bytes_held W.contents writer.new) }
     ensures fault { IsErr result → has_refused writer.new ≡ true }
 {
     write_run(

@@ -94,12 +94,12 @@ fn write_threads<R: AllocGlobal + Threads + Wait + Sync, W: Write>(
     writer: &mut WatchedWriter<'_, W>,
 ) -> Result<(u8, Left), WriteFault>
     ensures writer { IsSameWriter writer.old writer.new }
-    ensures whole { IfOk result (λ ran. WritesReport journal inputs.plan (bytes_held W.contents writer.old)
-        (bytes_held W.contents writer.new) ran.0 (kept_of ran.1)) }
+    ensures whole { IfOk result (λ ran. WritesReport journal inputs.plan inputs.script
+        (bytes_held W.contents writer.old) (bytes_held W.contents writer.new) ran.0 (kept_of ran.1)) }
     ensures thread { IfOk result (λ ran. LacksThread ran.1 (bytes_held W.contents writer.old)
         (bytes_held W.contents writer.new) ran.0) }
-    ensures part { IsErr result → PartOfReport journal (limits_of inputs.plan) (bytes_held W.contents writer.old)
-        (bytes_held W.contents writer.new) }
+    ensures part { IsErr result → PartOfReport journal (limits_of inputs.plan) inputs.script
+        (bytes_held W.contents writer.old) (bytes_held W.contents writer.new) }
     ensures fault { IsErr result → has_refused writer.new ≡ true }
 {
     let Inputs {

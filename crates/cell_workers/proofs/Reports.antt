@@ -1,5 +1,5 @@
 -- What a report says: each worker's list is its entries of the journal, and the counts of all add up
-use Rattle.std.proofs.Common.{◌≡◌, ℕ, ◌+◌, Some, List, [], ◌∷◌, ◌++◌, take, sym, ap, ◌∙◌}
+use Rattle.std.proofs.Common.{◌≡◌, ℕ, ◌+◌, Some, List, [], ◌∷◌, ◌++◌, take, sym, ap, ◌∙◌, subst}
 use Rattle.std.specs.Prelude.{slice_get}
 use Rattle.std.proofs.lemmas.List.Elements.{filter-append}
 use Rattle.cell_types.specs.declared.words.Actor.{Actor}
@@ -10,6 +10,9 @@ use Rattle.cell_journal.proofs.JournalLaws.{take_get}
 use Rattle.cell_types.specs.declared.words.Totals.{Totals}
 use Rattle.cell_ledger.specs.Counts.{nothing, plus}
 use Rattle.cell_turns.proofs.Schedules.{plus_none}
+use Rattle.cell_rules.specs.declared.limits.BookLimits.{BookLimits}
+use Rattle.operator_desk.specs.declared.line.Line.{Line}
+use Rattle.cell_workers.specs.Operating.{Follows}
 
 -- the last one's counts
 pub plus_nothing : (k : Totals) → plus k nothing ≡ k
@@ -29,3 +32,8 @@ agrees_more a J own place k n e there so more =
 pub listed : {items slice : List Entry} (J : List Entry) (a : Actor) → items ≡ slice → slice ≡ entries_of a J
     → items ≡ entries_of a J
 listed J a is own = is ∙ own
+
+-- a list that follows a script is the one that was compared with the journal
+pub follows_listed : (l : BookLimits) (script : List Line) {es items own : List Entry} → Follows l script es
+    → items ≡ es → items ≡ own → Follows l script own
+follows_listed l script follows same is = subst (λ (x : List Entry). Follows l script x) (sym same ∙ is) follows

@@ -10,7 +10,9 @@ use Rattle.cell_rules.specs.declared.limits.BookLimits.{BookLimits}
 use Rattle.cell_rules.specs.Legal.{legal}
 use Rattle.cell_rules.specs.Safety.{IsSafe}
 use Rattle.cell_ledger.specs.Counts.{nothing, plus}
+use Rattle.operator_desk.specs.declared.line.Line.{Line}
 use Rattle.cell_turns.specs.Schedules.{entries_of}
+use Rattle.cell_workers.specs.Operating.{Follows}
 use Rattle.cell_workers.specs.Standing.{all_called_for}
 
 -- the workers, in their order
@@ -41,11 +43,14 @@ abbrev pub sum_counts : List (List Entry × Totals) → Totals
 sum_counts [] = nothing
 sum_counts (w ∷ ws) = plus w.1 (sum_counts ws)
 
--- a journal that is legal, safe and useful where a machine set out, its totals, and what each worker did
-pub record IsReport (l : BookLimits) (J : List Entry) (totals : Totals) (ws : List (List Entry × Totals)) : Type 0 where
+-- a journal that is legal, safe and useful where a machine set out, and whose entries of the operator are those of his
+-- script, its totals, and what each worker did
+pub record IsReport (l : BookLimits) (script : List Line) (J : List Entry) (totals : Totals)
+    (ws : List (List Entry × Totals)) : Type 0 where
   pub legal : legal l J ≡ true
   pub safe : IsSafe J
   pub useful : all_called_for l J ≡ true
+  pub follows : Follows l script (entries_of actor.Operator J)
   pub counted : totals ≡ count_of J
   pub lists : AreTheirs workers J ws
   pub sum : sum_counts ws ≡ totals

@@ -1,5 +1,6 @@
 //! A whole run, and what it reports.
-ghost use Rattle.std.specs.Prelude.{◌≡◌, ◌≤◌, ◌+◌, ◌++◌, ◌∷◌, [], true, length, take, map, IfOk, IfSome, IsTrue};
+ghost use Rattle.std.specs.Prelude.{◌≡◌, ◌≤◌, ◌+◌, ◌++◌, ◌∷◌, [], true, List, length, take, map, IfOk, IfSome};
+ghost use Rattle.std.specs.Prelude.{IsTrue};
 ghost use Rattle.cell_types.specs.Entries.{actor_of};
 ghost use Rattle.cell_types.specs.Same.{same_machine};
 ghost use Rattle.cell_types.specs.declared.words.Machine.{Machine as MachineValue};
@@ -8,6 +9,8 @@ ghost use Rattle.cell_ledger.specs.Counts.{nothing, plus};
 ghost use Rattle.cell_ledger.specs.New.{AreBlank};
 ghost use Rattle.cell_turns.specs.Schedules.{same_actor, entries_of};
 ghost use Rattle.cell_turns.specs.Six.{at};
+ghost use Rattle.operator_desk.specs.declared.line.Line.{Line};
+ghost use Rattle.cell_workers.specs.Operating.{Follows};
 ghost use Rattle.cell_workers.specs.Standing.{all_called_for};
 ghost use Rattle.cell_workers.specs.Report.{IsReport, AreAllOf};
 
@@ -149,6 +152,7 @@ fn gather_team<R: Run>(
     ensures kept { kept.new ≡ kept.old }
     ensures machines { (machine : MachineValue) → (at result.0 machine).1 ≡ count_of (at result.0 machine).0.items }
     ensures operator { result.1.1 ≡ count_of result.1.0.items }
+    ensures list { result.1.0.items ≡ team.operator.entries.items }
     ensures parts { result.2.parts ≡ 7 }
     ensures sum { result.2.counts ≡ plus result.0.feed.1
         (plus result.0.table.1 (plus result.0.robot.1
@@ -185,7 +189,9 @@ fn gather_team<R: Run>(
 /// What the workers bring back, against the journal.
 fn settle<R: Run>(hall: Hall<R>, team: Team<R>) -> Result<Report, RunError>
     requires { R.parts ≡ 7 }
-    ensures { IfOk result (λ r. IsReport R.limits r.journal.entries r.totals (map (λ w. (w.0.items, w.1)) r.workers)) }
+    ensures { (script : List Line) → Follows R.limits script team.operator.entries.items
+        → IfOk result (λ r. IsReport R.limits script r.journal.entries r.totals
+        (map (λ w. (w.0.items, w.1)) r.workers)) }
 {
     let Hall {
         mut kept,
@@ -257,7 +263,8 @@ fn run_over<R: Run + Send + Sync, P: Port + Send, O: OperatorPort + Send, W: Thr
     requires limits { book.limits ≡ R.limits }
     requires empty { book.entries ≡ [] }
     requires ledgers { AreBlank R.Run blanks }
-    ensures { IfOk result (λ r. IsReport R.limits r.journal.entries r.totals (map (λ w. (w.0.items, w.1)) r.workers)) }
+    ensures { IfOk result (λ r. IsReport R.limits script r.journal.entries r.totals
+        (map (λ w. (w.0.items, w.1)) r.workers)) }
 {
     let (kept, all) = Kept::<R>::new(book, blanks);
     let crew = crew_of(all);
@@ -280,6 +287,7 @@ fn run_over<R: Run + Send + Sync, P: Port + Send, O: OperatorPort + Send, W: Thr
 }
 
 /// Runs the cell: seven workers, the six machines' and the operator's, each on a thread of its own, over an empty book.
+/// The operator's entries are those of the script.
 pub fn run_cell<P: Port + Send, O: OperatorPort + Send, W: Threads + Wait + Sync>(
     rt: &W,
     alloc: Global,
@@ -288,7 +296,7 @@ pub fn run_cell<P: Port + Send, O: OperatorPort + Send, W: Threads + Wait + Sync
     script: Script,
     plan: &Plan,
 ) -> Result<Report, RunError>
-    ensures { IfOk result (λ r. IsReport (record { entries = plan.now.journal_limit; plates = plan.now.plates })
+    ensures { IfOk result (λ r. IsReport (record { entries = plan.now.journal_limit; plates = plan.now.plates }) script
         r.journal.entries r.totals (map (λ w. (w.0.items, w.1)) r.workers)) }
 {
     let Ok(book) = Book::new(alloc, plan.journal_limit, plan.plates) else {
