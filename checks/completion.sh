@@ -4,17 +4,6 @@
 set -euo pipefail
 source "$(dirname "$0")/helps.sh"
 
-# The options that the help of a command lists, one a line: `--file FILE` and `-f FILE` of one with a value, `--help` of a flag.
-options() {
-    "$cellctl" "$@" --help | awk '
-        /^[^ ]/ { on = ($0 == "Options:") ; next }
-        on && /^ +-/ {
-            value = match($0, /<[A-Z]+>/) ? " " substr($0, RSTART + 1, RLENGTH - 2) : ""
-            if (match($0, /--[a-z]+/)) print substr($0, RSTART, RLENGTH) value
-            if (value && match($0, /-[a-z],/)) print substr($0, RSTART, RLENGTH - 1) value
-        }'
-}
-
 # The words that a value may be, where the help of `audit` lists them.
 words_of() {
     "$cellctl" audit --help | awk -v name="$1" '$1 == name && /^  [A-Z]+  +[a-z]/ { $1 = ""; print substr($0, 2); exit }'

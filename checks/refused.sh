@@ -4,14 +4,15 @@
 # give want of memory, or the answer with ample memory. docs/HOSTILE.md says how.
 # The crates' tests and the program have to be built: by `rt ci`, or by `rt test` in the crates' folders and `rt run` in
 # cellctl's.
-# The tests of the calls run side by side, one a processor. Both ways each of the program's seven threads is refused too, one a
-# run.
-# Usage: checks/refused.sh [calls|program]     both by default
+# The tests of the calls and the command lines run side by side, one a processor. Each command and each option that the program's
+# helps list has to be in a command line that is tried. Both ways each of the program's seven threads is refused too, one a run.
+# CELLCTL names another program than the one that was built.
+# Usage: checks/refused.sh [calls|program [COMMAND]]     both by default; with COMMAND its command lines alone
 set -euo pipefail
 here=$(cd "$(dirname "$0")" && pwd)
 crates=$here/../crates
 examples=$here/../examples
-cellctl=$crates/cellctl/out/cellctl
+source "$here/helps.sh"
 folder=$(mktemp -d)
 trap 'rm -r "$folder"' EXIT
 library=${REFUSE_LIBRARY:-$folder/refuse.so}
@@ -19,6 +20,11 @@ library=${REFUSE_LIBRARY:-$folder/refuse.so}
 most=5000
 step=1
 wrong=0
+# How many runs were made, and where the files of the program's lines are.
+made=0
+shared=${REFUSE_SHARED:-}
+# Of which command alone the lines are tried.
+only=
 
 # Runs a command with the allocation of a number refused, or all from there on. Standard input is $folder/input.
 # Sets the status, and how many allocations counted, how many were refused and how many marked calls wanted memory.
@@ -33,6 +39,7 @@ run_refused() {
     # which gets the same number.
     od -An -v -tu8 -w24 "$folder/counts" > "$folder/numbers"
     read -r counted refused wanted < "$folder/numbers"
+    made=$((made + 1))
 }
 
 # Runs a command until a run has none refused. Each run is judged by a function, which says whether it is right.
@@ -83,7 +90,7 @@ refuse_test() {
     local crate=$1 whole=$2 test=$3
     : > "$folder/input"
     refuse_both test_is_right "${test##*:}" "$whole" "$crates/$crate/out/${crate}_tests" "$test"
-    echo "$wrong" >> "$REFUSE_TALLY"
+    echo "$wrong $made" >> "$REFUSE_TALLY"
 }
 
 # The tests of a crate whose names have a word, a line each, as refuse_test takes them.
@@ -105,6 +112,7 @@ refuse_threads() {
             echo "run: wrong with thread $number refused: status $status"
             head -c 2000 "$folder/errors" "$folder/output"
         fi
+        made=$((made + 1))
     done
     echo "run: 7 runs with one thread refused"
 }
@@ -124,8 +132,13 @@ refuse_calls() {
     done
     : > "$folder/tally"
     REFUSE_LIBRARY=$library REFUSE_TALLY=$folder/tally xargs -r -P "$(nproc)" -L 1 "$here/refused.sh" test < "$folder/tests" || true
-    # A test that noted nothing came to no end.
-    wrong=$((wrong + $(awk '{ sum += $1 } END { print sum + 0 }' "$folder/tally") + $(wc -l < "$folder/tests") - $(wc -l < "$folder/tally")))
+    add_tally "$folder/tests" "$folder/tally"
+}
+
+# Adds what the tests or lines of a list noted of their runs. One that noted nothing came to no end, and is wrong.
+add_tally() {
+    wrong=$((wrong + $(awk '{ sum += $1 } END { print sum + 0 }' "$2") + $(wc -l < "$1") - $(wc -l < "$2")))
+    made=$((made + $(awk '{ sum += $2 } END { print sum + 0 }' "$2")))
 }
 
 # Standard error has `out of memory`, and below it nothing, or the line of the file for which there was none, or that a thread
@@ -212,97 +225,184 @@ journal_is_right() {
     ! grep -q '^refused' "$folder/audited"
 }
 
-# Refuses memory to the program on some words, after a run with ample memory.
-refuse_words() {
-    local judge=$1 name=$2
-    shift 2
+# The measures of a run, each without its numbers: on threads they aren't the same each time.
+measures_of() {
+    tail -n +6 "$1" | sed 's/ [0-9.]*$//' | sed 's/\( [0-9.-]*\)*$//'
+}
+
+# The same of a run on threads with its measures: its lines are the same each time, and so is what is measured.
+least_is_right() {
+    if [ "$status" = "$due" ] && cmp -s "$folder/errors" "$folder/due.errors" &&
+        [ "$(head -n 5 "$folder/output")" = "$(head -n 5 "$folder/due.output")" ] &&
+        [ "$(measures_of "$folder/output")" = "$(measures_of "$folder/due.output")" ]; then
+        return 0
+    fi
+    [ "$refused" != 0 ] && [ "$status" = 4 ] && has_want "$folder/errors" || return 1
+    wanted=1
+    [ ! -s "$folder/output" ] || [ "$(wc -l < "$folder/output")" = 5 ]
+}
+
+# The same of a method that drives the cell, which has written all its lines: the errors have a first part of what is due there,
+# and then `out of memory`, and where that is short, the output a first part of what is due there or the end `memory`.
+driving_is_right() {
+    answer_is_right && return 0
+    [ "$refused" != 0 ] && [ "$status" = 4 ] && [ "$(tail -n 1 "$folder/errors")" = "out of memory" ] || return 1
+    wanted=1
+    head -n -1 "$folder/errors" > "$folder/said"
+    head -c "$(wc -c < "$folder/said")" "$folder/due.errors" | cmp -s - "$folder/said" || return 1
+    grep -q '^end,memory,,$' "$folder/output" ||
+        head -c "$(wc -c < "$folder/output")" "$folder/due.output" | cmp -s - "$folder/output"
+}
+
+# Refuses memory to the program on the words of a line of `program_lines`, after a run with ample memory, and notes how many runs
+# that took and how many were wrong. The totals of the run on threads with its journal are those of its plate.
+refuse_line() {
+    local judge=$1 input=$3
+    step=$2
+    shift 3
+    cp "$shared/$input" "$folder/input"
+    printf '%s\n' 'admitted 1' 'forged 1' 'quarantined 0' 'delivered 1' 'reinstated 0' > "$folder/due.totals"
     run_refused 0 0 1 "$cellctl" "$@"
     due=$status
     cp "$folder/output" "$folder/due.output"
     cp "$folder/errors" "$folder/due.errors"
-    refuse_both "$judge" "cellctl $name" 1 "$cellctl" "$@"
+    refuse_both "$judge" "cellctl $(sed -e "s|$shared/||g" -e "s|$examples/||g" <<< "$*")" 1 "$cellctl" "$@"
+    echo "$wrong $made" >> "$REFUSE_TALLY"
 }
 
-# The files of a short run in rounds, whose only plate is taken from the feed belt by hand, and of texts that are refused.
+# The files of a short run in rounds, whose only plate is taken from the feed belt by hand, of texts that are refused, of a
+# method's lines, and of journals.
 write_files() {
-    echo 'plates = 1' > "$folder/short.toml"
-    printf '%s\n' 'plates = 1' '[watch.press_one]' 'limit = 2000' > "$folder/refused.toml"
-    printf '%s\n' profile,2,, lamp,feed,green, admited,1,, > "$folder/unreadable.journal"
-    printf '%s\n' press_two,1,no_motion, press_two,99,no_motion, > "$folder/unreached.faults"
-    echo '"press_two",1,no_motion,' > "$folder/short.faults"
-    printf '%s\n' admitted,1,stop,feed failed,feed,clear,feed_in '"failed",feed,repair,feed' > "$folder/short.operator"
-    : > "$folder/input"
+    shared=$folder
+    : > "$shared/nothing"
+    echo 'plates = 1' > "$shared/short.toml"
+    printf '%s\n' 'plates = 1' '[watch.press_one]' 'limit = 2000' > "$shared/refused.toml"
+    printf '%s\n' profile,2,, lamp,feed,green, admited,1,, > "$shared/unreadable.journal"
+    printf '%s\n' press_two,1,no_motion, press_two,99,no_motion, > "$shared/unreached.faults"
+    echo '"press_two",1,no_motion,' > "$shared/short.faults"
+    printf '%s\n' admitted,1,stop,feed failed,feed,clear,feed_in '"failed",feed,repair,feed' > "$shared/short.operator"
+    printf '%s\n' lamp,feed,green, done,,, lamp,feed,red, done,,, quit,,, > "$shared/method"
+    cp "$examples/whole.journal" "$examples/refused.journal" "$shared"
+    "$cellctl" sim --journal "$shared/short.toml" "$shared/short.faults" "$shared/short.operator" > "$shared/short.journal"
+    sed '3,$s/^\([a-z_]*\),/"\1",/' "$shared/short.journal" > "$shared/quoted.journal"
+    sed '1s/^profile,2/profile,1/' "$shared/quoted.journal" > "$shared/old.journal"
 }
 
-# The commands that show and explain texts.
-refuse_shown() {
-    cp "$examples/whole.journal" "$folder/input"
-    refuse_words answer_is_right "show" show
-    refuse_words answer_is_right "show --svg" show --svg
-    refuse_words answer_is_right "show --html" show --html
-    refuse_words answer_is_right "show --html --beside" show --html --beside "$examples/refused.journal"
-    refuse_words answer_is_right "explain (a legal journal)" explain
-    cp "$examples/refused.journal" "$folder/input"
-    refuse_words answer_is_right "explain (a refused journal)" explain
-    cp "$folder/unreadable.journal" "$folder/input"
-    refuse_words answer_is_right "explain (an unreadable journal)" explain
-    refuse_words answer_is_right "audit (a file)" audit "$examples/whole.journal"
-    refuse_words answer_is_right "show --file" show --file "$examples/whole.journal" 30
-    refuse_words answer_is_right "show --file (more digits than any number)" show -f "$examples/whole.journal" 99999999999999999999
-    refuse_words answer_is_right "explain (a file)" explain "$examples/refused.journal"
-    refuse_words answer_is_right "explain --settings (out of range)" explain --settings "$folder/refused.toml"
-    refuse_words answer_is_right "explain --settings (no TOML)" explain --settings "$examples/press_fails.faults"
-    refuse_words answer_is_right "explain --faults" explain --faults "$examples/press_fails.operator"
-    refuse_words answer_is_right "explain --operator" explain --operator "$examples/press_fails.operator"
-    refuse_words measures_are_right "measure" measure --times "$examples/measures/times.toml" "$examples/whole.journal" \
-        "$examples/refused.journal"
-    refuse_words answer_is_right "sweep" sweep --kinds no_motion --motions 1 "$folder/short.toml" "$folder/short.operator"
-    # (some 14,000 allocations, of which each seventh is refused)
-    step=7
-    refuse_words answer_is_right "sweep --csv --service" sweep --csv --service --kinds lose_plate --motions 1 "$folder/short.toml" \
-        "$folder/short.operator"
-    step=1
-    refuse_words answer_is_right "measure --csv" measure --csv "$examples/whole.journal"
+# The lines of the commands that judge, show, explain and measure texts, by a function that takes of each its judge, of how many
+# allocations one is refused, what standard input has, and its words.
+text_lines() {
+    local line=$1 whole=$examples/whole.journal times=$examples/measures/times.toml
+    $line answer_is_right 1 short.journal audit
+    $line answer_is_right 1 quoted.journal audit
+    $line answer_is_right 1 nothing audit "$whole"
+    $line answer_is_right 1 old.journal migrate
+    $line answer_is_right 1 nothing migrate "$shared/old.journal"
+    $line answer_is_right 1 whole.journal show
+    $line answer_is_right 1 whole.journal show --unicode
+    $line answer_is_right 1 whole.journal show --svg
+    $line answer_is_right 1 whole.journal show --html --beside "$examples/refused.journal"
+    $line answer_is_right 1 whole.journal show --html --times "$times"
+    $line answer_is_right 1 nothing show --file "$whole" 30
+    $line answer_is_right 1 nothing show -f "$whole" 99999999999999999999
+    $line answer_is_right 1 whole.journal explain
+    $line answer_is_right 1 refused.journal explain
+    $line answer_is_right 1 unreadable.journal explain
+    $line answer_is_right 1 nothing explain "$examples/refused.journal"
+    $line answer_is_right 1 nothing explain --settings "$shared/refused.toml"
+    $line answer_is_right 1 nothing explain --settings "$examples/press_fails.faults"
+    $line answer_is_right 1 nothing explain --faults "$examples/press_fails.operator"
+    $line answer_is_right 1 nothing explain --operator "$examples/press_fails.operator"
+    $line measures_are_right 1 nothing measure --times "$times" "$whole" "$examples/refused.journal"
+    $line answer_is_right 1 nothing measure --csv "$whole"
+    $line answer_is_right 1 nothing check "$examples/cell.toml"
+    $line answer_is_right 1 nothing check "$examples/press_fails.faults"
+    $line answer_is_right 1 nothing check "$shared/none.toml"
 }
 
-# The search over every order of events: no plate, and the shortest journal of one to a stuck state.
-refuse_explored() {
-    : > "$folder/input"
-    refuse_words answer_is_right "explore" explore 0
-    # (some 7,000 allocations, of which each 101st is refused)
-    step=101
-    refuse_words answer_is_right "explore --journal" explore --fail robot --journal 1
-    step=1
-}
-
-refuse_program() {
-    local short=("$folder/short.toml" "$folder/short.faults" "$folder/short.operator")
-    local none=$examples/no_faults.faults
+# The same of the commands that run the cell, sweep it or look at every order of events.
+run_lines() {
+    local line=$1 times=$examples/measures/times.toml none=$examples/no_faults.faults
+    local short=("$shared/short.toml" "$shared/short.faults" "$shared/short.operator")
     local run=("$examples/press_fails.toml" "$examples/press_fails.faults" "$examples/press_fails.operator")
-    local stalled=("${run[0]}" "$examples/arm_fails.faults" "${run[2]}")
+    $line answer_is_right 1 nothing sim "${short[@]}"
+    $line answer_is_right 1 nothing sim --journal "${short[@]}"
+    $line answer_is_right 1 nothing sim --follow "$shared/short.journal" "${short[@]}"
+    $line answer_is_right 1 nothing sim --measures "${short[@]}"
+    $line answer_is_right 1 nothing sim --measures --journal --times "$times" "${short[@]}"
+    $line ending_is_right 1 nothing sim --explain "${run[0]}" "$examples/arm_fails.faults" "${run[2]}"
+    $line answer_is_right 1 nothing run "${run[@]}"
+    $line answer_is_right 1 nothing run --times "$times" "${run[@]}"
+    $line least_is_right 1 nothing run --measures "${run[@]}"
+    $line ending_is_right 1 nothing run --explain "${run[0]}" "$shared/unreached.faults" "${run[2]}"
+    $line journal_is_right 1 nothing run --journal "$shared/short.toml" "$none" "$none"
+    $line driving_is_right 1 method drive "${short[@]}"
+    $line driving_is_right 1 method drive --journal --explain --times "$times" "${short[@]}"
+    $line driving_is_right 1 method drive --raw --explain "${short[@]}"
+    $line answer_is_right 1 nothing sweep --kinds no_motion --motions 1 "${short[0]}" "${short[2]}"
+    # (some 14,000 allocations)
+    $line answer_is_right 7 nothing sweep --csv --service --kinds lose_plate --motions 1 "${short[0]}" "${short[2]}"
+    $line answer_is_right 1 nothing explore 0
+    # (some 7,000 allocations)
+    $line answer_is_right 101 nothing explore --fail robot --journal 1
+    $line answer_is_right 11 nothing explore --fail robot --repair --limit 50 1
+}
+
+# The same of all commands, and of the help of each, which the table of commands gives.
+program_lines() {
+    local line=$1 command
+    $line answer_is_right 1 nothing --help
+    $line answer_is_right 1 nothing --version
+    $line answer_is_right 1 nothing brew
+    for command in $(commands); do
+        $line answer_is_right 5 nothing "$command" --help
+        [ "$command" = help ] || $line answer_is_right 5 nothing help "$command"
+    done
+    text_lines "$line"
+    run_lines "$line"
+}
+
+# Notes the words of a line.
+note_line() {
+    shift 3
+    echo "$*" >> "$folder/words"
+}
+
+# Notes a line as a job, if it is of the command that is named, or none is.
+note_job() {
+    [ -z "$only" ] || [ "$only" = "$4" ] || return 0
+    echo "$*" >> "$folder/jobs"
+}
+
+# The program's table has no command and no option of a command that is in no line. The table is the program's own, as its helps
+# list it.
+check_lines() {
+    local command option _name
+    : > "$folder/words"
+    program_lines note_line
+    for command in $(commands); do
+        while read -r option _name; do
+            if ! grep "^$command " "$folder/words" | grep -q -e " $option\( \|\$\)"; then
+                wrong=$((wrong + 1))
+                echo "$command $option: memory is refused to no command line that has it"
+            fi
+        done < <([ "$command" = help ] || options "$command")
+        if ! grep -v -e ' --help$' "$folder/words" | grep -q "^$command\( \|\$\)"; then
+            wrong=$((wrong + 1))
+            echo "$command: memory is refused to no command line of it"
+        fi
+    done
+}
+
+# Runs the lines side by side, one a processor.
+refuse_program() {
     write_files
-    refuse_words answer_is_right "--help" --help
-    refuse_words answer_is_right "brew (no such command)" brew
-    refuse_words answer_is_right "check" check "$examples/cell.toml"
-    refuse_words answer_is_right "check (settings that are refused)" check "$examples/press_fails.faults"
-    refuse_words answer_is_right "check (no such file)" check "$folder/none.toml"
-    refuse_words answer_is_right "sim" sim "${short[@]}"
-    refuse_words answer_is_right "sim --journal" sim --journal "${short[@]}"
-    cp "$folder/due.output" "$folder/input"
-    cp "$folder/due.output" "$folder/short.journal"
-    refuse_words answer_is_right "sim --follow" sim --follow "$folder/short.journal" "${short[@]}"
-    refuse_words answer_is_right "audit" audit
-    sed -i '3,$s/^\([a-z_]*\),/"\1",/' "$folder/input"
-    refuse_words answer_is_right "audit (quoted fields)" audit
-    sed -i '1s/^profile,2/profile,1/' "$folder/input"
-    refuse_words answer_is_right "migrate" migrate
-    refuse_shown
-    refuse_explored
-    refuse_words ending_is_right "sim --explain" sim --explain "${stalled[@]}"
-    refuse_words ending_is_right "run --explain" run --explain "${run[0]}" "$folder/unreached.faults" "${run[2]}"
-    refuse_words answer_is_right "run" run "${run[@]}"
-    printf '%s\n' 'admitted 1' 'forged 1' 'quarantined 0' 'delivered 1' 'reinstated 0' > "$folder/due.totals"
-    refuse_words journal_is_right "run --journal" run --journal "$folder/short.toml" "$none" "$none"
+    check_lines
+    : > "$folder/jobs"
+    program_lines note_job
+    : > "$folder/lines.tally"
+    REFUSE_LIBRARY=$library REFUSE_TALLY=$folder/lines.tally REFUSE_SHARED=$shared \
+        xargs -r -P "$(nproc)" -L 1 "$here/refused.sh" line < "$folder/jobs" || true
+    add_tally "$folder/jobs" "$folder/lines.tally"
 }
 
 case ${1:-both} in
@@ -311,13 +411,19 @@ case ${1:-both} in
         refuse_test "$@"
         exit 0
         ;;
+    line)
+        shift
+        refuse_line "$@"
+        exit 0
+        ;;
     calls)
         refuse_calls
         refuse_threads
         ;;
     program)
+        only=${2:-}
         refuse_program
-        refuse_threads
+        [ -n "$only" ] || refuse_threads
         ;;
     both)
         refuse_calls
@@ -329,5 +435,5 @@ case ${1:-both} in
         exit 2
         ;;
 esac
-echo "refused memory: $wrong runs wrong"
+echo "refused memory: $made runs, $wrong wrong"
 [ "$wrong" = 0 ]
