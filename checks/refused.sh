@@ -5,10 +5,13 @@
 # The crates' tests and the program have to be built: by `rt ci`, or by `rt test` in the crates' folders and `rt run` in
 # cellctl's.
 # The tests of the calls and the command lines run side by side, one a processor. Each command and each option that the program's
-# helps list has to be in a command line that is tried. Both ways each of the program's seven threads is refused too, one a run.
-# CELLCTL names another program than the one that was built.
-# Usage: checks/refused.sh [calls|program [COMMAND]]     both by default; with COMMAND its command lines alone
+# helps list has to be in a command line that is tried. With `calls` and `program` each of the program's seven threads is refused
+# too, one a run. CELLCTL names another program than the one that was built.
+# Usage: checks/refused.sh [calls|program [COMMAND]|part [NUMBER]]     calls and program by default; with COMMAND its command lines
+# alone; part: each eighth command line, from that of the number on, or by turns: from one further with each commit
 set -euo pipefail
+# A byte is a letter, also where the program writes others.
+export LC_ALL=C
 here=$(cd "$(dirname "$0")" && pwd)
 crates=$here/../crates
 examples=$here/../examples
@@ -23,15 +26,23 @@ wrong=0
 # How many runs were made, and where the files of the program's lines are.
 made=0
 shared=${REFUSE_SHARED:-}
-# Of which command alone the lines are tried.
+# Of which command alone the lines are tried; how many parts they are in, and which of them is tried.
 only=
+parts=1
+part=0
+newline=$'\n'
+
+# Reads a file into the variable of a name, as it stands.
+read_whole() {
+    IFS= read -r -d '' "$2" < "$1" || true
+}
 
 # Runs a command with the allocation of a number refused, or all from there on. Standard input is $folder/input.
-# Sets the status, and how many allocations counted, how many were refused and how many marked calls wanted memory.
+# Sets the status, what was written, and how many allocations counted, how many were refused and how many marked calls wanted memory.
 run_refused() {
     local first=$1 onward=$2 whole=$3
     shift 3
-    rm -f "$folder/counts"
+    : > "$folder/counts"
     status=0
     timeout 30 env LD_PRELOAD="$library" REFUSE_FIRST="$first" REFUSE_ONWARD="$onward" REFUSE_WHOLE="$whole" \
         REFUSE_COUNTS="$folder/counts" "$@" < "$folder/input" > "$folder/output" 2> "$folder/errors" || status=$?
@@ -39,6 +50,8 @@ run_refused() {
     # which gets the same number.
     od -An -v -tu8 -w24 "$folder/counts" > "$folder/numbers"
     read -r counted refused wanted < "$folder/numbers"
+    read_whole "$folder/output" output
+    read_whole "$folder/errors" errors
     made=$((made + 1))
 }
 
@@ -141,117 +154,110 @@ add_tally() {
     made=$((made + $(awk '{ sum += $2 } END { print sum + 0 }' "$2")))
 }
 
-# Standard error has `out of memory`, and below it nothing, or the line of the file for which there was none, or that a thread
-# lacked it.
+# The text is `out of memory`, and below it nothing, or the line of the file for which there was none, or that a thread lacked it.
 has_want() {
-    [ "$(head -n 1 "$1")" = "out of memory" ] &&
-        ! tail -n +2 "$1" | grep -v -q -e '^cellctl: /.*: no memory for it$' -e '^cellctl: run: no thread could be started$' &&
-        [ "$(wc -l < "$1")" -le 2 ]
+    local below="(cellctl: /[^$newline]*: no memory for it|cellctl: run: no thread could be started)$newline"
+    [[ $1 =~ ^out\ of\ memory$newline($below)?$ ]]
+}
+
+# The text is the lines of a run that ended for want of memory.
+is_end_for_want() {
+    [[ $1 =~ ^memory${newline}admitted\ [0-9]+${newline}forged\ [0-9]+${newline}quarantined\ [0-9]+${newline}delivered\ [0-9]+$newline$ ]]
+}
+
+# The text is a first part of another.
+is_first_part() {
+    [ "${2:0:${#1}}" = "$1" ]
 }
 
 # The program told want of memory: by its status and on standard error, and it had written a first part of what is due, or
 # the lines of a run that ended so.
 tells_want() {
-    [ "$status" = 4 ] && has_want "$folder/errors" || return 1
+    [ "$status" = 4 ] && has_want "$errors" || return 1
     wanted=1
-    [ "$(sed 's/ [0-9]*$//' "$folder/output" | tr '\n' ' ')" = "memory admitted forged quarantined delivered " ] ||
-        head -c "$(wc -c < "$folder/output")" "$folder/due.output" | cmp -s - "$folder/output"
+    is_first_part "$output" "$due_output" || is_end_for_want "$output"
 }
 
 # The program gave the answer with ample memory, or told want of it where it was refused.
 answer_is_right() {
-    if [ "$status" = "$due" ] && cmp -s "$folder/output" "$folder/due.output" && cmp -s "$folder/errors" "$folder/due.errors"
-    then
-        return 0
-    fi
+    [ "$status" = "$due" ] && [ "$output" = "$due_output" ] && [ "$errors" = "$due_errors" ] && return 0
     [ "$refused" != 0 ] && tells_want
 }
 
 # The same where several journals are measured: above `out of memory` the lines of those that are refused may stand, as they are due.
 measures_are_right() {
     answer_is_right && return 0
-    [ "$refused" != 0 ] && [ "$status" = 4 ] || return 1
-    local lines
-    lines=$(wc -l < "$folder/due.errors")
-    head -n "$lines" "$folder/errors" | cmp -s - "$folder/due.errors" || return 1
-    tail -n "+$((lines + 1))" "$folder/errors" > "$folder/want"
-    has_want "$folder/want" || return 1
+    [ "$refused" != 0 ] && [ "$status" = 4 ] && [ "${errors#"$due_errors"}" != "$errors" ] || return 1
+    has_want "${errors#"$due_errors"}" || return 1
     wanted=1
-    head -c "$(wc -c < "$folder/output")" "$folder/due.output" | cmp -s - "$folder/output"
+    is_first_part "$output" "$due_output"
 }
 
 # What was said of a run's end, but for how often a machine set out: that isn't the same each time where the run is on threads.
 without_motions() {
-    sed 's/: it set out [0-9]* times\{0,1\}$/: it set out/' "$1"
+    sed 's/: it set out [0-9]* times\{0,1\}$/: it set out/' <<< "$1"
 }
 
 # What was said of a run's end before `out of memory`: a first part of what is due, after all that is due on standard output; or,
 # where the run ended for want of memory, lines on that end.
 is_part_of_ending() {
-    head -n -1 "$folder/errors" > "$folder/ending"
-    if [ "$(head -n 1 "$folder/output")" = memory ]; then
+    if [ "${output%%"$newline"*}" = memory ]; then
         ! grep -v -q -e '^[a-z].* is failed since entry [0-9]*: ' -e "^record [0-9]* of the operator's script isn't done: " \
             -e '^plate [0-9]* is [a-z].*; next is ".*", ' -e '^the fault in motion [0-9]* of .* was never reached: ' \
-            -e "^[0-9]* plates\{0,1\} w[a-z]*n't admitted$" -e '^[0-9]* plates\{0,1\} w[a-z]* laid back$' \
-            "$folder/ending"
+            -e "^[0-9]* plates\{0,1\} w[a-z]*n't admitted$" -e '^[0-9]* plates\{0,1\} w[a-z]* laid back$' <<< "${1%"$newline"}"
     else
-        without_motions "$folder/ending" > "$folder/said"
-        cmp -s "$folder/output" "$folder/due.output" &&
-            without_motions "$folder/due.errors" | head -c "$(wc -c < "$folder/said")" | cmp -s - "$folder/said"
+        [ "$output" = "$due_output" ] && is_first_part "$(without_motions "$1")" "$(without_motions "$due_errors")"
     fi
 }
 
 # The same of a run whose end is explained: where memory is refused, a part of that may stand before `out of memory`.
 ending_is_right() {
-    if [ "$status" = "$due" ] && cmp -s "$folder/output" "$folder/due.output" &&
-        [ "$(without_motions "$folder/errors")" = "$(without_motions "$folder/due.errors")" ]; then
+    if [ "$status" = "$due" ] && [ "$output" = "$due_output" ] &&
+        [ "$(without_motions "$errors")" = "$(without_motions "$due_errors")" ]; then
         return 0
     fi
-    [ "$refused" != 0 ] && tells_want && return 0
-    [ "$refused" != 0 ] && [ "$status" = 4 ] && [ "$(tail -n 1 "$folder/errors")" = "out of memory" ] || return 1
+    [ "$refused" != 0 ] || return 1
+    tells_want && return 0
+    [ "$status" = 4 ] && [ "${errors%"out of memory$newline"}" != "$errors" ] || return 1
     wanted=1
-    is_part_of_ending
+    is_part_of_ending "${errors%"out of memory$newline"}"
 }
 
 # The same of a run on threads, whose journal isn't the same each time: where it is whole it has the totals that are due,
 # and no entry of it is refused where it is cut.
 journal_is_right() {
-    "$cellctl" audit < "$folder/output" > "$folder/audited" || true
-    if [ "$status" = "$due" ] && tail -n +2 "$folder/audited" | cmp -s - "$folder/due.totals"; then
-        return 0
-    fi
-    [ "$refused" != 0 ] && [ "$status" = 4 ] && has_want "$folder/errors" || return 1
+    local audited
+    audited=$("$cellctl" audit < "$folder/output" || true)
+    [ "$status" = "$due" ] && [ "${audited#*"$newline"}" = "$due_totals" ] && return 0
+    [ "$refused" != 0 ] && [ "$status" = 4 ] && has_want "$errors" || return 1
     wanted=1
-    ! grep -q '^refused' "$folder/audited"
+    [[ $audited != refused* ]]
 }
 
-# The measures of a run, each without its numbers: on threads they aren't the same each time.
+# The measures of a run without their numbers: on threads those aren't the same each time.
 measures_of() {
-    tail -n +6 "$1" | sed 's/ [0-9.]*$//' | sed 's/\( [0-9.-]*\)*$//'
+    sed 's/\( [0-9.-]*\)*$//' <<< "$1"
 }
 
-# The same of a run on threads with its measures: its lines are the same each time, and so is what is measured.
+# The same of a run on threads with its measures: its lines are the same each time, and so is what is measured. Where memory is
+# refused no measures follow.
 least_is_right() {
-    if [ "$status" = "$due" ] && cmp -s "$folder/errors" "$folder/due.errors" &&
-        [ "$(head -n 5 "$folder/output")" = "$(head -n 5 "$folder/due.output")" ] &&
-        [ "$(measures_of "$folder/output")" = "$(measures_of "$folder/due.output")" ]; then
-        return 0
-    fi
-    [ "$refused" != 0 ] && [ "$status" = 4 ] && has_want "$folder/errors" || return 1
+    local lines=${due_output%%time *}
+    [ "$status" = "$due" ] && [ "$errors" = "$due_errors" ] && [ "${output%%time *}" = "$lines" ] &&
+        [ "$(measures_of "$output")" = "$(measures_of "$due_output")" ] && return 0
+    [ "$refused" != 0 ] && [ "$status" = 4 ] && has_want "$errors" || return 1
     wanted=1
-    [ ! -s "$folder/output" ] || [ "$(wc -l < "$folder/output")" = 5 ]
+    is_first_part "$output" "$lines" || is_end_for_want "$output"
 }
 
 # The same of a method that drives the cell, which has written all its lines: the errors have a first part of what is due there,
-# and then `out of memory`, and where that is short, the output a first part of what is due there or the end `memory`.
+# and then `out of memory`, and the output a first part of what is due there, or the end `memory`.
 driving_is_right() {
     answer_is_right && return 0
-    [ "$refused" != 0 ] && [ "$status" = 4 ] && [ "$(tail -n 1 "$folder/errors")" = "out of memory" ] || return 1
+    [ "$refused" != 0 ] && [ "$status" = 4 ] && [ "${errors%"out of memory$newline"}" != "$errors" ] || return 1
     wanted=1
-    head -n -1 "$folder/errors" > "$folder/said"
-    head -c "$(wc -c < "$folder/said")" "$folder/due.errors" | cmp -s - "$folder/said" || return 1
-    grep -q '^end,memory,,$' "$folder/output" ||
-        head -c "$(wc -c < "$folder/output")" "$folder/due.output" | cmp -s - "$folder/output"
+    is_first_part "${errors%"out of memory$newline"}" "$due_errors" || return 1
+    is_first_part "$output" "$due_output" || [[ $newline$output == *"${newline}end,memory,,$newline"* ]]
 }
 
 # Refuses memory to the program on the words of a line of `program_lines`, after a run with ample memory, and notes how many runs
@@ -261,11 +267,9 @@ refuse_line() {
     step=$2
     shift 3
     cp "$shared/$input" "$folder/input"
-    printf '%s\n' 'admitted 1' 'forged 1' 'quarantined 0' 'delivered 1' 'reinstated 0' > "$folder/due.totals"
+    due_totals=$(printf '%s\n' 'admitted 1' 'forged 1' 'quarantined 0' 'delivered 1' 'reinstated 0')
     run_refused 0 0 1 "$cellctl" "$@"
-    due=$status
-    cp "$folder/output" "$folder/due.output"
-    cp "$folder/errors" "$folder/due.errors"
+    due=$status due_output=$output due_errors=$errors
     refuse_both "$judge" "cellctl $(sed -e "s|$shared/||g" -e "s|$examples/||g" <<< "$*")" 1 "$cellctl" "$@"
     echo "$wrong $made" >> "$REFUSE_TALLY"
 }
@@ -354,7 +358,7 @@ program_lines() {
     $line answer_is_right 1 nothing --version
     $line answer_is_right 1 nothing brew
     for command in $(commands); do
-        $line answer_is_right 5 nothing "$command" --help
+        $line answer_is_right 1 nothing "$command" --help
         [ "$command" = help ] || $line answer_is_right 5 nothing help "$command"
     done
     text_lines "$line"
@@ -367,9 +371,11 @@ note_line() {
     echo "$*" >> "$folder/words"
 }
 
-# Notes a line as a job, if it is of the command that is named, or none is.
+# Notes a line as a job, if it is of the command that is named, or none is, and of the part that is tried.
 note_job() {
     [ -z "$only" ] || [ "$only" = "$4" ] || return 0
+    seen=$((seen + 1))
+    [ $((seen % parts)) = "$part" ] || return 0
     echo "$*" >> "$folder/jobs"
 }
 
@@ -379,6 +385,12 @@ check_lines() {
     local command option _name
     : > "$folder/words"
     program_lines note_line
+    while read -r option _name; do
+        if ! grep -q -x -e "$option" "$folder/words"; then
+            wrong=$((wrong + 1))
+            echo "$option: memory is refused to no command line of it"
+        fi
+    done < <(options)
     for command in $(commands); do
         while read -r option _name; do
             if ! grep "^$command " "$folder/words" | grep -q -e " $option\( \|\$\)"; then
@@ -398,6 +410,7 @@ refuse_program() {
     write_files
     check_lines
     : > "$folder/jobs"
+    seen=0
     program_lines note_job
     : > "$folder/lines.tally"
     REFUSE_LIBRARY=$library REFUSE_TALLY=$folder/lines.tally REFUSE_SHARED=$shared \
@@ -424,6 +437,12 @@ case ${1:-both} in
         only=${2:-}
         refuse_program
         [ -n "$only" ] || refuse_threads
+        ;;
+    part)
+        parts=8
+        part=$((${2:-$(git -C "$here" rev-list --count HEAD 2> /dev/null || echo 0)} % parts))
+        echo "refused memory: part $part of $parts"
+        refuse_program
         ;;
     both)
         refuse_calls
