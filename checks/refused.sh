@@ -412,6 +412,10 @@ refuse_program() {
     : > "$folder/jobs"
     seen=0
     program_lines note_job
+    if [ ! -s "$folder/jobs" ]; then
+        wrong=$((wrong + 1))
+        echo "$only: there is no command line of it"
+    fi
     : > "$folder/lines.tally"
     REFUSE_LIBRARY=$library REFUSE_TALLY=$folder/lines.tally REFUSE_SHARED=$shared \
         xargs -r -P "$(nproc)" -L 1 "$here/refused.sh" line < "$folder/jobs" || true
