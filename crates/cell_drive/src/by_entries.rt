@@ -1,6 +1,8 @@
 //! A run by entries.
-ghost use Rattle.std.specs.Prelude.{◌≡◌, ◌≢◌, ◌<◌, [], ℕ, List, IfOk, IsOk, OnOk};
+ghost use Rattle.std.specs.Prelude.{◌≡◌, ◌≢◌, ◌<◌, [], ℕ, List, IfOk, IsErrOf, IsOk, IsTrue, OnOk, true};
 ghost use Rattle.std.specs.Io.KnownBytes.{Appends};
+ghost use Rattle.cell_audit.specs.Text.{text_of};
+ghost use Rattle.cell_output.specs.Watched.{bytes_held, has_refused};
 ghost use Rattle.cell_runs.specs.Runs.{limits_of};
 ghost use Rattle.cell_method.specs.Lines.{lines_left};
 ghost use Rattle.cell_drive.specs.Drives.{DrivesEntries};
@@ -10,9 +12,11 @@ use crate::report::{
     explain_broken, explain_untrue, write_end, write_refusals, write_times, write_world,
 };
 use crate::texts::{Told, begin, status_of, write_told};
-use cell_audit::write_journal;
+use cell_audit::{WriteError, write_journal_watched};
+use cell_journal::Journal;
 use cell_measures::Durations;
 use cell_method::{DriveEnd, DriveError, LineReader, drive};
+use cell_output::WatchedWriter;
 use cell_ports::Plan;
 use cell_rows::TellsFault;
 use cell_runs::{Inputs, sim_ports};
@@ -84,6 +88,28 @@ fn empty_book(alloc: Global, plan: &Plan) -> Result<Book, DriveError>
     }
 }
 
+// Writes a run's journal, where it is wanted.
+fn write_wanted<E: Write>(
+    alloc: Global,
+    wanted: bool,
+    journal: &Journal,
+    errors: &mut WatchedWriter<'_, E>,
+) -> Result<(), DriveError>
+    ensures whole { OnOk result (IsTrue wanted → Appends (bytes_held E.contents errors.old)
+        (bytes_held E.contents errors.new) (text_of journal.now.entries)) }
+    // It answers that the writer failed only where a write was refused.
+    ensures fault { IsErrOf result DriveError.WriteFault → has_refused errors.new ≡ true }
+{
+    if !wanted {
+        return Ok(());
+    }
+    match write_journal_watched(alloc, journal, errors) {
+        Ok(()) => Ok(()),
+        Err(WriteError::WriteFault) => Err(DriveError::WriteFault),
+        Err(WriteError::OutOfMemory) => Err(DriveError::OutOfMemory),
+    }
+}
+
 // Tells what came of a run that ended so, and gives its status.
 fn tell_run<R: AllocGlobal + Wait, W: Write, E: Write>(
     rt: &R,
@@ -108,9 +134,12 @@ fn tell_run<R: AllocGlobal + Wait, W: Write, E: Write>(
     if told.explain {
         explain(rt, looker, world, errors)?;
     }
-    if told.journal && write_journal(alloc, book.journal(), errors).is_err() {
-        return Err(DriveError::WriteFault);
-    }
+    write_wanted(
+        alloc,
+        told.journal,
+        book.journal(),
+        &mut WatchedWriter::new(errors),
+    )?;
     Ok(status)
 }
 
