@@ -2,6 +2,7 @@
 use Rattle.std.specs.Prelude.{◌≡◌, ◌<◌, ◌++◌, ℕ, Bool, true, false, List, [], ◌∷◌, Option, Result, Ok, Err, codes}
 use Rattle.std.specs.Prelude.{decimal, option_map, ⊤}
 use Rattle.std.specs.Io.KnownBytes.{Appends}
+use Rattle.cell_output.specs.Numbers.{number_line}
 use Rattle.cell_rows.specs.Lines.{line}
 use Rattle.cell_rules.specs.Legal.{legal}
 use Rattle.cell_ports.specs.declared.plan.Plan.{Plan}
@@ -52,3 +53,17 @@ abbrev pub DrivesTexts : List ℕ → List ℕ → List ℕ → Bool → Option 
 DrivesTexts settings faults operator raw input old new status =
     (inputs : Result Inputs InputError) × AreInputs settings faults operator inputs
     × DrivesInputs raw input old new status inputs
+
+-- what is told of a run that is measured: first how many rounds it took
+abbrev pub AreMeasures : List ℕ → Type 0
+AreMeasures text = (rounds : ℕ) × (more : List ℕ) × (text ≡ number_line (codes "rounds") rounds ++ more)
+
+-- the measures of a run by good texts were written; where a text is refused, nothing was
+abbrev pub MeasuresInputs : Option (List ℕ) → Option (List ℕ) → Result Inputs InputError → Type 0
+MeasuresInputs old new (Err e) = (new ≡ old) × (input_status e ≡ 1)
+MeasuresInputs old new (Ok inputs) = (text : List ℕ) × AreMeasures text × Appends old new text
+
+-- what is written where a run by these texts is measured and no memory is refused
+abbrev pub TellsMeasures : List ℕ → List ℕ → List ℕ → Option (List ℕ) → Option (List ℕ) → Type 0
+TellsMeasures settings faults operator old new =
+    (inputs : Result Inputs InputError) × AreInputs settings faults operator inputs × MeasuresInputs old new inputs

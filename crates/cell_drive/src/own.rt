@@ -1,6 +1,9 @@
 //! The program's own machine workers, measured as a method is.
-ghost use Rattle.std.specs.Prelude.{◌≡◌, ◌⊎◌, ℕ, List, IfOk, OnOk};
+ghost use Rattle.std.specs.Prelude.{◌≡◌, ◌⊎◌, ℕ, List, IfOk, IfSome, Ok, OnOk, codes};
 ghost use Rattle.std.specs.Io.KnownBytes.{Appends};
+ghost use Rattle.cell_output.specs.Numbers.{number_line};
+ghost use Rattle.cell_runs.specs.Inputs.{input_status};
+ghost use Rattle.cell_drive.specs.Drives.{AreMeasures, TellsMeasures};
 
 use crate::measures::Measures;
 use crate::report::{write_times, write_world};
@@ -10,13 +13,16 @@ use cell_ledger::Blanks;
 use cell_measures::Durations;
 use cell_output::{WriteFault, status};
 use cell_ports::{Plan, Port, PortFault};
-use cell_runs::{Inputs, Outcome, read_inputs, run_over};
+use cell_rows::LineError;
+use cell_runs::{InputError, Inputs, Outcome, read_inputs, run_over};
+use cell_settings::SettingsError;
 use cell_sim::{FaultScript, SimOperator, SimPort, World};
 use cell_turns::Ports;
 use cell_types::{Command, Machine};
+use cell_workers::End;
 use operator_desk::Script;
 use plate_book::Book;
-use std::alloc::AllocError;
+use std::alloc::{AllocError, Global};
 use std::io;
 use std::io::Write;
 use std::marker::Brand;
@@ -115,27 +121,51 @@ fn run_own<R: AllocGlobal + Wait>(
     ))
 }
 
+// How many rounds a run took, as it is told.
+fn rounds_text(alloc: Global, rounds: u32) -> Result<Vec<u8>, AllocError>
+    ensures { IfOk result (λ text. text.items ≡ number_line (codes "rounds") rounds) }
+{
+    Ok(format!(in alloc; "rounds {rounds}\n")?.into_bytes())
+}
+
 // What is told of a run.
 fn told_of<R: AllocGlobal + Wait>(
     gauges: &Gauges<'_, R>,
     book: &Book,
     durations: &Durations,
-) -> io::Result<Vec<u8>> {
+) -> io::Result<Vec<u8>>
+    ensures { IfOk result (λ text. AreMeasures text.items) }
+{
     let alloc = gauges.rt.alloc();
-    let mut text = Vec::new(alloc);
     let mut measures = gauges.measures.lock(gauges.rt);
     let world = gauges.world.lock(gauges.rt);
     note_round(&mut measures, &world);
-    writeln!(text, "rounds {}", measures.rounds())?;
+    let mut told = rounds_text(alloc, measures.rounds())?;
+    let counts = counts_of(alloc, book, &world, &mut measures, durations)?;
+    told.extend_from_slice(counts.as_slice())?;
+    Ok(told)
+}
+
+// What is told of a run below the rounds.
+fn counts_of(
+    alloc: Global,
+    book: &Book,
+    world: &World,
+    measures: &mut Measures,
+    durations: &Durations,
+) -> io::Result<Vec<u8>> {
+    let mut text = Vec::new(alloc);
     writeln!(text, "entries {}", book.totals().entries)?;
     writeln!(text, "collisions {}", world.collisions())?;
-    write_world(&mut text, &world, &mut measures)?;
+    write_world(&mut text, world, measures)?;
     write_times(alloc, &mut text, book.journal(), durations)?;
     Ok(text)
 }
 
 // Measures a run by these inputs; `None` where memory was refused.
-fn measured<R: AllocGlobal + Wait>(rt: &R, inputs: Inputs) -> Option<Vec<u8>> {
+fn measured<R: AllocGlobal + Wait>(rt: &R, inputs: Inputs) -> Option<Vec<u8>>
+    ensures { IfSome result (λ text. AreMeasures text.items) }
+{
     let Inputs {
         plan,
         faults,
@@ -150,9 +180,12 @@ fn measured<R: AllocGlobal + Wait>(rt: &R, inputs: Inputs) -> Option<Vec<u8>> {
         measures: &measures,
         faults: &faults,
     };
-    let Ok(Outcome { book, .. }) = run_own(&gauges, &plan, script) else {
+    let Ok(Outcome { book, end }) = run_own(&gauges, &plan, script) else {
         return None;
     };
+    if matches!(end, End::Memory) {
+        return None;
+    }
     let Ok(text) = told_of(&gauges, &book, &durations) else {
         return None;
     };
@@ -162,9 +195,23 @@ fn measured<R: AllocGlobal + Wait>(rt: &R, inputs: Inputs) -> Option<Vec<u8>> {
     Some(text)
 }
 
+// The status where the texts of a run give none: 0 where one is refused, and 4 where memory was.
+fn status_without(error: InputError) -> u8
+    ensures refused { result ≡ 0 → input_status error ≡ 1 }
+    ensures status { (result ≡ 0) ⊎ (result ≡ 4) }
+{
+    match error {
+        InputError::Settings(SettingsError::OutOfMemory)
+        | InputError::Faults(LineError::OutOfMemory)
+        | InputError::Operator(LineError::OutOfMemory) => status::OUT_OF_MEMORY,
+        _ => status::SUCCESS,
+    }
+}
+
 /// Runs the machines' own workers in rounds by the texts of a run, in a cell that is watched and whose motions take so
 /// many readings, and writes the measures that `drive_texts` tells of a method. The status is 4 where memory was
-/// refused. Texts of which one is refused give no run, and nothing is written.
+/// refused, and then nothing is written. Texts of which one is refused give no run, and nothing is written, with
+/// status 0.
 pub fn measure_texts<R: AllocGlobal + Wait, W: Write>(
     rt: &R,
     settings: &[u8],
@@ -175,9 +222,14 @@ pub fn measure_texts<R: AllocGlobal + Wait, W: Write>(
 ) -> Result<u8, WriteFault>
     ensures told { OnOk result ((told : List ℕ) × Appends (W.contents output.old) (W.contents output.new) told) }
     ensures status { IfOk result (λ status. (status ≡ 0) ⊎ (status ≡ 4)) }
+    // With status 0 the measures were written, or a text is refused.
+    ensures measured { result ≡ Ok 0 → TellsMeasures settings.now faults.now operator.now (W.contents output.old)
+        (W.contents output.new) }
+    ensures memory { result ≡ Ok 4 → output.new ≡ output.old }
 {
-    let Ok(mut inputs) = read_inputs(rt.alloc(), settings, faults, operator) else {
-        return Ok(status::SUCCESS);
+    let mut inputs = match read_inputs(rt.alloc(), settings, faults, operator) {
+        Ok(inputs) => inputs,
+        Err(error) => return Ok(status_without(error)),
     };
     inputs.durations = *durations;
     let Some(text) = measured(rt, inputs) else {
