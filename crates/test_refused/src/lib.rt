@@ -9,6 +9,8 @@
 #[cfg(test)]
 mod books;
 #[cfg(test)]
+mod driven;
+#[cfg(test)]
 mod explained;
 #[cfg(test)]
 mod read;

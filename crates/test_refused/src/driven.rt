@@ -1,0 +1,134 @@
+//! The cell driven by a method, and the machines' own workers measured as a method is.
+use cell_drive::DriveOptions;
+use cell_measures::Durations;
+use cell_output::WriteFault;
+use std::process::Abort;
+use std::sync::Wait;
+use std::test::Fail;
+use test_samples::{call_begins, call_ends};
+
+// Room for all that a run writes, so that the writers ask for no memory.
+const ROOM: usize = 10_000;
+
+// The only plate is cleared from the feed belt, which is repaired. This takes few rounds.
+const CLEARED: &[u8] =
+    b"admitted,1,stop,feed\nfailed,feed,clear,feed_in\nfailed,feed,repair,feed\n";
+
+// What is measured of that run, and the status. Where it is marked, memory may be refused to it.
+fn measured<R: AllocGlobal + Wait>(
+    rt: &R,
+    marked: bool,
+) -> Result<(Vec<u8>, Result<u8, WriteFault>), Fail> {
+    let alloc = rt.alloc();
+    let mut written = Vec::with_capacity(alloc, ROOM)?;
+    if marked {
+        call_begins(alloc);
+    }
+    let answer = cell_drive::measure_texts(
+        rt,
+        b"plates = 1".as_slice(),
+        b"\"press_two\",1,no_motion,\n".as_slice(),
+        CLEARED,
+        &Durations::ONE,
+        &mut written,
+    );
+    if marked {
+        call_ends(alloc, answer == Ok(4));
+    }
+    Ok((written, answer))
+}
+
+// Without memory nothing is told, and the status says so.
+#[test]
+fn measure_texts(rt: HostRuntime) -> Result<(), Fail> {
+    let (due, status) = measured(&rt, false)?;
+    assert!(rt; status == Ok(0) && due.starts_with(b"rounds "));
+    let (written, answer) = measured(&rt, true)?;
+    let (text, due) = (written.as_slice(), due.as_slice());
+    if answer == Ok(4) {
+        assert!(rt; text.is_empty());
+    } else {
+        assert!(rt; answer == Ok(0) && text == due);
+    }
+    Ok(())
+}
+
+// By entries or by commands, with the journal and an explanation.
+const BY_ENTRIES: DriveOptions = DriveOptions {
+    raw: false,
+    journal: true,
+    explain: true,
+    durations: Durations::ONE,
+};
+
+const BY_COMMANDS: DriveOptions = DriveOptions {
+    raw: true,
+    journal: true,
+    explain: true,
+    durations: Durations::ONE,
+};
+
+// What is written where a method writes some lines and quits, what is told to the errors, and the status.
+#[derive(Drop)]
+struct Driven {
+    output: Vec<u8>,
+    errors: Vec<u8>,
+    answer: Result<u8, WriteFault>,
+}
+
+// Where it is marked, memory may be refused to it.
+fn drive_lines<R: AllocGlobal + Wait>(
+    rt: &R,
+    driving: DriveOptions,
+    marked: bool,
+) -> Result<Driven, Fail> {
+    let alloc = rt.alloc();
+    let mut output = Vec::with_capacity(alloc, ROOM)?;
+    let mut errors = Vec::with_capacity(alloc, ROOM)?;
+    if marked {
+        call_begins(alloc);
+    }
+    let answer = cell_drive::drive_texts(
+        rt,
+        b"plates = 1".as_slice(),
+        b"\"press_two\",1,no_motion,\n".as_slice(),
+        CLEARED,
+        driving,
+        b"lamp,feed,green,\ndone,,,\nlamp,feed,red,\ndone,,,\nquit,,,\n".as_slice(),
+        &mut output,
+        &mut errors,
+    );
+    if marked {
+        call_ends(alloc, answer == Ok(4));
+    }
+    Ok(Driven {
+        output,
+        errors,
+        answer,
+    })
+}
+
+// Want of memory is told by the status alone, and behind a first part of what is due.
+fn check_driven<R: AllocGlobal + Abort + Wait>(rt: &R, driving: DriveOptions) -> Result<(), Fail> {
+    let due = drive_lines(rt, driving, false)?;
+    assert!(rt; due.answer == Ok(1));
+    let told = drive_lines(rt, driving, true)?;
+    let (errors, due_errors) = (told.errors.as_slice(), due.errors.as_slice());
+    if told.answer == Ok(4) {
+        assert!(rt; due_errors.starts_with(errors));
+    } else {
+        assert!(rt; told.answer == Ok(1) && errors == due_errors);
+        assert!(rt; told.output.as_slice() == due.output.as_slice());
+    }
+    Ok(())
+}
+
+#[test]
+fn drive_texts_by_entries(rt: HostRuntime) -> Result<(), Fail> {
+    check_driven(&rt, BY_ENTRIES)
+}
+
+#[test]
+fn drive_texts_by_commands(rt: HostRuntime) -> Result<(), Fail> {
+    check_driven(&rt, BY_COMMANDS)
+}
