@@ -1,7 +1,7 @@
 -- Steps of the loops of a sweep
 use Rattle.std.proofs.Common.{◌≡◌, ◌≢◌, inl, inr, ℕ, suc, ◌+◌, ◌<◌, ◌≤◌, Bool, true, false, List, [], ◌∷◌, ◌++◌, Option}
-use Rattle.std.proofs.Common.{Some, None, Result, Ok, Err, IfOk, IsErr, OnOk, map, length, get_or, take, refl, sym, ap}
-use Rattle.std.proofs.Common.{subst, ◌∙◌, append_assoc, append-nil, add-one}
+use Rattle.std.proofs.Common.{Some, None, Result, Ok, Err, IfErr, IfOk, IsErr, OnOk, map, length, get_or, take, refl}
+use Rattle.std.proofs.Common.{sym, ap, subst, ◌∙◌, append_assoc, append-nil, add-one}
 use Rattle.std.specs.Borrow.{Bor}
 use Rattle.std.specs.Io.KnownBytes.{Appends}
 use Rattle.std.specs.List.{flat_map}
@@ -20,13 +20,16 @@ use Rattle.cell_types.specs.declared.words.Entry.{Entry}
 use Rattle.cell_explain.specs.Missed.{motions_of}
 use Rattle.cell_ports.specs.declared.plan.Plan.{Plan}
 use Rattle.cell_workers.specs.declared.ends.End.{End}
+use Rattle.cell_sweep.specs.declared.runs.NoRun.{NoRun}
+use Rattle.cell_sweep.specs.declared.runs.NoRun.TheVariants as none
 use Rattle.cell_sweep.specs.declared.sweep.Stop.{Stop}
 use Rattle.cell_sweep.specs.declared.sweep.Stop.TheVariants as stop
 use Rattle.cell_sweep.specs.Cases.{cases_of, in_motions, planned, script_of}
 use Rattle.cell_sweep.specs.Kinds.{kind_of}
-use Rattle.cell_sweep.specs.Rows.{Grows, GrowsBy, IsScript, IsToldOf, RunsTo, TellsRun, TellsServed, Told, csv_head}
-use Rattle.cell_sweep.specs.Rows.{csv_line}
-use Rattle.cell_sweep.specs.Sweeps.{AreCounts, EndsSo, Sweeps, SweepsTexts, TellsCase, TellsCases, Wanted}
+use Rattle.cell_sweep.specs.Rows.{Grows, GrowsBy, IsNoRun, IsScript, IsToldOf, RefusesRun, RefusesServed, RunsTo}
+use Rattle.cell_sweep.specs.Rows.{TellsRun, TellsServed, Told, csv_head, csv_line}
+use Rattle.cell_sweep.specs.Sweeps.{AreCounts, EndsSo, IsSingle, RefusesSome, StopsSo, Sweeps, SweepsTexts, TellsCase}
+use Rattle.cell_sweep.specs.Sweeps.{TellsCases, Wanted}
 
 -- the faults of one more motion come after those so far
 pub motions-more : (kinds : List Fault) (a : Axis) (n : ℕ) (old mid new : List PlannedFault)
@@ -153,24 +156,64 @@ swept settings operator w counts cases p q r s counted same head (runs, in_order
 pub grew-part : (old new : Option (List ℕ)) (text : List ℕ) → WritesPart old new text → Grows old new
 grew-part old new text (n, inside, h) = (take n text, h)
 
--- where no text is refused, the sweep is whole, or it broke off and its status says so
-pub sweeps-or-breaks : (swept : Result Unit Stop) (ended : Result ℕ WriteFault) (settings operator : List ℕ)
-    (w : Wanted) (old new : Option (List ℕ)) (inputs : Result Inputs InputError)
-    → AreInputs settings [] operator inputs → ((e : InputError) → inputs ≢ Err e)
-    → OnOk swept (Sweeps settings operator w old new) → (IsErr swept → Grows old new)
-    → IfOk ended (EndsSo swept) → IfOk ended (λ status. SweepsTexts settings operator w old new status)
-sweeps-or-breaks swept (Err fault) settings operator w old new inputs are good told part ends = tt
-sweeps-or-breaks swept (Ok status) settings operator w old new (Err e) are good told part ends = absurd (good e refl)
-sweeps-or-breaks (Ok done) (Ok status) settings operator w old new (Ok inputs) are good told part ends =
-    (Ok inputs, are, inl (ends, told))
-sweeps-or-breaks (Err (stop.NoRun why)) (Ok status) settings operator w old new (Ok inputs) are good told part ends =
-    (Ok inputs, are, inr (ends, part refl))
-sweeps-or-breaks (Err stop.WriteFault) (Ok status) settings operator w old new (Ok inputs) are good told part ends =
-    absurd ends
-
 -- what is known of a writer grew by some text
 pub by-grows : (old new : Option (List ℕ)) (csv : Bool) (line : List ℕ) → GrowsBy old new csv line → Grows old new
 by-grows old new csv line (text, h, same) = (text, h)
+
+-- what holds of a refusal holds more weakly
+pub norun-weaker : (P Q : InputError → Type 0) (why : NoRun) → ((e : InputError) → P e → Q e)
+    → IsNoRun P why → IsNoRun Q why
+norun-weaker P Q (none.Refused e) weaker refused = weaker e refused
+norun-weaker P Q none.OutOfMemory weaker refused = tt
+
+-- what refuses the run with these faults refuses a run of the sweep
+pub some-refused : (settings operator faults : List ℕ) (service : Bool) (why : NoRun) → IsSingle faults
+    → IsNoRun (RefusesServed settings operator service faults) why
+    → IsNoRun (RefusesSome settings operator service) why
+some-refused settings operator faults service why single refused =
+    norun-weaker _ _ why (λ e served. (faults, single, served)) refused
+
+-- what refuses a script refuses the run that goes by it
+pub served-refused : (settings operator faults script : List ℕ) (service : Bool) (why : NoRun)
+    → IsScript service operator script → IsNoRun (RefusesRun settings faults script) why
+    → IsNoRun (RefusesServed settings operator service faults) why
+served-refused settings operator faults script service why is refused =
+    norun-weaker _ _ why (λ e run. (script, is, run)) refused
+
+-- whether the sweep is whole or breaks off, what was written before it only grew
+pub swept-grows : (swept : Result Unit Stop) (settings operator : List ℕ) (w : Wanted) (old mid : Option (List ℕ))
+    → OnOk swept (Sweeps settings operator w old mid) → (IsErr swept → Grows old mid) → Grows old mid
+swept-grows (Ok done) settings operator w old mid told part = by-grows _ _ _ _ told.written
+swept-grows (Err why) settings operator w old mid told part = part refl
+
+-- where no text is refused, the sweep is whole, or it broke off and its status says so
+pub sweeps-or-breaks : (swept : Result Unit Stop) (ended : Result ℕ WriteFault) (settings operator : List ℕ)
+    (w : Wanted) (old mid new : Option (List ℕ)) (refused : Bool) (inputs : Result Inputs InputError)
+    → AreInputs settings [] operator inputs → ((e : InputError) → inputs ≢ Err e)
+    → OnOk swept (Sweeps settings operator w old mid) → (IsErr swept → Grows old mid)
+    → IfErr swept (StopsSo settings operator w.service refused)
+    → IfOk ended (EndsSo mid new swept) → IfOk ended (λ status. SweepsTexts settings operator w old new status)
+sweeps-or-breaks swept (Err fault) settings operator w old mid new refused inputs are good told part stops ends = tt
+sweeps-or-breaks swept (Ok status) settings operator w old mid new refused (Err e) are good told part stops ends =
+    absurd (good e refl)
+sweeps-or-breaks (Ok done) (Ok status) settings operator w old mid new refused (Ok inputs) are good told part stops
+    (ok, same) =
+    (Ok inputs, are, inl (ok, subst (Sweeps settings operator w old) (sym same) told))
+sweeps-or-breaks (Err (stop.NoRun (none.Refused e))) (Ok status) settings operator w old mid new refused (Ok inputs)
+    are good told part stops ends =
+    (Ok inputs, are, inr (inr (mid, part refl, (e, stops, ends))))
+sweeps-or-breaks (Err (stop.NoRun none.OutOfMemory)) (Ok status) settings operator w old mid new refused (Ok inputs)
+    are good told part stops (memory, same) =
+    (Ok inputs, are, inr (inl (memory, subst (Grows old) (sym same) (part refl))))
+sweeps-or-breaks (Err stop.WriteFault) (Ok status) settings operator w old mid new refused (Ok inputs) are good told
+    part stops ends =
+    absurd ends
+
+-- the writer stops a sweep only where a write was refused
+pub blamed : (swept : Result Unit Stop) (settings operator : List ℕ) (service refused : Bool)
+    → IfErr swept (StopsSo settings operator service refused) → swept ≡ Err stop.WriteFault → refused ≡ true
+blamed swept settings operator service refused stops is =
+    subst (λ (r : Result Unit Stop). IfErr r (StopsSo settings operator service refused)) is stops
 
 -- all cases are told
 pub all-cases : (settings operator : List ℕ) (w : Wanted) (cases : List PlannedFault) (i : ℕ)

@@ -38,10 +38,14 @@ RunsTo settings faults operator plan J e =
     (inputs : Inputs) × AreInputs settings faults operator (Ok inputs) × (inputs.plan ≡ plan)
     × IsRun (limits_of plan) plan inputs.script J e
 
--- why there is no run by these three texts; want of memory says nothing
-abbrev pub RefusesRun : List ℕ → List ℕ → List ℕ → NoRun → Type 0
-RefusesRun settings faults operator (none.Refused e) = AreInputs settings faults operator (Err e)
-RefusesRun settings faults operator none.OutOfMemory = ⊤
+-- why there is no run: a text is refused by an error of which this holds; want of memory says nothing
+abbrev pub IsNoRun : (InputError → Type 0) → NoRun → Type 0
+IsNoRun P (none.Refused e) = P e
+IsNoRun P none.OutOfMemory = ⊤
+
+-- the first of these three texts that is refused has this error
+abbrev pub RefusesRun : List ℕ → List ℕ → List ℕ → InputError → Type 0
+RefusesRun settings faults operator e = AreInputs settings faults operator (Err e)
 
 -- the first line of a text, without its end
 abbrev pub first_line : List ℕ → List ℕ
@@ -73,6 +77,11 @@ IsScript service operator script = service ≡ false → script ≡ operator
 abbrev pub TellsServed : List ℕ → List ℕ → Bool → Told → Type 0
 TellsServed settings operator service t = (script : List ℕ) × IsScript service operator script
     × TellsRun settings script t
+
+-- a run is refused by this error, by the operator's script or by one that serves
+abbrev pub RefusesServed : List ℕ → List ℕ → Bool → List ℕ → InputError → Type 0
+RefusesServed settings operator service faults e = (script : List ℕ) × IsScript service operator script
+    × RefusesRun settings faults script e
 
 -- a kind with its number of readings, as a list of kinds has it
 abbrev pub kind_with : List ℕ → Option ℕ → List ℕ

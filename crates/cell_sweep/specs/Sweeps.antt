@@ -11,10 +11,12 @@ use Rattle.cell_runs.specs.Inputs.{AreInputs, WritesError, input_line, input_sta
 use Rattle.cell_runs.specs.declared.inputs.Inputs.{Inputs}
 use Rattle.cell_runs.specs.declared.inputs.InputError.{InputError}
 use Rattle.cell_explain.specs.Missed.{motions_of}
+use Rattle.cell_sweep.specs.declared.runs.NoRun.TheVariants as none
 use Rattle.cell_sweep.specs.declared.sweep.Stop.{Stop}
 use Rattle.cell_sweep.specs.declared.sweep.Stop.TheVariants as stop
-use Rattle.cell_sweep.specs.Cases.{cases_of}
-use Rattle.cell_sweep.specs.Rows.{Grows, GrowsBy, IsScript, RunsTo, TellsServed, Told, csv_head, csv_line}
+use Rattle.cell_sweep.specs.Cases.{cases_of, script_of}
+use Rattle.cell_sweep.specs.Rows.{Grows, GrowsBy, IsNoRun, IsScript, RefusesServed, RunsTo, TellsServed, Told, csv_head}
+use Rattle.cell_sweep.specs.Rows.{csv_line}
 
 -- what a sweep goes through, and how it is told
 pub record Wanted : Type 0 where
@@ -44,19 +46,37 @@ pub record Sweeps (settings operator : List ℕ) (w : Wanted) (old new : Option 
   pub told : All (TellsServed settings operator w.service) runs
   pub written : GrowsBy old new w.csv (csv_head ++ flat_map csv_line runs)
 
--- the writer is to blame for what stops a sweep only where a write was refused
-abbrev pub IsToBlame : Bool → Stop → Type 0
-IsToBlame refused why = why ≡ stop.WriteFault → refused ≡ true
+-- the script of faults of a run in a sweep: none, or one fault
+abbrev pub IsSingle : List ℕ → Type 0
+IsSingle faults = (faults ≡ []) ⊎ ((f : PlannedFault) × (faults ≡ script_of f))
 
--- the status of a sweep
-abbrev pub EndsSo : Result Unit Stop → ℕ → Type 0
-EndsSo (Ok done) status = status ≡ 0
-EndsSo (Err (stop.NoRun why)) status = status ≡ 4
-EndsSo (Err stop.WriteFault) status = ⊥
+-- a run of a sweep is refused by this error
+abbrev pub RefusesSome : List ℕ → List ℕ → Bool → InputError → Type 0
+RefusesSome settings operator service e =
+    (faults : List ℕ) × IsSingle faults × RefusesServed settings operator service faults e
 
--- a part of what is told was written, and another status says so
-abbrev pub BreaksOff : Option (List ℕ) → Option (List ℕ) → ℕ → Type 0
-BreaksOff old new status = (status ≡ 4) × Grows old new
+-- why a sweep stops: a run is refused, or memory was, or a write
+abbrev pub StopsSo : List ℕ → List ℕ → Bool → Bool → Stop → Type 0
+StopsSo settings operator service refused (stop.NoRun why) = IsNoRun (RefusesSome settings operator service) why
+StopsSo settings operator service refused stop.WriteFault = refused ≡ true
+
+-- what is written at the end of a sweep, and its status
+abbrev pub EndsSo : Option (List ℕ) → Option (List ℕ) → Result Unit Stop → ℕ → Type 0
+EndsSo old new (Ok done) status = (status ≡ 0) × (new ≡ old)
+EndsSo old new (Err (stop.NoRun (none.Refused e))) status = WritesError old new (input_line e) (input_status e) status
+EndsSo old new (Err (stop.NoRun none.OutOfMemory)) status = (status ≡ 4) × (new ≡ old)
+EndsSo old new (Err stop.WriteFault) status = ⊥
+
+-- a run of a sweep is refused, and that is written as of any run
+abbrev pub TellsRefused : List ℕ → List ℕ → Bool → Option (List ℕ) → Option (List ℕ) → ℕ → Type 0
+TellsRefused settings operator service old new status = (e : InputError) × RefusesSome settings operator service e
+    × WritesError old new (input_line e) (input_status e) status
+
+-- a part of what is told was written; memory was refused, or a run was, which is told behind that part
+abbrev pub BreaksOff : List ℕ → List ℕ → Bool → Option (List ℕ) → Option (List ℕ) → ℕ → Type 0
+BreaksOff settings operator service old new status =
+    ((status ≡ 4) × Grows old new)
+    ⊎ ((part : Option (List ℕ)) × Grows old part × TellsRefused settings operator service part new status)
 
 -- the run of a case is told, and its line is written
 abbrev pub TellsCase : List ℕ → List ℕ → Wanted → PlannedFault → Option (List ℕ) → Option (List ℕ) → Type 0
@@ -75,7 +95,7 @@ abbrev pub SweepsInputs : List ℕ → List ℕ → Wanted → Option (List ℕ)
     → Type 0
 SweepsInputs settings operator w old new status (Err e) = WritesError old new (input_line e) (input_status e) status
 SweepsInputs settings operator w old new status (Ok inputs) =
-    ((status ≡ 0) × Sweeps settings operator w old new) ⊎ BreaksOff old new status
+    ((status ≡ 0) × Sweeps settings operator w old new) ⊎ BreaksOff settings operator w.service old new status
 
 -- what is written of a sweep by its texts, or of the first that is refused
 abbrev pub SweepsTexts : List ℕ → List ℕ → Wanted → Option (List ℕ) → Option (List ℕ) → ℕ → Type 0

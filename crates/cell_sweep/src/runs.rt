@@ -1,6 +1,6 @@
 //! One run of a sweep.
 ghost use Rattle.std.specs.Prelude.{IfErr, IfOk};
-ghost use Rattle.cell_sweep.specs.Rows.{RefusesRun, RunsTo};
+ghost use Rattle.cell_sweep.specs.Rows.{IsNoRun, RefusesRun, RunsTo};
 
 use cell_ports::Plan;
 use cell_runs::{InputError, Inputs, Outcome, read_inputs, simulate};
@@ -47,7 +47,7 @@ pub(crate) fn run_texts<R: AllocGlobal + Wait>(
 ) -> Result<Ran, NoRun>
     ensures ran { IfOk result (λ ran. RunsTo settings.now faults.now operator.now ran.plan ran.outcome.book.entries
         ran.outcome.end) }
-    ensures refused { IfErr result (RefusesRun settings.now faults.now operator.now) }
+    ensures refused { IfErr result (IsNoRun (RefusesRun settings.now faults.now operator.now)) }
 {
     let Inputs {
         plan,

@@ -1,4 +1,7 @@
 //! The operator of a sweep who serves the machines.
+ghost use Rattle.std.specs.Prelude.{true, IfErr};
+ghost use Rattle.cell_sweep.specs.Rows.{IsNoRun, RefusesServed};
+
 use crate::lines::text_of;
 use crate::runs::{NoRun, Ran, run_texts};
 use cell_explain::endings::lines_done;
@@ -138,13 +141,15 @@ fn lines_of(alloc: Global, operator: &[u8]) -> Result<Vec<Line>, AllocError> {
 }
 
 /// The operator's script by which a run is served to its end: his own, and in it what was to be done at the end of each
-/// try, before the first line that wasn't done in that.
+/// try, before the first line that wasn't done in that. A script that grows beyond what a run takes is refused as any.
 pub(crate) fn serve<R: AllocGlobal + Wait>(
     rt: &R,
     settings: &[u8],
     faults: &[u8],
     operator: &[u8],
-) -> Result<Vec<u8>, NoRun> {
+) -> Result<Vec<u8>, NoRun>
+    ensures refused { IfErr result (IsNoRun (RefusesServed settings.now operator.now true faults.now)) }
+{
     let alloc = rt.alloc();
     let mut script = lines_of(alloc, operator)?;
     for _try in 0..MOST_TRIES {

@@ -5,9 +5,9 @@ ghost use Rattle.cell_types.specs.Same.{axis_number};
 ghost use Rattle.cell_sweep.specs.Cases.{cases_of};
 ghost use Rattle.cell_sweep.specs.declared.sweep.Stop.TheVariants as stop;
 ghost use Rattle.cell_types.specs.declared.words.Axis.{Axis as AxisValue};
-ghost use Rattle.cell_sweep.specs.Rows.{Grows, IsScript, TellsServed};
-ghost use Rattle.cell_sweep.specs.Sweeps.{AreCounts, EndsSo, IsToBlame, Sweeps, SweepsTexts, TellsCase, TellsCases};
-ghost use Rattle.cell_sweep.specs.Sweeps.{wanted};
+ghost use Rattle.cell_sweep.specs.Rows.{Grows, IsNoRun, IsScript, RefusesServed, TellsServed};
+ghost use Rattle.cell_sweep.specs.Sweeps.{AreCounts, EndsSo, RefusesSome, StopsSo, Sweeps, SweepsTexts, TellsCase};
+ghost use Rattle.cell_sweep.specs.Sweeps.{TellsCases, wanted};
 
 use crate::cases::{cases_of, script_of};
 use crate::print::{counts_text, head_of, line_of};
@@ -95,7 +95,9 @@ fn script_for<R: AllocGlobal + Wait>(
     task: &Task<'_>,
     faults: &[u8],
 ) -> Result<Vec<u8>, NoRun>
-    ensures { IfOk result (λ script. IsScript task.now.sweep.service task.now.operator.now script.items) }
+    ensures script { IfOk result (λ script. IsScript task.now.sweep.service task.now.operator.now script.items) }
+    ensures refused { IfErr result (IsNoRun (RefusesServed task.now.settings.now task.now.operator.now
+        task.now.sweep.service faults.now)) }
 {
     if task.sweep.service {
         serve(rt, task.settings, faults, task.operator)
@@ -113,6 +115,8 @@ fn run_case<R: AllocGlobal + Wait>(
     ensures planned { IfOk result (λ row. row.planned ≡ planned) }
     ensures told { IfOk result (λ row. TellsServed task.now.settings.now task.now.operator.now task.now.sweep.service
         row) }
+    ensures refused { IfErr result (IsNoRun (RefusesSome task.now.settings.now task.now.operator.now
+        task.now.sweep.service)) }
 {
     let faults = script_of(rt.alloc(), planned)?;
     let faults = faults.as_str().as_bytes();
@@ -124,8 +128,10 @@ fn run_case<R: AllocGlobal + Wait>(
 
 // How many motions of each axis the sweep goes through.
 fn counts_of<R: AllocGlobal + Wait>(rt: &R, task: &Task<'_>) -> Result<[u32; 9], NoRun>
-    ensures { IfOk result (λ counts. AreCounts task.now.settings.now task.now.operator.now task.now.sweep.service
+    ensures counts { IfOk result (λ counts. AreCounts task.now.settings.now task.now.operator.now task.now.sweep.service
         task.now.sweep.motions (λ a. slice_index counts (axis_number a))) }
+    ensures refused { IfErr result (IsNoRun (RefusesSome task.now.settings.now task.now.operator.now
+        task.now.sweep.service)) }
 {
     if let Some(count) = task.sweep.motions {
         return Ok([count; 9]);
@@ -137,9 +143,11 @@ fn counts_of<R: AllocGlobal + Wait>(rt: &R, task: &Task<'_>) -> Result<[u32; 9],
 
 // The faults of a sweep.
 fn begin<R: AllocGlobal + Wait>(rt: &R, task: &Task<'_>) -> Result<Vec<PlannedFault>, NoRun>
-    ensures { IfOk result (λ cases. (counts : AxisValue → ℕ)
+    ensures cases { IfOk result (λ cases. (counts : AxisValue → ℕ)
         × AreCounts task.now.settings.now task.now.operator.now task.now.sweep.service task.now.sweep.motions counts
         × (cases.items ≡ cases_of counts task.now.sweep.kinds.now)) }
+    ensures refused { IfErr result (IsNoRun (RefusesSome task.now.settings.now task.now.operator.now
+        task.now.sweep.service)) }
 {
     let counts = counts_of(rt, task)?;
     let cases = cases_of(rt.alloc(), &counts, task.sweep.kinds)?;
@@ -164,7 +172,8 @@ fn write_case<R: AllocGlobal + Wait, W: Write>(
         (wanted task.now.sweep.kinds.now task.now.sweep.motions task.now.sweep.service task.now.sweep.csv) planned
         (bytes_held W.contents writer.old) (bytes_held W.contents writer.new)) }
     ensures part { IsErr result → Grows (bytes_held W.contents writer.old) (bytes_held W.contents writer.new) }
-    ensures fault { IfErr result (IsToBlame (has_refused writer.new)) }
+    ensures stops { IfErr result (StopsSo task.now.settings.now task.now.operator.now task.now.sweep.service
+        (has_refused writer.new)) }
 {
     let row = run_case(rt, task, planned)?;
     let line = line_of(rt.alloc(), task.sweep.csv, &row)?;
@@ -185,7 +194,8 @@ fn write_rows<R: AllocGlobal + Wait, W: Write, E: Write>(
         (wanted task.now.sweep.kinds.now task.now.sweep.motions task.now.sweep.service task.now.sweep.csv) cases.now
         (bytes_held W.contents writer.old) (bytes_held W.contents writer.new)) }
     ensures part { IsErr result → Grows (bytes_held W.contents writer.old) (bytes_held W.contents writer.new) }
-    ensures fault { IfErr result (IsToBlame (has_refused writer.new)) }
+    ensures stops { IfErr result (StopsSo task.now.settings.now task.now.operator.now task.now.sweep.service
+        (has_refused writer.new)) }
 {
     let mut ends = Vec::new(rt.alloc());
     for planned in cases {
@@ -216,7 +226,8 @@ fn write_sweep<R: AllocGlobal + Wait, W: Write, E: Write>(
         (wanted task.now.sweep.kinds.now task.now.sweep.motions task.now.sweep.service task.now.sweep.csv)
         (bytes_held W.contents writer.old) (bytes_held W.contents writer.new)) }
     ensures part { IsErr result → Grows (bytes_held W.contents writer.old) (bytes_held W.contents writer.new) }
-    ensures fault { IfErr result (IsToBlame (has_refused writer.new)) }
+    ensures stops { IfErr result (StopsSo task.now.settings.now task.now.operator.now task.now.sweep.service
+        (has_refused writer.new)) }
 {
     let csv = task.sweep.csv;
     let cases = begin(rt, task)?;
@@ -227,15 +238,21 @@ fn write_sweep<R: AllocGlobal + Wait, W: Write, E: Write>(
     Ok(())
 }
 
-// The status of a sweep, unless the writer failed. Where there is no run memory was refused, since all texts were read
-// before.
-fn ended(swept: Result<(), Stop>) -> Result<u8, WriteFault>
-    ensures status { IfOk result (EndsSo swept) }
-    ensures fault { IsErr result → swept ≡ Err stop.WriteFault }
+// The status of a sweep, unless the writer failed. A run that is refused is told behind those before it.
+fn end_sweep<W: Write>(
+    writer: &mut WatchedWriter<'_, W>,
+    swept: Result<(), Stop>,
+) -> Result<u8, WriteFault>
+    ensures writer { IsSameWriter writer.old writer.new }
+    ensures status { IfOk result (EndsSo (bytes_held W.contents writer.old) (bytes_held W.contents writer.new) swept) }
+    ensures part { IsErr result → Grows (bytes_held W.contents writer.old) (bytes_held W.contents writer.new) }
+    ensures fault { (swept ≡ Err stop.WriteFault → has_refused writer.old ≡ true)
+        → IsErr result → has_refused writer.new ≡ true }
 {
     match swept {
         Ok(()) => Ok(status::SUCCESS),
-        Err(Stop::NoRun(_)) => Ok(status::OUT_OF_MEMORY),
+        Err(Stop::NoRun(NoRun::Refused(error))) => refuse_input(writer, error),
+        Err(Stop::NoRun(NoRun::OutOfMemory)) => Ok(status::OUT_OF_MEMORY),
         Err(Stop::WriteFault) => Err(WriteFault),
     }
 }
@@ -268,7 +285,7 @@ pub fn sweep_texts_watched<R: AllocGlobal + Wait, W: Write, E: Write>(
         sweep,
     };
     let swept = write_sweep(rt, &task, writer, errors);
-    ended(swept)
+    end_sweep(writer, swept)
 }
 
 /// Runs the simulated cell in rounds once for each fault of a sweep, alone, and writes a row of each run, and then,
@@ -276,8 +293,9 @@ pub fn sweep_texts_watched<R: AllocGlobal + Wait, W: Write, E: Write>(
 ///
 /// The faults are those of each kind in each motion of each axis. The settings or the operator's script, where one is
 /// refused, are told as by `run_texts`, and nothing runs. Else the status is 0, however the runs end, or 4 where memory
-/// was refused, with the rows of the runs before. That `WriteFault` comes only where a refused write was noted is a
-/// clause of `sweep_texts_watched`, of which this is the case of a new writer that notes.
+/// was refused, with the rows of the runs before. Where the operator's service makes the script too long, that is told
+/// behind these rows, with status 1. That `WriteFault` comes only where a refused write was noted is a clause of
+/// `sweep_texts_watched`, of which this is the case of a new writer that notes.
 pub fn sweep_texts<R: AllocGlobal + Wait, W: Write, E: Write>(
     rt: &R,
     settings: &[u8],

@@ -48,3 +48,24 @@ fn a_script_that_waits_holds_no_service_up(rt: HostRuntime) -> Result<(), Fail> 
     assert!(rt; all_end(&rt, waits, true)?);
     Ok(())
 }
+
+// With the lines of the service a script may be too long. That is told behind the rows of the runs before.
+#[test]
+fn a_script_that_grows_too_long_is_told(rt: HostRuntime) -> Result<(), Fail> {
+    let kinds = [Fault::Slow(1), Fault::NoMotion];
+    let sweep = in_csv(kinds.as_slice(), Some(1), true);
+    let mut script = Vec::new(rt.alloc());
+    for _line in 0..999 {
+        script.extend_from_slice(b"delivered,9,stop,feed\n")?;
+    }
+    let text = printed(&rt, [b"plates = 2\n", script.as_slice()], sweep, 1)?;
+    let mut lines = text.as_str().lines().skip(1);
+    let row = lines.next().unwrap_or("");
+    assert!(rt;
+        row.starts_with("feed_belt,1,slow:1,finished,2,2,0,2,"),
+        "{row}"
+    );
+    assert!(rt; lines.next() == Some("operator too long"));
+    assert!(rt; lines.next().is_none());
+    Ok(())
+}

@@ -7,6 +7,6 @@ pub returns-clause-told : goal.returns-clause-told
 returns-clause-told g c =
     served-of _ _ _ _ c.in_ok-operator.operator.items _ _ c.args.planned _ _ _ _ c.as_slice.ensures.value
     c.as_slice-2.ensures.value
-    c.in_ok-operator.ensures c.in_ok-row.ensures.planned
+    c.in_ok-operator.ensures.script c.in_ok-row.ensures.planned
     (c.as_bytes-faults.ensures.value ∙ c.as_str.ensures.value ∙ c.in_ok-faults.ensures) c.in_ok-ran.ensures.ran
     c.in_ok-row.ensures.told

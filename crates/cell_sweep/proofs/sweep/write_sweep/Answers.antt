@@ -6,7 +6,7 @@ use Rattle.cell_sweep.proofs.sweep.write_sweep.Goals as goal
 
 pub returns-clause-told : goal.returns-clause-told
 returns-clause-told g c =
-    let (counts, counted, same) = c.in_ok-cases.ensures in
+    let (counts, counted, same) = c.in_ok-cases.ensures.cases in
     swept _ _ _ counts c.as_slice.result.now _ _ _ _ counted (c.as_slice.ensures.value ∙ same)
     (_, c.in_ok-write_bytes.ensures.whole, λ is_csv. c.as_bytes.ensures.value ∙ c.head_of.ensures is_csv)
     c.in_ok-ends.ensures.told
