@@ -7,6 +7,7 @@ use Rattle.std.specs.Io.KnownBytes.{Appends}
 use Rattle.std.specs.List.{flat_map}
 use Rattle.std.proofs.KnownBytes.{Appends-nil, Appends-trans}
 use Rattle.std.proofs.lemmas.List.{flat_map_more, get_or-map, length-map, map-append, take_all, take_more}
+use Rattle.std.proofs.lemmas.List.Concat.{flat_map-append}
 use Rattle.std.proofs.lemmas.List.Elements.{All-append, All-cons, All-nil}
 use Rattle.cell_sim.specs.declared.fault.Fault.{Fault}
 use Rattle.cell_sim.specs.declared.fault.PlannedFault.{PlannedFault}
@@ -31,15 +32,6 @@ use Rattle.cell_sweep.specs.Rows.{TellsRun, TellsServed, Told, csv_head, csv_lin
 use Rattle.cell_sweep.specs.Sweeps.{AreCounts, EndsSo, IsSingle, RefusesSome, StopsSo, Sweeps, SweepsTexts, TellsCase}
 use Rattle.cell_sweep.specs.Sweeps.{TellsCases, Wanted}
 
--- the faults of one more motion come after those so far
-pub motions-more : (kinds : List Fault) (a : Axis) (n : ℕ) (old mid new : List PlannedFault)
-    → mid ≡ old ++ in_motions kinds a n → new ≡ mid ++ map (planned a (n + 1)) kinds
-    → new ≡ old ++ in_motions kinds a (n + 1)
-motions-more kinds a n old mid new so_far next =
-    let next_suc = rw add-one at next in
-    rw add-one (next_suc ∙ ap (λ ys. ys ++ map (planned a (suc n)) kinds) so_far
-    ∙ append_assoc old (in_motions kinds a n) (map (planned a (suc n)) kinds))
-
 -- one more part of a list names one more kind
 pub named-more : (parts : List (List ℕ)) (i : ℕ) (kinds new : List Fault) (kind : Fault)
     → map kind_of (take i parts) ≡ map Some kinds → i < length parts
@@ -62,13 +54,6 @@ named-part lent parts i d kinds new kind same so_far inside here next =
     (subst (λ ps. i < length ps) same (subst (λ n. i < n) (sym (length-map lent (λ p. p.now))) inside))
     (ap (λ ps. kind_of (get_or ps i [])) (sym same)
     ∙ ap kind_of (get_or-map (λ (p : Bor (List ℕ)). p.now) lent i d [] inside) ∙ here) next
-
--- what a function gives of one more element comes after what it gives of those so far
-pub flat-more : {X Y : Type 0} (f : X → List Y) (mid new : List Y) (xs : List X) (i : ℕ) (d : X) → i < length xs
-    → mid ≡ flat_map f (take i xs) → new ≡ mid ++ f (get_or xs i d) → new ≡ flat_map f (take (i + 1) xs)
-flat-more f mid new xs i d inside so_far next =
-    next ∙ ap (λ ys. ys ++ f (get_or xs i d)) so_far ∙ flat_map_more f [] (take i xs) (get_or xs i d)
-    ∙ ap (flat_map f) (sym (take_more xs i d inside))
 
 -- what is told of one more element comes after a first element and what is told of those so far
 pub told-behind : {X : Type 0} (f : X → List ℕ) (b : ℕ) (old mid new : Option (List ℕ)) (xs : List X) (i : ℕ) (d : X)
@@ -107,21 +92,79 @@ no-cases settings operator w old = (
   ([], Appends-nil old, λ is_csv. refl),
 )
 
--- one more case is told
-pub case-more : (settings operator : List ℕ) (w : Wanted) (cases : List PlannedFault) (i : ℕ) (d : PlannedFault)
-    (old mid new : Option (List ℕ)) → i < length cases
-    → TellsCases settings operator w (take i cases) old mid → TellsCase settings operator w (get_or cases i d) mid new
-    → TellsCases settings operator w (take (i + 1) cases) old new
-case-more settings operator w cases i d old mid new inside (runs, same, told, grown) (t, is_planned, tells, line) = (
-  runs ++ t ∷ [],
-  map-append (λ (s : Told). s.planned) runs (t ∷ []) ∙ ap (λ fs. fs ++ t.planned ∷ []) same
-      ∙ ap (λ (f : PlannedFault). take i cases ++ f ∷ []) is_planned ∙ sym (take_more cases i d inside),
-  All-append (TellsServed settings operator w.service) runs (t ∷ []) told
-      (All-cons (TellsServed settings operator w.service) t [] tells
-      (All-nil (TellsServed settings operator w.service))),
-  subst (GrowsBy old new w.csv) (flat_map_more csv_line [] runs t)
-      (by-then old mid new w.csv (flat_map csv_line runs) (csv_line t) grown line),
+-- one case is told
+pub one-case : (settings operator : List ℕ) (w : Wanted) (f : PlannedFault) (old new : Option (List ℕ))
+    → TellsCase settings operator w f old new → TellsCases settings operator w (f ∷ []) old new
+one-case settings operator w f old new (t, is_planned, tells, line) = (
+  t ∷ [],
+  ap (λ (g : PlannedFault). g ∷ []) is_planned,
+  All-cons (TellsServed settings operator w.service) t [] tells (All-nil (TellsServed settings operator w.service)),
+  subst (GrowsBy old new w.csv) (sym (append-nil (csv_line t))) line,
 )
+
+-- some cases and then others are told
+pub cases-then : (settings operator : List ℕ) (w : Wanted) (cases more : List PlannedFault)
+    (old mid new : Option (List ℕ)) → TellsCases settings operator w cases old mid
+    → TellsCases settings operator w more mid new → TellsCases settings operator w (cases ++ more) old new
+cases-then settings operator w cases more old mid new (runs, same, told, grown) (next, alike, tells, lines) = (
+  runs ++ next,
+  map-append (λ (s : Told). s.planned) runs next ∙ ap (λ fs. fs ++ map (λ (s : Told). s.planned) next) same
+      ∙ ap (λ fs. cases ++ fs) alike,
+  All-append (TellsServed settings operator w.service) runs next told tells,
+  subst (GrowsBy old new w.csv) (sym (flat_map-append csv_line runs next))
+      (by-then old mid new w.csv (flat_map csv_line runs) (flat_map csv_line next) grown lines),
+)
+
+-- the fault of one more kind in a motion is told
+pub kinds-more : (settings operator : List ℕ) (w : Wanted) (a : Axis) (n : ℕ) (kinds : List Fault) (i : ℕ) (d : Fault)
+    (old mid new : Option (List ℕ)) → i < length kinds
+    → TellsCases settings operator w (map (planned a n) (take i kinds)) old mid
+    → TellsCase settings operator w (planned a n (get_or kinds i d)) mid new
+    → TellsCases settings operator w (map (planned a n) (take (i + 1) kinds)) old new
+kinds-more settings operator w a n kinds i d old mid new inside so_far next =
+    subst (λ (fs : List PlannedFault). TellsCases settings operator w fs old new)
+    (sym (ap (map (planned a n)) (take_more kinds i d inside)
+    ∙ map-append (planned a n) (take i kinds) (get_or kinds i d ∷ [])))
+    (cases-then settings operator w _ _ old mid new so_far (one-case settings operator w _ mid new next))
+
+-- the faults of all kinds in a motion are told
+pub kinds-all : (settings operator : List ℕ) (w : Wanted) (a : Axis) (n : ℕ) (kinds : List Fault) (i : ℕ)
+    (old new : Option (List ℕ)) → length kinds ≤ i
+    → TellsCases settings operator w (map (planned a n) (take i kinds)) old new
+    → TellsCases settings operator w (map (planned a n) kinds) old new
+kinds-all settings operator w a n kinds i old new past told =
+    subst (λ (ks : List Fault). TellsCases settings operator w (map (planned a n) ks) old new) (take_all i kinds past)
+    told
+
+-- the faults in one more motion are told
+pub motions-more : (settings operator : List ℕ) (w : Wanted) (kinds : List Fault) (a : Axis) (n : ℕ)
+    (old mid new : Option (List ℕ)) → TellsCases settings operator w (in_motions kinds a n) old mid
+    → TellsCases settings operator w (map (planned a (n + 1)) kinds) mid new
+    → TellsCases settings operator w (in_motions kinds a (n + 1)) old new
+motions-more settings operator w kinds a n old mid new so_far next =
+    let next_suc = rw add-one at next in
+    rw add-one (cases-then settings operator w (in_motions kinds a n) (map (planned a (suc n)) kinds) old mid new so_far
+    next_suc)
+
+-- the faults of one more axis are told
+pub axes-more : (settings operator : List ℕ) (w : Wanted) (f : Axis → List PlannedFault) (axes : List Axis) (i : ℕ)
+    (d : Axis) (old mid new : Option (List ℕ)) → i < length axes
+    → TellsCases settings operator w (flat_map f (take i axes)) old mid
+    → TellsCases settings operator w (f (get_or axes i d)) mid new
+    → TellsCases settings operator w (flat_map f (take (i + 1) axes)) old new
+axes-more settings operator w f axes i d old mid new inside so_far next =
+    subst (λ (fs : List PlannedFault). TellsCases settings operator w fs old new)
+    (flat_map_more f [] (take i axes) (get_or axes i d) ∙ ap (flat_map f) (sym (take_more axes i d inside)))
+    (cases-then settings operator w _ _ old mid new so_far next)
+
+-- the faults of all axes are told
+pub axes-all : (settings operator : List ℕ) (w : Wanted) (f : Axis → List PlannedFault) (items axes : List Axis) (i : ℕ)
+    (old new : Option (List ℕ)) → items ≡ axes → length items ≤ i
+    → TellsCases settings operator w (flat_map f (take i items)) old new
+    → TellsCases settings operator w (flat_map f axes) old new
+axes-all settings operator w f items axes i old new same past told =
+    subst (λ (xs : List Axis). TellsCases settings operator w (flat_map f xs) old new) (take_all i items past ∙ same)
+    told
 
 -- what was written of the cases so far is whole lines
 pub cases-grow : (settings operator : List ℕ) (w : Wanted) (cases : List PlannedFault) (old mid : Option (List ℕ))
@@ -136,17 +179,16 @@ told-of settings script faults f t plan J e same is_script runs told =
     (plan, J, e, subst (λ fs. RunsTo settings fs script plan J e) (is_script ∙ ap script_of (sym same)) runs, told)
 
 -- the line above all, the lines of the cases, and what stands below them
-pub swept : (settings operator : List ℕ) (w : Wanted) (counts : Axis → ℕ) (cases : List PlannedFault)
-    (p q r s : Option (List ℕ))
-    → AreCounts settings operator w.service w.motions counts → cases ≡ cases_of counts w.kinds
-    → GrowsBy p q w.csv csv_head → TellsCases settings operator w cases q r → GrowsBy r s w.csv []
+pub swept : (settings operator : List ℕ) (w : Wanted) (counts : Axis → ℕ) (p q r s : Option (List ℕ))
+    → AreCounts settings operator w.service w.motions counts
+    → GrowsBy p q w.csv csv_head → TellsCases settings operator w (cases_of counts w.kinds) q r → GrowsBy r s w.csv []
     → Sweeps settings operator w p s
-swept settings operator w counts cases p q r s counted same head (runs, in_order, told, rows) below =
+swept settings operator w counts p q r s counted head (runs, in_order, told, rows) below =
     record {
       counts = counts;
       counted = counted;
       runs = runs;
-      cases = in_order ∙ same;
+      cases = in_order;
       told = told;
       written = subst (GrowsBy p s w.csv) (append-nil (csv_head ++ flat_map csv_line runs))
           (by-then p r s w.csv _ [] (by-then p q r w.csv csv_head (flat_map csv_line runs) head rows) below);
@@ -214,13 +256,6 @@ pub blamed : (swept : Result Unit Stop) (settings operator : List ℕ) (service 
     → IfErr swept (StopsSo settings operator service refused) → swept ≡ Err stop.WriteFault → refused ≡ true
 blamed swept settings operator service refused stops is =
     subst (λ (r : Result Unit Stop). IfErr r (StopsSo settings operator service refused)) is stops
-
--- all cases are told
-pub all-cases : (settings operator : List ℕ) (w : Wanted) (cases : List PlannedFault) (i : ℕ)
-    (old new : Option (List ℕ)) → length cases ≤ i
-    → TellsCases settings operator w (take i cases) old new → TellsCases settings operator w cases old new
-all-cases settings operator w cases i old new past told =
-    subst (λ (fs : List PlannedFault). TellsCases settings operator w fs old new) (take_all i cases past) told
 
 -- a run by the script of a fault and by a script that serves, or the operator's, is one of which a row with this fault
 -- tells

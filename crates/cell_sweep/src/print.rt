@@ -163,33 +163,56 @@ pub(crate) fn line_of(
     }
 }
 
-// How many of some ends are this one.
-fn count_of(ends: &[End], wanted: End) -> usize {
-    ends.iter().filter(|end| **end == wanted).count()
+/// How many runs there were, and how many had each end.
+#[derive(Clone, Copy, Debug, Default)]
+pub(crate) struct Ends {
+    runs: u64,
+    finished: u64,
+    stalled: u64,
+    turn_limit: u64,
+    full: u64,
 }
 
-// Writes how many of some ends are this one.
-fn write_count<W: Write>(writer: &mut W, ends: &[End], end: End) -> Result<()> {
-    let count = count_of(ends, end);
+impl Ends {
+    /// Counts a run with this end.
+    pub(crate) fn add(&mut self, end: End) {
+        self.runs = self.runs.saturating_add(1);
+        match end {
+            End::Finished => self.finished = self.finished.saturating_add(1),
+            End::Stalled => self.stalled = self.stalled.saturating_add(1),
+            End::TurnLimit => self.turn_limit = self.turn_limit.saturating_add(1),
+            End::Full => self.full = self.full.saturating_add(1),
+            End::Memory => {}
+        }
+    }
+
+    /// How many runs there were.
+    pub(crate) fn runs(&self) -> u64 {
+        self.runs
+    }
+}
+
+// Writes how many runs had an end.
+fn write_count<W: Write>(writer: &mut W, end: End, count: u64) -> Result<()> {
     let end = word_of_end(end);
     writeln!(writer, "{end} {count}")
 }
 
 // Writes how many runs there were, and how many had each end.
-fn write_all_counts<W: Write>(writer: &mut W, ends: &[End]) -> Result<()> {
-    let runs = ends.len();
+fn write_all_counts<W: Write>(writer: &mut W, ends: Ends) -> Result<()> {
+    let runs = ends.runs;
     write!(writer, "\nruns {runs}\n")?;
-    write_count(writer, ends, End::Finished)?;
-    write_count(writer, ends, End::Stalled)?;
-    write_count(writer, ends, End::TurnLimit)?;
-    write_count(writer, ends, End::Full)
+    write_count(writer, End::Finished, ends.finished)?;
+    write_count(writer, End::Stalled, ends.stalled)?;
+    write_count(writer, End::TurnLimit, ends.turn_limit)?;
+    write_count(writer, End::Full, ends.full)
 }
 
 /// How many runs there were, and how many had each end. With CSV that is no text.
 pub(crate) fn counts_text(
     alloc: Global,
     csv: bool,
-    ends: &[End],
+    ends: Ends,
 ) -> std::result::Result<Vec<u8>, AllocError>
     ensures { csv ≡ true → IfOk result (λ text. text.items ≡ []) }
 {

@@ -1,16 +1,15 @@
 //! A sweep by its texts.
-ghost use Rattle.std.specs.Prelude.{◌≡◌, ℕ, true, Err, IfErr, IfOk, IsErr, OnOk, slice_index};
+ghost use Rattle.std.specs.Prelude.{◌≡◌, true, Err, IfErr, IfOk, IsErr, OnOk, map, slice_index};
 ghost use Rattle.cell_output.specs.Watched.{IsSameWriter, bytes_held, has_refused};
 ghost use Rattle.cell_types.specs.Same.{axis_number};
-ghost use Rattle.cell_sweep.specs.Cases.{cases_of};
+ghost use Rattle.cell_sweep.specs.Cases.{cases_of, in_motions, planned};
 ghost use Rattle.cell_sweep.specs.declared.sweep.Stop.TheVariants as stop;
-ghost use Rattle.cell_types.specs.declared.words.Axis.{Axis as AxisValue};
 ghost use Rattle.cell_sweep.specs.Rows.{Grows, IsNoRun, IsScript, RefusesServed, TellsServed};
 ghost use Rattle.cell_sweep.specs.Sweeps.{AreCounts, EndsSo, RefusesSome, StopsSo, Sweeps, SweepsTexts, TellsCase};
 ghost use Rattle.cell_sweep.specs.Sweeps.{TellsCases, wanted};
 
-use crate::cases::{cases_of, script_of};
-use crate::print::{counts_text, head_of, line_of};
+use crate::cases::script_of;
+use crate::print::{Ends, counts_text, head_of, line_of};
 use crate::row::{Row, row_of};
 use crate::runs::{NoRun, run_texts};
 use crate::service::serve;
@@ -18,7 +17,7 @@ use cell_explain::endings::motions;
 use cell_output::{WatchedWriter, WriteFault, status};
 use cell_runs::{read_inputs, refuse_input};
 use cell_sim::{Fault, PlannedFault};
-use cell_workers::End;
+use cell_types::{AXES, Axis, axis_number};
 use std::alloc::AllocError;
 use std::io::Write;
 use std::sync::Wait;
@@ -89,6 +88,13 @@ struct Task<'a> {
     sweep: Sweep<'a>,
 }
 
+// What is counted while a sweep goes on: its runs by their ends, and how many there will be.
+#[derive(Drop)]
+struct Tally {
+    ends: Ends,
+    all: u64,
+}
+
 // The operator's script by which a run with this script of faults goes.
 fn script_for<R: AllocGlobal + Wait>(
     rt: &R,
@@ -126,6 +132,15 @@ fn run_case<R: AllocGlobal + Wait>(
     Ok(row)
 }
 
+// How many runs there are with a fault of each kind in each motion.
+fn count_all(counts: &[u32; 9], kinds: &[Fault]) -> u64 {
+    let mut motions = 0_u64;
+    for count in counts {
+        motions = motions.saturating_add(u64::from(*count));
+    }
+    motions.saturating_mul(kinds.len() as u64)
+}
+
 // How many motions of each axis the sweep goes through.
 fn counts_of<R: AllocGlobal + Wait>(rt: &R, task: &Task<'_>) -> Result<[u32; 9], NoRun>
     ensures counts { IfOk result (λ counts. AreCounts task.now.settings.now task.now.operator.now task.now.sweep.service
@@ -141,32 +156,23 @@ fn counts_of<R: AllocGlobal + Wait>(rt: &R, task: &Task<'_>) -> Result<[u32; 9],
     Ok(motions(ran.outcome.book.journal()))
 }
 
-// The faults of a sweep.
-fn begin<R: AllocGlobal + Wait>(rt: &R, task: &Task<'_>) -> Result<Vec<PlannedFault>, NoRun>
-    ensures cases { IfOk result (λ cases. (counts : AxisValue → ℕ)
-        × AreCounts task.now.settings.now task.now.operator.now task.now.sweep.service task.now.sweep.motions counts
-        × (cases.items ≡ cases_of counts task.now.sweep.kinds.now)) }
-    ensures refused { IfErr result (IsNoRun (RefusesSome task.now.settings.now task.now.operator.now
-        task.now.sweep.service)) }
-{
-    let counts = counts_of(rt, task)?;
-    let cases = cases_of(rt.alloc(), &counts, task.sweep.kinds)?;
-    Ok(cases)
-}
-
 // Tells how many runs are done. The line is written over by what follows; whether it could be written says nothing.
-fn tell_progress<E: Write>(errors: &mut E, done: usize, all: usize) {
+fn tell_progress<E: Write>(errors: &mut E, tally: &Tally) {
+    let done = tally.ends.runs();
+    let all = tally.all;
     let _ = write!(errors, "{done} of {all} runs\r");
     let _ = errors.flush();
 }
 
-// Writes what is told of the run with one fault, and gives its end.
-fn write_case<R: AllocGlobal + Wait, W: Write>(
+// Writes what is told of the run with one fault, and counts it.
+fn write_case<R: AllocGlobal + Wait, W: Write, E: Write>(
     rt: &R,
     task: &Task<'_>,
     planned: PlannedFault,
     writer: &mut WatchedWriter<'_, W>,
-) -> Result<End, Stop>
+    tally: &mut Tally,
+    errors: &mut E,
+) -> Result<(), Stop>
     ensures writer { IsSameWriter writer.old writer.new }
     ensures told { OnOk result (TellsCase task.now.settings.now task.now.operator.now
         (wanted task.now.sweep.kinds.now task.now.sweep.motions task.now.sweep.service task.now.sweep.csv) planned
@@ -178,39 +184,90 @@ fn write_case<R: AllocGlobal + Wait, W: Write>(
     let row = run_case(rt, task, planned)?;
     let line = line_of(rt.alloc(), task.sweep.csv, &row)?;
     writer.write_bytes(line.as_slice())?;
-    Ok(row.end)
+    tally.ends.add(row.end);
+    if task.sweep.progress {
+        tell_progress(errors, tally);
+    }
+    Ok(())
 }
 
-// Runs each case, and writes what is told of it. It gives the ends.
-fn write_rows<R: AllocGlobal + Wait, W: Write, E: Write>(
+// Runs the cell with a fault of each kind in a motion of an axis, and writes what is told of each.
+fn write_kinds<R: AllocGlobal + Wait, W: Write, E: Write>(
     rt: &R,
     task: &Task<'_>,
-    cases: &[PlannedFault],
+    axis: Axis,
+    motion: u32,
     writer: &mut WatchedWriter<'_, W>,
+    tally: &mut Tally,
     errors: &mut E,
-) -> Result<Vec<End>, Stop>
+) -> Result<(), Stop>
     ensures writer { IsSameWriter writer.old writer.new }
     ensures told { OnOk result (TellsCases task.now.settings.now task.now.operator.now
-        (wanted task.now.sweep.kinds.now task.now.sweep.motions task.now.sweep.service task.now.sweep.csv) cases.now
+        (wanted task.now.sweep.kinds.now task.now.sweep.motions task.now.sweep.service task.now.sweep.csv)
+        (map (planned axis motion) task.now.sweep.kinds.now)
         (bytes_held W.contents writer.old) (bytes_held W.contents writer.new)) }
     ensures part { IsErr result → Grows (bytes_held W.contents writer.old) (bytes_held W.contents writer.new) }
     ensures stops { IfErr result (StopsSo task.now.settings.now task.now.operator.now task.now.sweep.service
         (has_refused writer.new)) }
 {
-    let mut ends = Vec::new(rt.alloc());
-    for planned in cases {
-        let end = write_case(rt, task, *planned, writer)?;
-        push_end(&mut ends, end)?;
-        if task.sweep.progress {
-            tell_progress(errors, ends.len(), cases.len());
-        }
+    for kind in task.sweep.kinds {
+        let planned = PlannedFault {
+            axis,
+            motion,
+            fault: *kind,
+        };
+        write_case(rt, task, planned, writer, tally, errors)?;
     }
-    Ok(ends)
+    Ok(())
 }
 
-// Adds an end.
-fn push_end(ends: &mut Vec<End>, end: End) -> Result<(), AllocError> {
-    ends.push(end)?;
+// Runs the cell with the faults in each of so many motions of an axis.
+fn write_motions<R: AllocGlobal + Wait, W: Write, E: Write>(
+    rt: &R,
+    task: &Task<'_>,
+    axis: Axis,
+    count: u32,
+    writer: &mut WatchedWriter<'_, W>,
+    tally: &mut Tally,
+    errors: &mut E,
+) -> Result<(), Stop>
+    ensures writer { IsSameWriter writer.old writer.new }
+    ensures told { OnOk result (TellsCases task.now.settings.now task.now.operator.now
+        (wanted task.now.sweep.kinds.now task.now.sweep.motions task.now.sweep.service task.now.sweep.csv)
+        (in_motions task.now.sweep.kinds.now axis count)
+        (bytes_held W.contents writer.old) (bytes_held W.contents writer.new)) }
+    ensures part { IsErr result → Grows (bytes_held W.contents writer.old) (bytes_held W.contents writer.new) }
+    ensures stops { IfErr result (StopsSo task.now.settings.now task.now.operator.now task.now.sweep.service
+        (has_refused writer.new)) }
+{
+    for before in 0..count {
+        write_kinds(rt, task, axis, before + 1, writer, tally, errors)?;
+    }
+    Ok(())
+}
+
+// Runs the cell with each fault, by axes, of each by motions, and of each by kinds.
+fn write_rows<R: AllocGlobal + Wait, W: Write, E: Write>(
+    rt: &R,
+    task: &Task<'_>,
+    counts: &[u32; 9],
+    writer: &mut WatchedWriter<'_, W>,
+    tally: &mut Tally,
+    errors: &mut E,
+) -> Result<(), Stop>
+    ensures writer { IsSameWriter writer.old writer.new }
+    ensures told { OnOk result (TellsCases task.now.settings.now task.now.operator.now
+        (wanted task.now.sweep.kinds.now task.now.sweep.motions task.now.sweep.service task.now.sweep.csv)
+        (cases_of (λ a. slice_index counts.now (axis_number a)) task.now.sweep.kinds.now)
+        (bytes_held W.contents writer.old) (bytes_held W.contents writer.new)) }
+    ensures part { IsErr result → Grows (bytes_held W.contents writer.old) (bytes_held W.contents writer.new) }
+    ensures stops { IfErr result (StopsSo task.now.settings.now task.now.operator.now task.now.sweep.service
+        (has_refused writer.new)) }
+{
+    for axis in AXES {
+        let count = counts[axis_number(axis)];
+        write_motions(rt, task, axis, count, writer, tally, errors)?;
+    }
     Ok(())
 }
 
@@ -230,11 +287,15 @@ fn write_sweep<R: AllocGlobal + Wait, W: Write, E: Write>(
         (has_refused writer.new)) }
 {
     let csv = task.sweep.csv;
-    let cases = begin(rt, task)?;
+    let counts = counts_of(rt, task)?;
+    let mut tally = Tally {
+        ends: Ends::default(),
+        all: count_all(&counts, task.sweep.kinds),
+    };
     writer.write_bytes(head_of(csv).as_bytes())?;
-    let ends = write_rows(rt, task, cases.as_slice(), writer, errors)?;
-    let counts = counts_text(rt.alloc(), csv, ends.as_slice())?;
-    writer.write_bytes(counts.as_slice())?;
+    write_rows(rt, task, &counts, writer, &mut tally, errors)?;
+    let text = counts_text(rt.alloc(), csv, tally.ends)?;
+    writer.write_bytes(text.as_slice())?;
     Ok(())
 }
 
