@@ -13,12 +13,13 @@ use Rattle.cell_ports.specs.Logs.{Log}
 use Rattle.operator_desk.specs.declared.line.Line.{Line}
 use Rattle.cell_method.specs.Lines.{Row}
 use Rattle.cell_method.specs.Rounds.{Driven, Leads, Stand}
+use Rattle.cell_method.specs.declared.rounds.DriveEnd.{DriveEnd}
 use Rattle.cell_runs.specs.Runs.{limits_of}
 use Rattle.cell_drive.specs.Drives.{DrivesEntries, drive_line, opening}
 
--- what holds where an answer is Ok, of one that is
-pub of-ok : {A B Q : Type 0} (r : Result A B) → IsOk r → IfOk r (λ _. Q) → Q
-of-ok (Ok a) ok q = q
+-- what holds of an answer's value, of one that is Ok
+pub of-ok : {A B : Type 0} {Q : A → Type 0} (r : Result A B) → IsOk r → IfOk r Q → (a : A) × Q a
+of-ok (Ok a) ok q = (a, q)
 of-ok (Err e) ok q = cc
 
 -- what holds of a run with a status below 3, where that is the status of its call
@@ -37,8 +38,9 @@ pub drove : {P : Type 0} (tells : P → Bool) (log : P → Log) (plan : Plan) (s
     (l k : BookLimits) (all left : Option (List (Option Row))) (K : List Entry) (ports : Six P)
     (w x y z : Option (List ℕ)) (told : List ℕ)
     → s ≡ opening script → l ≡ limits_of plan → k ≡ l → legal k K ≡ true → Appends w x (drive_line plan)
-    → Driven tells log l s all left K ports x y → Appends y z told → DrivesEntries plan script all w z
-drove tells log plan script s l k all left K ports w x y z told start limits same h first d last =
+    → ((e : DriveEnd) × Driven tells log plan l s all left e K ports x y) → Appends y z told
+    → DrivesEntries plan script all w z
+drove tells log plan script s l k all left K ports w x y z told start limits same h first (e, d) last =
     record {
       after = d.after;
       left = left;

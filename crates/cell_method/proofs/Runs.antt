@@ -1,6 +1,6 @@
 -- How events follow each other
 use Rattle.std.proofs.Common.{◌≡◌, ◌∙◌, ◌+◌, ℕ, List, [], ◌∷◌, ◌++◌, length, Option, Some, None, Bool, true, false, ap}
-use Rattle.std.proofs.Common.{sym, refl, subst, append_assoc, append-nil}
+use Rattle.std.proofs.Common.{sym, refl, subst, append_assoc, append-nil, if◌then◌else◌, ◌⊎◌, inl, inr, arith}
 use Rattle.std.specs.Io.KnownBytes.{Appends}
 use Rattle.std.proofs.KnownBytes.{Appends-nil, Appends-trans}
 use Rattle.cell_types.specs.Entries.{actor_of, command_of}
@@ -19,18 +19,22 @@ use Rattle.cell_turns.specs.Six.{at, map_six, put}
 use Rattle.operator_desk.specs.declared.action.Action.{Action}
 use Rattle.operator_desk.specs.declared.line.Line.{Line}
 use Rattle.operator_desk.specs.Next.{entry_of, left_after, next_of}
+use Rattle.cell_ports.specs.declared.plan.Plan.{Plan}
 use Rattle.cell_method.specs.Asked.{ask_of}
+use Rattle.cell_method.specs.Ends.{end_by, is_finished, is_full}
 use Rattle.cell_method.specs.Lines.{Row, TakesLine}
 use Rattle.cell_method.specs.Replies.{booked_as, line_of}
-use Rattle.cell_method.specs.Rounds.{AnswersBy, Broke, Driven, Event, Answered, Fits, FitsDesk, Goes, Leads, Opened}
-use Rattle.cell_method.specs.Rounds.{Operated, Operates, Reads, Shown, Stand, after_action, after_ask, after_entry}
-use Rattle.cell_method.specs.Rounds.{after_event, after_events, after_judging, after_operator, entry_line, history}
-use Rattle.cell_method.specs.Rounds.{row_of, rows_of, saying, start}
+use Rattle.cell_method.specs.Rounds.{AnswersBy, Broke, Driven, EndedBy, EndsAs, Event, Answered, Fits, FitsDesk, Goes}
+use Rattle.cell_method.specs.Rounds.{Leads, Opened, Operated, Operates, Reads, Shown, Stand, after_action, after_ask}
+use Rattle.cell_method.specs.Rounds.{after_entry, after_event, after_events, after_judging, after_operator, entry_line}
+use Rattle.cell_method.specs.Rounds.{history, row_of, rows_of, saying, start}
 use Rattle.cell_method.specs.Shown.{reading_line, round_line}
 use Rattle.cell_method.specs.declared.ask.Ask.{Ask}
 use Rattle.cell_method.specs.declared.ask.Ask.TheVariants as ask
 use Rattle.cell_method.specs.declared.reply.Reply.{Reply}
 use Rattle.cell_method.specs.declared.reply.Reply.TheVariants as reply
+use Rattle.cell_method.specs.declared.rounds.DriveEnd.{DriveEnd}
+use Rattle.cell_method.specs.declared.rounds.DriveEnd.TheVariants as ends
 
 -- what holds of each machine's two things holds with others at m
 pub both_put : {A B : Type 0} (Q : A → B → Type 0) (m : Machine) (a : Six A) (b : Six B) (x : A) (y : B)
@@ -414,14 +418,39 @@ broke-line tells log l s a b c J K ports ports' script lost n w x row asks faile
       fits = (answers t goes.fits).0;
     }
 
+-- no journal sets the turn limit
+no-limit : (done full : Bool) → Some ends.TurnLimit
+    ≡ (if done then Some ends.Finished else if full then Some ends.Full else None) → ⊥
+no-limit true full is = cc
+no-limit false true is = cc
+no-limit false false is = cc
+
+-- a round set the end
+pub round-ends : (p : Plan) (s : Stand) (J : List Entry) (e : DriveEnd) → J ≡ s.journal → EndedBy p J (Some e)
+    → EndsAs p s e
+round-ends p s J ends.Quit same is = tt
+round-ends p s J ends.TooManyLines same is = tt
+round-ends p s J ends.Finished same is = is ∙ ap (end_by p) same
+round-ends p s J ends.Full same is = is ∙ ap (end_by p) same
+round-ends p s J ends.Memory same is = is ∙ ap (end_by p) same
+round-ends p s J ends.TurnLimit same is = absurd (no-limit (is_finished p.plates J) (is_full p J) is)
+
+-- there were as many rounds as there may be, and none of them set an end
+pub turns-over : (p : Plan) (s : Stand) (J : List Entry) (n : ℕ) → J ≡ s.journal → s.rounds ≡ n → n ≡ p.turns
+    → (n ≡ 0) ⊎ (end_by p J ≡ None) → EndsAs p s ends.TurnLimit
+turns-over p s J n same rounds all (inl none) = absurd (omega (arith, all, none, p.turns_in_range.0))
+turns-over p s J n same rounds all (inr going) = (sym (ap (end_by p) same) ∙ going, rounds ∙ all)
+
 -- nothing was told at the start, so the run's text is all that was written
-pub driven : {P : Type 0} (tells : P → Bool) (log : P → Log) (l : BookLimits) (s : Stand)
-    (a b : Option (List (Option Row))) (J : List Entry) (ports : Six P) (script : List Line) (lost : Bool) (n : ℕ)
-    (w x : Option (List ℕ))
-    → s.text ≡ [] → Goes tells log l s a b J ports script lost n w x → Driven tells log l s a b J ports w x
-driven tells log l s a b J ports script lost n w x none goes = record {
+pub driven : {P : Type 0} (tells : P → Bool) (log : P → Log) (p : Plan) (l : BookLimits) (s : Stand)
+    (a b : Option (List (Option Row))) (e : DriveEnd) (J : List Entry) (ports : Six P) (script : List Line)
+    (lost : Bool) (n : ℕ) (w x : Option (List ℕ))
+    → s.text ≡ [] → (goes : Goes tells log l s a b J ports script lost n w x) → EndsAs p goes.after e
+    → Driven tells log p l s a b e J ports w x
+driven tells log p l s a b e J ports script lost n w x none goes is = record {
   after = goes.after;
   leads = goes.leads;
+  ends = is;
   fits = goes.fits;
   text = goes.text w (subst (Appends w w) (sym none) (Appends-nil w));
 }

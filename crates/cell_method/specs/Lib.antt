@@ -3,4 +3,5 @@ pub mod Lines
 pub mod Asked
 pub mod Replies
 pub mod Shown
+pub mod Ends
 pub mod Rounds

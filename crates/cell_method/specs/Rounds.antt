@@ -19,13 +19,17 @@ use Rattle.cell_turns.specs.Six.{at, map_six, put}
 use Rattle.operator_desk.specs.declared.action.Action.{Action}
 use Rattle.operator_desk.specs.declared.line.Line.{Line}
 use Rattle.operator_desk.specs.Next.{entry_of, left_after, next_of}
+use Rattle.cell_ports.specs.declared.plan.Plan.{Plan}
 use Rattle.cell_method.specs.Asked.{ask_of}
+use Rattle.cell_method.specs.Ends.{end_by}
 use Rattle.cell_method.specs.Lines.{Row}
 use Rattle.cell_method.specs.Replies.{booked_as, line_of}
 use Rattle.cell_method.specs.Shown.{reading_line, round_line}
 use Rattle.cell_method.specs.declared.ask.Ask.{Ask}
 use Rattle.cell_method.specs.declared.ask.Ask.TheVariants as ask
 use Rattle.cell_method.specs.declared.reply.Reply.{Reply}
+use Rattle.cell_method.specs.declared.rounds.DriveEnd.{DriveEnd}
+use Rattle.cell_method.specs.declared.rounds.DriveEnd.TheVariants as ends
 use Rattle.cell_method.specs.declared.reply.Reply.TheVariants as reply
 
 -- where a run stands: the journal, what each machine's port was asked, the operator's lines that aren't done yet and
@@ -172,11 +176,25 @@ pub record Broke {P : Type 0} (tells : P → Bool) (log : P → Log) (l : BookLi
   pub leads : Leads l s after all left
   pub fits : Fits tells log K ports after
 
--- a run: events led from its start to the journal, to what the ports were asked and to the text that was written
-pub record Driven {P : Type 0} (tells : P → Bool) (log : P → Log) (l : BookLimits) (s : Stand)
-    (all left : Option (List (Option Row))) (K : List Entry) (ports : Six P) (old new : Option (List ℕ)) : Type 0 where
+-- the end that a round set, if it set one: by the journal, unless the method ended the run in the round
+abbrev pub EndedBy : Plan → List Entry → Option DriveEnd → Type 0
+EndedBy p J (Some ends.Quit) = ⊤
+EndedBy p J (Some ends.TooManyLines) = ⊤
+EndedBy p J e = e ≡ end_by p J
+
+-- a run that stands so has come to this end
+abbrev pub EndsAs : Plan → Stand → DriveEnd → Type 0
+EndsAs p s ends.TurnLimit = (end_by p s.journal ≡ None) × (s.rounds ≡ p.turns)
+EndsAs p s e = EndedBy p s.journal (Some e)
+
+-- a run: events led from its start to its end, to the journal, to what the ports were asked and to the text that was
+-- written
+pub record Driven {P : Type 0} (tells : P → Bool) (log : P → Log) (p : Plan) (l : BookLimits) (s : Stand)
+    (all left : Option (List (Option Row))) (ended : DriveEnd) (K : List Entry) (ports : Six P)
+    (old new : Option (List ℕ)) : Type 0 where
   pub after : Stand
   pub leads : Leads l s after all left
+  pub ends : EndsAs p after ended
   pub fits : Fits tells log K ports after
   pub text : Appends old new after.text
 

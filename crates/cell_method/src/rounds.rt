@@ -5,8 +5,9 @@ ghost use Rattle.cell_types.specs.declared.words.Entry.{Entry as EntryValue};
 ghost use Rattle.cell_rules.specs.declared.limits.BookLimits.{BookLimits};
 ghost use Rattle.cell_rules.specs.Legal.{legal};
 ghost use Rattle.cell_rules.specs.Safety.{IsSafe};
+ghost use Rattle.cell_method.specs.Ends.{end_by, is_finished};
 ghost use Rattle.cell_method.specs.Lines.{Row, lines_left};
-ghost use Rattle.cell_method.specs.Rounds.{Broke, Driven, Fits, FitsDesk, Goes, Stand, start};
+ghost use Rattle.cell_method.specs.Rounds.{Broke, Driven, EndedBy, Fits, FitsDesk, Goes, Stand, start};
 ghost use Rattle.cell_method.specs.Shown.{round_line};
 
 use crate::booking::{Close, take_lines};
@@ -64,9 +65,18 @@ fn open_round<W: Write>(writer: &mut W, number: u32) -> Result<(), DriveError>
     Ok(())
 }
 
+// Whether so many plates were admitted, and no station has one.
+fn is_finished(book: &Book, plates: u32) -> bool
+    ensures { result ≡ is_finished plates book.now.entries }
+{
+    book.totals().admitted == plates && book.on_stations().is_empty()
+}
+
 // The end that a round leaves the run at, if it does.
-fn end_at(book: &Book, plan: &Plan) -> Option<DriveEnd> {
-    if book.totals().admitted == plan.plates && book.on_stations().is_empty() {
+fn end_at(book: &Book, plan: &Plan) -> Option<DriveEnd>
+    ensures { result ≡ end_by plan.now book.now.entries }
+{
+    if is_finished(book, plan.plates) {
         Some(DriveEnd::Finished)
     } else if book.journal().len() >= plan.journal_limit {
         Some(DriveEnd::Full)
@@ -95,6 +105,7 @@ fn take_round<R: TellsFault, W: Write, P: Port, O: OperatorPort, L: Onlooker>(
     ensures broke { IsErr result → (s : Stand) (rounds : ℕ) → rounds + 1 ≡ number
         → Fits P.tells P.log book.old.entries ports.old s → FitsDesk desk.old.script desk.old.lost rounds s
         → Broke P.tells P.log book.old.limits s (lines_left R.remaining lines.old) book.new.entries ports.new }
+    ensures ended { IfOk result (EndedBy plan.now book.new.entries) }
     ensures limits { book.new.limits ≡ book.old.limits }
 {
     show_readings(ports, writer)?;
@@ -122,9 +133,10 @@ fn take_rounds<R: TellsFault, W: Write, P: Port, O: OperatorPort, L: Onlooker>(
     onlooker: &mut L,
 ) -> Result<DriveEnd, DriveError>
     requires { desk.old.lost ≡ false }
-    ensures run { IfOk result (λ _. Driven P.tells P.log book.old.limits
+    ensures run { IfOk result (λ end. Driven P.tells P.log plan.now book.old.limits
         (start P.log book.old.entries ports.old desk.old.script) (lines_left R.remaining lines.old)
-        (lines_left R.remaining lines.new) book.new.entries ports.new (W.contents writer.old) (W.contents writer.new)) }
+        (lines_left R.remaining lines.new) end book.new.entries ports.new (W.contents writer.old)
+        (W.contents writer.new)) }
     ensures broke { IsErr result → Broke P.tells P.log book.old.limits
         (start P.log book.old.entries ports.old desk.old.script) (lines_left R.remaining lines.old) book.new.entries
         ports.new }
@@ -160,10 +172,11 @@ pub fn drive<R: TellsFault, W: Write, P: Port, O: OperatorPort, L: Onlooker>(
     writer: &mut W,
     onlooker: &mut L,
 ) -> Result<DriveEnd, DriveError>
-    // Events lead from the start to the journal, to what the ports were asked and to what was written.
-    ensures run { IfOk result (λ _. Driven P.tells P.log book.old.limits (start P.log book.old.entries ports.old script)
-        (lines_left R.remaining lines.old) (lines_left R.remaining lines.new) book.new.entries ports.new
-        (W.contents writer.old) (W.contents writer.new)) }
+    // Events lead from the start to this end, to the journal, to what the ports were asked and to what was written.
+    ensures run { IfOk result (λ end. Driven P.tells P.log plan.now book.old.limits
+        (start P.log book.old.entries ports.old script) (lines_left R.remaining lines.old)
+        (lines_left R.remaining lines.new) end book.new.entries ports.new (W.contents writer.old)
+        (W.contents writer.new)) }
     // The same where it breaks off, but for what was written and which lines are left.
     ensures broke { IsErr result → Broke P.tells P.log book.old.limits (start P.log book.old.entries ports.old script)
         (lines_left R.remaining lines.old) book.new.entries ports.new }

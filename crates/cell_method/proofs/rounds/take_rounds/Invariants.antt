@@ -1,9 +1,10 @@
-use Rattle.std.proofs.Common.{◌≡◌}
+use Rattle.std.proofs.Common.{◌≡◌, ◌⊎◌, None}
+use Rattle.cell_method.specs.Ends.{end_by}
 use Rattle.cell_method.specs.Lines.{lines_left}
 use Rattle.cell_method.specs.Rounds.{Goes, start}
 use Rattle.cell_method.proofs.rounds.take_rounds.Given as goal
 
--- the rounds so far led here
+-- the rounds so far led here, and none of them set an end
 abbrev pub invariant-loop-round : goal.invariant-loop-round
 invariant-loop-round g l = record {
   limits : l.book.limits ≡ l.fn.book.limits;
@@ -11,4 +12,5 @@ invariant-loop-round g l = record {
       (start g.P.Port.log l.fn.book.entries l.fn.ports l.fn.desk.script) (lines_left g.R.Read.remaining l.fn.lines)
       (lines_left g.R.Read.remaining l.lines) l.book.entries l.ports
       l.desk.script l.desk.lost l.round (g.W.Write.contents l.fn.writer) (g.W.Write.contents l.writer);
+  ends : (l.round ≡ 0) ⊎ (end_by l.plan l.book.entries ≡ None);
 }
