@@ -1,5 +1,5 @@
 -- What is written for the words of a command line, and the status with which the program ends
-use Rattle.std.specs.Prelude.{◌≡◌, ◌⊎◌, ℕ, Bool, true, false, List, Option, Result, Ok, Err, IfOk, MatchResult}
+use Rattle.std.specs.Prelude.{◌≡◌, ◌≢◌, ◌⊎◌, ℕ, Bool, true, false, List, Option, Result, Ok, Err, IfOk, MatchResult}
 use Rattle.std.specs.Borrow.{Bor}
 use Rattle.std.specs.Io.KnownBytes.{Appends, Keeps}
 use Rattle.clap.specs.Words.{HasKind, Text as Word, fault_of, kind_of}
@@ -12,7 +12,7 @@ use Rattle.cell_command.specs.declared.order.Running.{Running}
 use Rattle.cell_command.specs.declared.order.Sweeping.{Sweeping}
 use Rattle.cell_command.specs.declared.order.Order.{Order}
 use Rattle.cell_command.specs.declared.order.Driving.{Driving}
-use Rattle.cell_drive.specs.Drives.{DrivesTexts}
+use Rattle.cell_drive.specs.Drives.{DrivesTexts, TellsMeasures}
 use Rattle.cell_sim.specs.declared.fault.Fault.{Fault}
 use Rattle.cell_sweep.specs.Sweeps.{SweepsTexts, Wanted, wanted}
 use Rattle.cell_runs.specs.Runs.{TellsRun, TellsPart as PartOfRun}
@@ -50,13 +50,25 @@ DrivesFiles driving input old new written =
     × IfOk written (DrivesTexts settings faults operator driving.raw input old new))
     ⊎ TellsUnfit driving.running.times old new written
 
+-- what is measured of a run by some texts, of one on threads by the journal that is left of it
+abbrev pub MeasuresRun : Bool → List ℕ → List ℕ → List ℕ → Option (List ℕ) → Option (List ℕ) → Type 0
+MeasuresRun true settings faults operator run new = (measures : List ℕ) × Appends run new measures
+MeasuresRun false settings faults operator run new = TellsMeasures settings faults operator run new
+
+-- what is written behind a run with a status: nothing where memory was refused for it or for its measures, which the
+-- status tells, and else the measures
+abbrev pub AddsMeasures : Bool → List ℕ → List ℕ → List ℕ → ℕ → ℕ → Option (List ℕ) → Option (List ℕ) → Type 0
+AddsMeasures threads settings faults operator ran status run new =
+    ((status ≡ 4) × (new ≡ run))
+    ⊎ ((ran ≢ 4) × (status ≡ ran) × MeasuresRun threads settings faults operator run new)
+
 -- what is written of a run by some texts and then of its measures: the status is the run's, but where memory was
 -- refused for the measures
 abbrev pub MeasuresTexts : Bool → Bool → Option (List ℕ) → Option (List ℕ) → Result ℕ WriteFault → Type 0
 MeasuresTexts threads journal old new written = (settings : List ℕ) × (faults : List ℕ) × (operator : List ℕ)
     × IfOk written (λ status. (run : Option (List ℕ)) × (ran : ℕ)
-    × TellsRun settings faults operator threads journal old run ran × (measures : List ℕ) × Appends run new measures
-    × ((status ≡ ran) ⊎ (status ≡ 4)))
+    × TellsRun settings faults operator threads journal old run ran
+    × AddsMeasures threads settings faults operator ran status run new)
 
 -- what is written of a run by the texts of its files and then of its measures, unless the settings are too long or the
 -- durations are refused

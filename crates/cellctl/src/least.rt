@@ -1,5 +1,5 @@
 //! How long the events of a run need at least.
-ghost use Rattle.std.specs.Prelude.{◌≡◌, ◌⊎◌, IfOk, List, OnOk, ℕ};
+ghost use Rattle.std.specs.Prelude.{◌≡◌, ◌⊎◌, IfOk, List, Ok, OnOk, ℕ};
 ghost use Rattle.std.specs.Io.KnownBytes.{Appends};
 
 use cell_journal::Journal;
@@ -23,6 +23,7 @@ pub(crate) fn tell_least<W: Write>(
 ) -> Result<u8, WriteFault>
     ensures told { OnOk result ((told : List ℕ) × Appends (W.contents output.old) (W.contents output.new) told) }
     ensures status { IfOk result (λ status. (status ≡ 0) ⊎ (status ≡ 4)) }
+    ensures memory { result ≡ Ok 4 → output.new ≡ output.old }
 {
     let Left::Run(run) = left else {
         return Ok(status::SUCCESS);

@@ -1,8 +1,8 @@
 //! What is done for an order, over any reader and writers.
-ghost use Rattle.std.specs.Prelude.{◌≡◌, ◌⊎◌, ℕ, List, IfErr, IfOk, OnOk};
+ghost use Rattle.std.specs.Prelude.{◌≡◌, ◌≢◌, ◌⊎◌, ℕ, List, IfErr, IfOk, Ok, OnOk};
 ghost use Rattle.std.specs.Io.KnownBytes.{Appends};
 ghost use Rattle.cellctl.specs.Carried.{CarriesOut, DrivesFiles, FollowsFiles, FollowsTexts, MeasuresFiles};
-ghost use Rattle.cellctl.specs.Carried.{MeasuresTexts, RunsFiles, RunsTexts, TellsUnfit};
+ghost use Rattle.cellctl.specs.Carried.{AddsMeasures, MeasuresRun, MeasuresTexts, RunsFiles, RunsTexts, TellsUnfit};
 
 use crate::least::tell_least;
 use crate::sweep::sweep_words;
@@ -159,7 +159,9 @@ fn run_files<'a, R: AllocGlobal + Files + Threads + Wait + Sync, W: Write>(
 
 // The status of a run with its measures: the run's, but where memory was refused for the measures.
 fn status_with(run: u8, measures: u8) -> u8
-    ensures { (result ≡ run) ⊎ (result ≡ 4) }
+    ensures status { (result ≡ run) ⊎ (result ≡ 4) }
+    ensures memory { measures ≡ 4 → result ≡ 4 }
+    ensures run { measures ≢ 4 → result ≡ run }
 {
     if measures == status::OUT_OF_MEMORY {
         measures
@@ -174,23 +176,46 @@ fn tell_measures<R: AllocGlobal + Wait, W: Write>(
     rt: &R,
     output: &mut W,
     threads: bool,
-    sources: &Sources,
+    settings: &[u8],
+    faults: &[u8],
+    operator: &[u8],
+    durations: &Durations,
     left: &Left,
 ) -> Result<u8, WriteFault>
     ensures told { OnOk result ((told : List ℕ) × Appends (W.contents output.old) (W.contents output.new) told) }
     ensures status { IfOk result (λ status. (status ≡ 0) ⊎ (status ≡ 4)) }
+    ensures measured { result ≡ Ok 0 → MeasuresRun threads settings.now faults.now operator.now
+        (W.contents output.old) (W.contents output.new) }
+    ensures memory { result ≡ Ok 4 → output.new ≡ output.old }
 {
     if threads {
-        return tell_least(rt.alloc(), output, left, &sources.durations);
+        return tell_least(rt.alloc(), output, left, durations);
     }
-    measure_texts(
-        rt,
-        sources.settings.as_slice(),
-        sources.faults.as_slice(),
-        sources.operator.as_slice(),
-        &sources.durations,
-        output,
-    )
+    measure_texts(rt, settings, faults, operator, durations, output)
+}
+
+// Tells what is measured of a run that has this status, unless memory was refused for it, and gives the status of both.
+fn add_measures<R: AllocGlobal + Wait, W: Write>(
+    rt: &R,
+    output: &mut W,
+    threads: bool,
+    settings: &[u8],
+    faults: &[u8],
+    operator: &[u8],
+    durations: &Durations,
+    status: u8,
+    left: &Left,
+) -> Result<u8, WriteFault>
+    ensures { IfOk result (λ both. AddsMeasures threads settings.now faults.now operator.now status both
+        (W.contents output.old) (W.contents output.new)) }
+{
+    if status == status::OUT_OF_MEMORY {
+        return Ok(status);
+    }
+    let measured = tell_measures(
+        rt, output, threads, settings, faults, operator, durations, left,
+    )?;
+    Ok(status_with(status, measured))
 }
 
 // Runs the simulated cell by its texts, on threads or in rounds, and tells what is measured of it.
@@ -204,23 +229,24 @@ fn measure_sources<R: AllocGlobal + Threads + Wait + Sync, W: Write>(
     ensures { MeasuresTexts threads running.entry.journal (W.contents output.old) (W.contents output.new)
         result.written }
 {
+    let settings = sources.settings.as_slice();
+    let faults = sources.faults.as_slice();
+    let operator = sources.operator.as_slice();
+    let durations = &sources.durations;
+    let journal = running.journal;
     let ran = run_texts_kept(
-        rt,
-        sources.settings.as_slice(),
-        sources.faults.as_slice(),
-        sources.operator.as_slice(),
-        &sources.durations,
-        threads,
-        running.journal,
-        output,
+        rt, settings, faults, operator, durations, threads, journal, output,
     );
     let Ok((status, left)) = ran else {
         return without_ending(Err(WriteFault));
     };
-    let Ok(measured) = tell_measures(rt, output, threads, &sources, &left) else {
+    let both = add_measures(
+        rt, output, threads, settings, faults, operator, durations, status, &left,
+    );
+    let Ok(both) = both else {
         return without_ending(Err(WriteFault));
     };
-    let told = Ok((status_with(status, measured), left));
+    let told = Ok((both, left));
     with_ending(told, running.explain, sources.faults, sources.operator)
 }
 
