@@ -1,12 +1,14 @@
 //! A sweep beside the single runs of which it tells.
 use crate::sweep::sample::{field, in_csv, line_with, printed};
+use cell_output::WriteFault;
 use cell_runs::run_texts;
 use cell_sim::Fault;
-use cell_sweep::Sweep;
+use cell_sweep::{Sweep, sweep_texts};
 use std::process::Abort;
 use std::sync::Wait;
 use std::test::Fail;
 use std::thread::Threads;
+use test_samples::FailingWriter;
 
 const SETTINGS: &[u8] = b"plates = 2\n";
 
@@ -122,5 +124,23 @@ fn all_motions_of_the_run_without_faults_are_gone_through(rt: HostRuntime) -> Re
     );
     // The second press isn't used.
     assert!(rt; line_with(text, "press_two,").is_empty());
+    Ok(())
+}
+
+// A sweep of tens of millions of runs writes its first rows, which are those of a shorter one, before it makes others.
+#[test]
+fn a_long_sweep_begins_at_once(rt: HostRuntime) -> Result<(), Fail> {
+    let shorter = in_csv(KINDS.as_slice(), Some(3), false);
+    let due = printed(&rt, [SETTINGS, b""], shorter, 0)?;
+    let longer = Sweep {
+        motions: Some(1_000_000),
+        ..shorter
+    };
+    let mut output = FailingWriter::new(Vec::new(rt.alloc()), 350);
+    let mut errors = Vec::new(rt.alloc());
+    let answer = sweep_texts(&rt, SETTINGS, b"", longer, &mut output, &mut errors);
+    assert!(rt; answer == Err(WriteFault));
+    let written = output.inner().as_slice();
+    assert!(rt; written.len() == 350 && due.as_str().as_bytes().starts_with(written));
     Ok(())
 }
