@@ -37,11 +37,21 @@ impl From<AllocError> for TimesError {
     }
 }
 
-// Adds a path's characters: control characters as escapes of TOML.
+// Whether a character is printed as an escape: a control character, or one that parts lines or turns the direction of
+// text.
+fn is_escaped(character: char) -> bool {
+    character.is_control()
+        || matches!(
+            u32::from(character),
+            0x061C | 0x200E | 0x200F | 0x2028..=0x202E | 0x2066..=0x2069
+        )
+}
+
+// Adds a path's characters, some of them as escapes of TOML.
 fn push_escaped(line: &mut String, path: &str, alloc: Global) -> Result<(), AllocError> {
     for character in path.chars() {
-        let code = u32::from(character);
-        if code < 32 || code == 127 {
+        if is_escaped(character) {
+            let code = u32::from(character);
             let escape = format!(in alloc; "\\u{code:04X}")?;
             line.push_str(escape.as_str())?;
         } else {
@@ -53,7 +63,8 @@ fn push_escaped(line: &mut String, path: &str, alloc: Global) -> Result<(), Allo
 
 impl TimesError {
     /// The line that tells the error, without its end: `times`, the error's name, and the path of the key, if it names
-    /// one, in which control characters are escapes of TOML; `None` where memory was refused.
+    /// one; `None` where memory was refused. In the path control characters, also those beyond ASCII, and characters
+    /// that part lines or turn the direction of text are escapes of TOML, by four digits.
     pub fn line(&self, alloc: Global) -> Result<Option<String>, AllocError> {
         let (name, path) = match self {
             TimesError::NotToml => ("NotToml", None),
