@@ -107,7 +107,7 @@ good_start plan may =
     }
 
 module _ (plan : ℕ) (serves : Bool) (first : Machine → Bool) where
-  reason : (x : Seen) (e : Entry) → Contains (can_happen plan serves x) e
+  pub reason : (x : Seen) (e : Entry) → Contains (can_happen plan serves x) e
       → Happens plan (may_of x.may) (cell_of (snap x)) e
   unfolding told
   reason x e h = happens plan serves (may_of x.may) (cell_of (snap x)) e h

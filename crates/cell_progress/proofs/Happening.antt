@@ -69,7 +69,7 @@ pub data Happens (plan : ℕ) (may : Machine → Bool) (c : Situation) (e : Entr
       → Happens plan may c e
   served : is_service e ≡ true → is_bookable ample c e ≡ true → Happens plan may c e
 
-wanted_own : (plan : ℕ) (c : Situation) (m : Machine) (e : Entry) → Wanted plan c m e → is_own e ≡ true
+pub wanted_own : (plan : ℕ) (c : Situation) (m : Machine) (e : Entry) → Wanted plan c m e → is_own e ≡ true
 unfolding is_useful_now
 wanted_own plan c m e h = grind arith
 
@@ -95,22 +95,22 @@ unfolding somes
 all_some P f [] h = All-nil P
 all_some P f (x ∷ xs) h = All-append P (option_to_list (f x)) _ (all_option P (f x) (h x)) (all_some P f xs h)
 
-abbrev machines : List Machine
+abbrev pub machines : List Machine
 machines =
     Machine.Feed ∷ Machine.Table ∷ Machine.Robot ∷ Machine.Press1 ∷ Machine.Press2 ∷ Machine.Deposit ∷ []
 
-abbrev arriving : List Axis
+abbrev pub arriving : List Axis
 arriving =
     Axis.TableLift ∷ Axis.TableTurn ∷ Axis.RobotTurn ∷ Axis.ArmOne ∷ Axis.ArmTwo ∷ Axis.PressOne ∷ Axis.PressTwo ∷ []
 
 -- the ends of motions that a plate takes part in, and the signs
-data Sign : Type 0 where
+pub data Sign : Type 0 where
   conveys : Axis → Station → Station → Sign
   forges : Machine → Station → Sign
   enters : Sign
   goes : Sign
 
-abbrev sign : ℕ → Situation → Sign → Option Entry
+abbrev pub sign : ℕ → Situation → Sign → Option Entry
 sign plan c (conveys a from dest) = conveyed c a from dest
 sign plan c (forges m s) = forged c m s
 sign plan c enters = laid_in plan c

@@ -23,3 +23,6 @@ pub mod Shortest
 pub mod Asked
 pub mod Counted
 pub mod Finished
+pub mod Lawful
+pub mod Listing
+pub mod Due

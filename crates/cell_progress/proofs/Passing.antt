@@ -29,7 +29,7 @@ with_room true ts e h = cc
 with_room false ts e h = h
 
 -- the cell is told without its journal's length, so there is room
-no_full : (e : Entry) → is_full 1000000 0 e ≡ false
+pub no_full : (e : Entry) → is_full 1000000 0 e ≡ false
 no_full (Declared m cause) = refl
 no_full _ = refl
 

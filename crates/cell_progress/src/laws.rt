@@ -5,9 +5,12 @@ ghost use Rattle.std.specs.List.{Contains};
 ghost use Rattle.cell_types.specs.declared.words.Machine.{Machine};
 ghost use Rattle.cell_types.specs.declared.words.Entry.{Entry};
 ghost use Rattle.cell_types.specs.After.{opening, after, step};
+ghost use Rattle.cell_rules.specs.Legal.{legal};
+ghost use Rattle.cell_rules.specs.declared.limits.BookLimits.{BookLimits};
 ghost use Rattle.cell_useful.specs.Cells.{may_of};
 ghost use Rattle.cell_useful.specs.Moves.{entries_of, is_finished, is_stuck};
 ghost use Rattle.cell_useful.specs.Told.{IsPossible as IsPossibleAs, cell_seen, opening_of, told_after};
+ghost use Rattle.cell_progress.specs.Due.{AreDue, AreDueSeen};
 ghost use Rattle.cell_progress.specs.Orders.{EndsWhole, GoesOn, IsOnePress, IsPossible, cell_of, may_after, may_then};
 ghost use Rattle.cell_progress.specs.Rank.{most_failures, rank};
 
@@ -89,6 +92,41 @@ pub fn searched_orders_are_short()
     ensures { (plan : ℕ) (serves : Bool) (may : List Bool) (es : List Entry)
         → IsPossibleAs plan serves (opening_of may) es
         → length es ≤ (76 * plan + 9) + most_failures (may_of may) }
+{}
+
+/// An order is a legal journal, where the limits have room for its entries and for the plates of the plan.
+#[tactic(auto, using(crate::proofs::Lawful::order_legal))]
+pub fn orders_are_legal()
+    ensures { (l : BookLimits) (plan : ℕ) (serves : Bool) (may : Machine → Bool) (es : List Entry) → plan ≤ l.plates
+        → length es ≤ l.entries → IsPossible plan serves may opening es → legal l es ≡ true }
+{}
+
+/// So is an order as the search of states tells it.
+#[tactic(auto, using(crate::proofs::Lawful::searched_legal))]
+pub fn searched_orders_are_legal()
+    ensures { (l : BookLimits) (plan : ℕ) (serves : Bool) (may : List Bool) (es : List Entry) → plan ≤ l.plates
+        → length es ≤ l.entries → IsPossibleAs plan serves (opening_of may) es → legal l es ≡ true }
+{}
+
+/// Each of its entries is due in what those before it leave, and a legal journal of entries that are due is an order,
+/// whatever the limits.
+#[tactic(auto, using(crate::proofs::Due::all_due, crate::proofs::Due::due_law))]
+pub fn due_journals_are_orders()
+    ensures due { (plan : ℕ) (serves : Bool) (may : Machine → Bool) (es : List Entry)
+        → IsPossible plan serves may opening es → AreDue plan serves may opening es }
+    ensures order { (l : BookLimits) (plan : ℕ) (serves : Bool) (may : Machine → Bool) (J : List Entry)
+        → plan ≤ 100000 → legal l J ≡ true → AreDue plan serves may opening J
+        → IsPossible plan serves may opening J }
+{}
+
+/// And so it is of orders as the search of states tells them.
+#[tactic(auto, using(crate::proofs::Due::all_seen_due, crate::proofs::Due::seen_due_law))]
+pub fn due_journals_are_searched_orders()
+    ensures due { (plan : ℕ) (serves : Bool) (may : List Bool) (es : List Entry)
+        → IsPossibleAs plan serves (opening_of may) es → AreDueSeen plan serves (opening_of may) es }
+    ensures order { (l : BookLimits) (plan : ℕ) (serves : Bool) (may : List Bool) (J : List Entry) → plan ≤ 100000
+        → legal l J ≡ true → AreDueSeen plan serves (opening_of may) J
+        → IsPossibleAs plan serves (opening_of may) J }
 {}
 
 /// With an operator who clears failed machines and repairs them nothing is ever stuck, whatever may fail.
