@@ -1,2 +1,3 @@
 pub mod Drove
-pub mod Unread
+pub mod Opened
+pub mod Telling

@@ -1,24 +1,42 @@
 -- What is written where a method drives the cell by the texts of a run
-use Rattle.std.specs.Prelude.{◌≡◌, ◌<◌, ◌++◌, ℕ, Bool, true, false, List, [], ◌∷◌, Option, Result, Ok, Err, codes}
-use Rattle.std.specs.Prelude.{decimal, option_map, ⊤}
+use Rattle.std.specs.Prelude.{◌≡◌, ◌≢◌, ◌⊎◌, ◌<◌, ◌++◌, ℕ, Bool, true, false, List, [], ◌∷◌, Option, Result, Ok, Err}
+use Rattle.std.specs.Prelude.{codes, decimal, option_map, ⊤}
 use Rattle.std.specs.Io.KnownBytes.{Appends}
 use Rattle.cell_output.specs.Numbers.{number_line}
 use Rattle.cell_rows.specs.Lines.{line}
+use Rattle.cell_types.specs.declared.words.Entry.{Entry}
+use Rattle.cell_types.specs.declared.words.Totals.{Totals}
 use Rattle.cell_rules.specs.Legal.{legal}
+use Rattle.cell_rules.specs.Views.{count_of}
 use Rattle.cell_ports.specs.declared.plan.Plan.{Plan}
-use Rattle.cell_ports.specs.Logs.{no_log}
+use Rattle.cell_ports.specs.Logs.{no_acts, no_log}
 use Rattle.cell_turns.specs.Six.{each}
+use Rattle.cell_workers.specs.declared.ends.End.{End}
+use Rattle.cell_workers.specs.declared.ends.End.TheVariants as end
 use Rattle.operator_desk.specs.declared.line.Line.{Line}
 use Rattle.cell_method.specs.Lines.{Row, lines_of}
-use Rattle.cell_method.specs.Rounds.{Leads, Stand}
+use Rattle.cell_method.specs.Order.{Point, between}
+use Rattle.cell_method.specs.Rounds.{EndsAs, Leads, Stand}
+use Rattle.cell_method.specs.declared.rounds.DriveEnd.{DriveEnd}
+use Rattle.cell_method.specs.declared.rounds.DriveEnd.TheVariants as ends
 use Rattle.cell_runs.specs.Inputs.{AreInputs, WritesError, input_line, input_status}
-use Rattle.cell_runs.specs.Runs.{limits_of}
+use Rattle.cell_runs.specs.Rounds.{IsRun}
+use Rattle.cell_runs.specs.Runs.{counts_after, limits_of}
 use Rattle.cell_runs.specs.declared.inputs.Inputs.{Inputs}
 use Rattle.cell_runs.specs.declared.inputs.InputError.{InputError}
 
--- where a run by entries starts: nothing is booked, the ports tell nothing, and the operator's script is whole
+-- where a run by entries starts: nothing is booked, the ports and hands tell nothing, and the operator's script is
+-- whole
 abbrev pub opening : List Line → Stand
-opening script = record { journal = []; logs = each (λ m. no_log); lines = script; lost = false; rounds = 0; text = [] }
+opening script = record {
+  journal = [];
+  logs = each (λ m. no_log);
+  lines = script;
+  hands = no_acts;
+  lost = false;
+  rounds = 0;
+  text = [];
+}
 
 -- the first line of the protocol
 abbrev pub drive_line : Plan → List ℕ
@@ -28,15 +46,43 @@ drive_line plan = line (codes "drive" ∷ codes "1" ∷ decimal plan.plates ∷ 
 abbrev pub lines_in : Option (List ℕ) → Option (List (Option Row))
 lines_in input = option_map lines_of input
 
--- a run by entries: events led from the opening to a legal journal, and what was written is the first line, the text of
--- these events and what is told of the run
+-- the words of an end
+abbrev pub end_words : DriveEnd → List ℕ
+end_words ends.Finished = codes "finished"
+end_words ends.TurnLimit = codes "turn limit"
+end_words ends.Full = codes "full"
+end_words ends.Quit = codes "quit"
+end_words ends.TooManyLines = codes "too many lines"
+end_words ends.Memory = codes "memory"
+
+-- the line of an end, and the lines of these totals
+abbrev pub end_lines : DriveEnd → Totals → List ℕ
+end_lines e t = counts_after (codes "end," ++ (end_words e ++ codes ",,")) t
+
+-- what is told of a run that ended so, with this journal: its end, what the journal counts, and then what was measured
+abbrev pub TellsEnd : DriveEnd → List Entry → List ℕ → Type 0
+TellsEnd e J text = (more : List ℕ) × (text ≡ end_lines e (count_of J) ++ more)
+
+-- a run that ended so has this status: 0 is only of one that is finished
+abbrev pub EndStatus : DriveEnd → ℕ → Type 0
+EndStatus ends.Finished status = (status ≡ 0) ⊎ (status ≡ 1)
+EndStatus ends.Memory status = status ≡ 4
+EndStatus _ status = status ≡ 1
+
+-- a run by entries: events led from the opening to its end and to a legal journal, and what was written is the first
+-- line, the text of these events and what is told of the run, with the status of that end
 pub record DrivesEntries (plan : Plan) (script : List Line) (all : Option (List (Option Row)))
-    (old new : Option (List ℕ)) : Type 0 where
+    (old new : Option (List ℕ)) (status : ℕ) : Type 0 where
   pub after : Stand
   pub left : Option (List (Option Row))
-  pub leads : Leads (limits_of plan) (opening script) after all left
+  pub to : Point
+  pub leads : Leads (limits_of plan) (opening script) after between to all left
   pub legal : legal (limits_of plan) after.journal ≡ true
+  pub ended : DriveEnd
+  pub ends : EndsAs plan after to all left ended
+  pub with_status : EndStatus ended status
   pub told : List ℕ
+  pub tells : TellsEnd ended after.journal told
   pub text : Appends old new (drive_line plan ++ (after.text ++ told))
 
 -- what is written by good texts; by commands nothing is said of it, nor where a device failed or memory was refused
@@ -45,7 +91,7 @@ abbrev pub DrivesInputs : Bool → Option (List ℕ) → Option (List ℕ) → O
 DrivesInputs raw input old new status (Err e) = WritesError old new (input_line e) (input_status e) status
 DrivesInputs true input old new status (Ok inputs) = ⊤
 DrivesInputs false input old new status (Ok inputs) = status < 3
-    → DrivesEntries inputs.plan inputs.script (lines_in input) old new
+    → DrivesEntries inputs.plan inputs.script (lines_in input) old new status
 
 -- what is written by the texts of a run, or by the first of them that is refused
 abbrev pub DrivesTexts : List ℕ → List ℕ → List ℕ → Bool → Option (List ℕ) → Option (List ℕ) → Option (List ℕ) → ℕ
@@ -54,14 +100,24 @@ DrivesTexts settings faults operator raw input old new status =
     (inputs : Result Inputs InputError) × AreInputs settings faults operator inputs
     × DrivesInputs raw input old new status inputs
 
--- what is told of a run that is measured: first how many rounds it took
-abbrev pub AreMeasures : List ℕ → Type 0
-AreMeasures text = (rounds : ℕ) × (more : List ℕ) × (text ≡ number_line (codes "rounds") rounds ++ more)
+-- the lines of how many rounds a run took and how many entries its journal has
+abbrev pub run_counts : ℕ → ℕ → List ℕ
+run_counts rounds entries = number_line (codes "rounds") rounds ++ number_line (codes "entries") entries
+
+-- what is told of a measured run with this journal: first those counts
+abbrev pub TellsCounts : List Entry → List ℕ → Type 0
+TellsCounts J text = (rounds : ℕ) × (more : List ℕ) × (text ≡ run_counts rounds (count_of J).entries ++ more)
+
+-- what is told of a run in rounds by this plan and this script of the operator, which didn't end for want of memory
+abbrev pub AreMeasures : Plan → List Line → List ℕ → Type 0
+AreMeasures plan script text = (e : End) × (J : List Entry) × IsRun (limits_of plan) plan script J e
+    × (e ≢ end.Memory) × TellsCounts J text
 
 -- the measures of a run by good texts were written; where a text is refused, nothing was
 abbrev pub MeasuresInputs : Option (List ℕ) → Option (List ℕ) → Result Inputs InputError → Type 0
 MeasuresInputs old new (Err e) = (new ≡ old) × (input_status e ≡ 1)
-MeasuresInputs old new (Ok inputs) = (text : List ℕ) × AreMeasures text × Appends old new text
+MeasuresInputs old new (Ok inputs) = (text : List ℕ) × AreMeasures inputs.plan inputs.script text
+    × Appends old new text
 
 -- what is written where a run by these texts is measured and no memory is refused
 abbrev pub TellsMeasures : List ℕ → List ℕ → List ℕ → Option (List ℕ) → Option (List ℕ) → Type 0

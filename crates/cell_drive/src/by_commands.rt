@@ -1,12 +1,13 @@
 //! A run by commands: the method answers for itself, and the world is watched.
 
 use crate::measures::Measures;
-use crate::report::{explain_broken, write_end, write_world};
+use crate::report::{end_text, explain_broken, explain_unread, write_world};
 use crate::texts::{Told, status_of, write_told};
+use crate::unread::{UnreadLine, unread_command};
 use crate::wish::{Wish, wish_of};
 use cell_method::{DriveEnd, DriveError, LineReader, MAX_LINES, ReadingLine};
 use cell_ports::{OperatorPort, Plan, Port};
-use cell_rows::{TellsFault, read_script};
+use cell_rows::{Four, TellsFault, read_script};
 use cell_runs::sim_ports;
 use cell_sim::{FaultScript, SimOperator, SimPort, World};
 use cell_turns::Ports;
@@ -51,6 +52,8 @@ struct Run<'a, R: Wait> {
     // How many commands came. At `u32::MAX` the count stays.
     commands: u32,
     measures: Measures,
+    // The first line that couldn't be read.
+    unread: Option<UnreadLine>,
 }
 
 // The machine that a command goes to. Each command names its own part of the cell, so that any port carries it out.
@@ -82,13 +85,25 @@ fn send<R: Wait>(run: &mut Run<'_, R>, command: Command) -> &'static str {
     }
 }
 
+// Keeps why a line of the round can't be read, if it is the first of the run, and gives the answer.
+fn keep_unread<R: Wait>(run: &mut Run<'_, R>, line: u32, four: Option<Four<'_>>) -> &'static str {
+    if run.unread.is_none() {
+        run.unread = Some(UnreadLine {
+            round: run.measures.rounds(),
+            line,
+            why: unread_command(four),
+        });
+    }
+    "unreadable,,,\n"
+}
+
 // Answers the lines of a round.
 fn take_lines<R: Wait, I: TellsFault, W: Write>(
     run: &mut Run<'_, R>,
     lines: &mut LineReader<I>,
     writer: &mut W,
 ) -> Result<Close, DriveError> {
-    for _ in 0..MAX_LINES {
+    for count in 0..MAX_LINES {
         if !lines.advance()? {
             return Ok(Close::End(DriveEnd::Quit));
         }
@@ -96,7 +111,7 @@ fn take_lines<R: Wait, I: TellsFault, W: Write>(
             Wish::Done => return Ok(Close::Done),
             Wish::Quit => return Ok(Close::End(DriveEnd::Quit)),
             Wish::Send(command) => send(run, command),
-            Wish::Nothing => "unreadable,,,\n",
+            Wish::Nothing => keep_unread(run, count + 1, lines.four()),
         };
         write!(writer, "{answer}")?;
         writer.flush()?;
@@ -210,9 +225,8 @@ fn totals_of(world: &World) -> Totals {
 
 // What is told of a run that ended so.
 fn told_of<R: Wait>(alloc: Global, run: &mut Run<'_, R>, end: DriveEnd) -> io::Result<Vec<u8>> {
-    let mut text = Vec::new(alloc);
     let world = run.world.lock(run.rt);
-    write_end(&mut text, end, totals_of(&world))?;
+    let mut text = end_text(alloc, end, totals_of(&world))?;
     writeln!(text, "rounds {}", run.measures.rounds())?;
     writeln!(text, "commands {}", run.commands)?;
     writeln!(text, "collisions {}", world.collisions())?;
@@ -243,6 +257,7 @@ pub(crate) fn drive_commands<R: AllocGlobal + Wait, I: TellsFault, W: Write, E: 
         done: 0,
         commands: 0,
         measures: Measures::new(rt.alloc()),
+        unread: None,
     };
     let ended = take_rounds(&mut run, plan, lines, writer)?;
     let end = if run.measures.lacks_memory() {
@@ -256,6 +271,7 @@ pub(crate) fn drive_commands<R: AllocGlobal + Wait, I: TellsFault, W: Write, E: 
     write_told(writer, text.as_slice())?;
     let world = world.lock(rt);
     if told.explain {
+        explain_unread(errors, run.unread)?;
         explain_broken(errors, &world)?;
     }
     Ok(status_of(end, world.is_safe()))

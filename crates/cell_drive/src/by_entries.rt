@@ -1,15 +1,16 @@
 //! A run by entries.
-ghost use Rattle.std.specs.Prelude.{◌≡◌, ◌≢◌, ◌<◌, [], ℕ, List, IfOk, IsErrOf, IsOk, IsTrue, OnOk, true};
+ghost use Rattle.std.specs.Prelude.{◌≡◌, ◌≢◌, ◌<◌, [], ℕ, List, IfOk, IsErrOf, IsTrue, Ok, OnOk, true};
 ghost use Rattle.std.specs.Io.KnownBytes.{Appends};
 ghost use Rattle.cell_audit.specs.Text.{text_of};
 ghost use Rattle.cell_output.specs.Watched.{bytes_held, has_refused};
 ghost use Rattle.cell_runs.specs.Runs.{limits_of};
 ghost use Rattle.cell_method.specs.Lines.{lines_left};
-ghost use Rattle.cell_drive.specs.Drives.{DrivesEntries};
+ghost use Rattle.cell_drive.specs.Drives.{DrivesEntries, EndStatus, TellsEnd};
 
 use crate::looker::Looker;
 use crate::report::{
-    explain_broken, explain_untrue, write_end, write_refusals, write_times, write_world,
+    end_text, explain_broken, explain_unread, explain_untrue, write_refusals, write_times,
+    write_world,
 };
 use crate::texts::{Told, begin, status_of, write_told};
 use cell_audit::{WriteError, write_journal_watched};
@@ -29,7 +30,7 @@ use std::sync::{Mutex, Wait};
 
 // How a run ended, or the error of a device by which it broke off. Want of memory is an end.
 fn end_of(ran: Result<DriveEnd, DriveError>, lacks_memory: bool) -> Result<DriveEnd, DriveError>
-    ensures { IfOk result (λ end. end ≢ DriveEnd.Memory → IsOk ran) }
+    ensures { IfOk result (λ end. end ≢ DriveEnd.Memory → ran ≡ Ok end) }
 {
     match ran {
         Ok(_) if lacks_memory => Ok(DriveEnd::Memory),
@@ -48,10 +49,26 @@ fn told_of<R: Wait>(
     looker: &mut Looker<'_, R>,
     world: &Mutex<World>,
     durations: &Durations,
+) -> io::Result<Vec<u8>>
+    ensures { IfOk result (λ text. TellsEnd end book.now.entries text.items) }
+{
+    let mut told = end_text(alloc, end, book.totals())?;
+    let measures = measures_of(alloc, rt, book, looker, world, durations)?;
+    told.extend_from_slice(measures.as_slice())?;
+    Ok(told)
+}
+
+// What is told of a run below its end and what it counted.
+fn measures_of<R: Wait>(
+    alloc: Global,
+    rt: &R,
+    book: &Book,
+    looker: &mut Looker<'_, R>,
+    world: &Mutex<World>,
+    durations: &Durations,
 ) -> io::Result<Vec<u8>> {
     let mut text = Vec::new(alloc);
     let world = world.lock(rt);
-    write_end(&mut text, end, book.totals())?;
     writeln!(text, "rounds {}", looker.measures.rounds())?;
     writeln!(text, "entries {}", book.totals().entries)?;
     write_refusals(&mut text, &looker.refusals)?;
@@ -67,19 +84,20 @@ fn is_in_order<R: Wait>(rt: &R, looker: &Looker<'_, R>, world: &Mutex<World>) ->
     looker.untruths.count() == 0 && world.lock(rt).is_safe()
 }
 
-// Explains what was untrue and broken in a run.
+// Explains what couldn't be read, and what was untrue and broken in a run.
 fn explain<R: Wait, E: Write>(
     rt: &R,
     looker: &Looker<'_, R>,
     world: &Mutex<World>,
     errors: &mut E,
 ) -> io::Result<()> {
+    explain_unread(errors, looker.unread)?;
     explain_untrue(errors, &looker.untruths.firsts)?;
     explain_broken(errors, &world.lock(rt))
 }
 
-// An empty book within a plan's limits.
-fn empty_book(alloc: Global, plan: &Plan) -> Result<Book, DriveError>
+/// An empty book within a plan's limits.
+pub(crate) fn empty_book(alloc: Global, plan: &Plan) -> Result<Book, DriveError>
     ensures { IfOk result (λ book. book ≡ record { limits = limits_of plan.now; entries = [] }) }
 {
     match Book::new(alloc, plan.journal_limit, plan.plates) {
@@ -122,7 +140,9 @@ fn tell_run<R: AllocGlobal + Wait, W: Write, E: Write>(
     writer: &mut W,
     errors: &mut E,
 ) -> Result<u8, DriveError>
-    ensures told { OnOk result ((text : List ℕ) × Appends (W.contents writer.old) (W.contents writer.new) text) }
+    ensures told { OnOk result ((text : List ℕ) × TellsEnd end book.now.entries text
+        × Appends (W.contents writer.old) (W.contents writer.new) text) }
+    ensures status { IfOk result (EndStatus end) }
     ensures memory { IfOk result (λ status. status < 3 → end ≢ DriveEnd.Memory) }
 {
     let alloc = rt.alloc();
@@ -154,7 +174,7 @@ pub(crate) fn drive_entries<R: AllocGlobal + Wait, I: TellsFault, W: Write, E: W
 ) -> Result<u8, DriveError>
     ensures { IfOk result (λ status. status < 3
         → DrivesEntries inputs.plan inputs.script (lines_left I.remaining lines.old) (W.contents writer.old)
-        (W.contents writer.new)) }
+        (W.contents writer.new) status) }
 {
     let Inputs {
         plan,

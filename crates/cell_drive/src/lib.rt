@@ -10,6 +10,7 @@ mod own;
 mod refusals;
 mod report;
 mod texts;
+mod unread;
 mod untruth;
 mod wish;
 

@@ -1,8 +1,10 @@
 //! What looks on at a run by entries: it measures, and looks whether the world contradicts what is booked.
 use crate::measures::Measures;
 use crate::refusals::Refusals;
+use crate::unread::{UnreadLine, unread_entry};
 use crate::untruth::{Untruth, Untruths, contradiction};
 use cell_method::Onlooker;
+use cell_rows::Four;
 use cell_sim::World;
 use cell_types::{Entry, PlateId, Station};
 use plate_book::Refusal;
@@ -18,6 +20,10 @@ pub(crate) struct Looker<'a, R: Wait> {
     pub(crate) refusals: Refusals,
     /// The entries that the world contradicts.
     pub(crate) untruths: Untruths,
+    /// The first line that couldn't be read.
+    pub(crate) unread: Option<UnreadLine>,
+    /// How many lines of the round were answered. At `u32::MAX` the count stays.
+    lines: u32,
     /// At which number each plate was laid in last, in the order of the book's numbers; 0 where none was.
     numbers: Vec<u32>,
     /// Memory was refused for a plate's number.
@@ -33,6 +39,8 @@ impl<'a, R: Wait> Looker<'a, R> {
             measures: Measures::new(alloc),
             refusals: Refusals::none(),
             untruths: Untruths::none(),
+            unread: None,
+            lines: 0,
             numbers: Vec::new(alloc),
             lacks_memory: false,
         }
@@ -92,9 +100,11 @@ impl<R: Wait> Onlooker for Looker<'_, R> {
     fn opened(&mut self, round: u32) {
         let world = self.world.lock(self.rt);
         self.measures.open(round, &world);
+        self.lines = 0;
     }
 
     fn booked(&mut self, entry: &Entry) {
+        self.lines = self.lines.saturating_add(1);
         match *entry {
             Entry::Admitted { plate } | Entry::Reinstated { plate } => self.note_plate(plate),
             _ => {}
@@ -115,7 +125,19 @@ impl<R: Wait> Onlooker for Looker<'_, R> {
     }
 
     fn refused(&mut self, why: Refusal) {
+        self.lines = self.lines.saturating_add(1);
         self.refusals.count(why);
+    }
+
+    fn unread(&mut self, four: Option<Four<'_>>) {
+        self.lines = self.lines.saturating_add(1);
+        if self.unread.is_none() {
+            self.unread = Some(UnreadLine {
+                round: self.measures.rounds(),
+                line: self.lines,
+                why: unread_entry(four),
+            });
+        }
     }
 
     fn acted(&mut self, _entry: &Entry) {}

@@ -1,10 +1,12 @@
 //! The program's own machine workers, measured as a method is.
-ghost use Rattle.std.specs.Prelude.{◌≡◌, ◌⊎◌, ℕ, List, IfOk, IfSome, Ok, OnOk, codes};
+ghost use Rattle.std.specs.Prelude.{◌≡◌, ◌⊎◌, ℕ, List, IfOk, IfSome, Ok, OnOk};
 ghost use Rattle.std.specs.Io.KnownBytes.{Appends};
-ghost use Rattle.cell_output.specs.Numbers.{number_line};
 ghost use Rattle.cell_runs.specs.Inputs.{input_status};
-ghost use Rattle.cell_drive.specs.Drives.{AreMeasures, TellsMeasures};
+ghost use Rattle.cell_runs.specs.Rounds.{IsRun};
+ghost use Rattle.cell_runs.specs.Runs.{limits_of};
+ghost use Rattle.cell_drive.specs.Drives.{AreMeasures, TellsCounts, TellsMeasures, run_counts};
 
+use crate::by_entries::empty_book;
 use crate::measures::Measures;
 use crate::report::{write_times, write_world};
 use crate::texts::write_told;
@@ -103,9 +105,11 @@ fn run_own<R: AllocGlobal + Wait>(
     gauges: &Gauges<'_, R>,
     plan: &Plan,
     script: Script,
-) -> Result<Outcome, AllocError> {
+) -> Result<Outcome, AllocError>
+    ensures { IfOk result (λ outcome. IsRun (limits_of plan.now) plan.now script outcome.book.entries outcome.end) }
+{
     let alloc = gauges.rt.alloc();
-    let Ok(book) = Book::new(alloc, plan.journal_limit, plan.plates) else {
+    let Ok(book) = empty_book(alloc, plan) else {
         return Err(AllocError);
     };
     let mut ports = gauges.ports();
@@ -121,11 +125,11 @@ fn run_own<R: AllocGlobal + Wait>(
     ))
 }
 
-// How many rounds a run took, as it is told.
-fn rounds_text(alloc: Global, rounds: u32) -> Result<Vec<u8>, AllocError>
-    ensures { IfOk result (λ text. text.items ≡ number_line (codes "rounds") rounds) }
+// How many rounds a run took and how many entries its journal has, as it is told.
+fn counts_text(alloc: Global, rounds: u32, entries: u32) -> Result<Vec<u8>, AllocError>
+    ensures { IfOk result (λ text. text.items ≡ run_counts rounds entries) }
 {
-    Ok(format!(in alloc; "rounds {rounds}\n")?.into_bytes())
+    Ok(format!(in alloc; "rounds {rounds}\nentries {entries}\n")?.into_bytes())
 }
 
 // What is told of a run.
@@ -134,20 +138,20 @@ fn told_of<R: AllocGlobal + Wait>(
     book: &Book,
     durations: &Durations,
 ) -> io::Result<Vec<u8>>
-    ensures { IfOk result (λ text. AreMeasures text.items) }
+    ensures { IfOk result (λ text. TellsCounts book.now.entries text.items) }
 {
     let alloc = gauges.rt.alloc();
     let mut measures = gauges.measures.lock(gauges.rt);
     let world = gauges.world.lock(gauges.rt);
     note_round(&mut measures, &world);
-    let mut told = rounds_text(alloc, measures.rounds())?;
-    let counts = counts_of(alloc, book, &world, &mut measures, durations)?;
-    told.extend_from_slice(counts.as_slice())?;
+    let mut told = counts_text(alloc, measures.rounds(), book.totals().entries)?;
+    let below = below_counts(alloc, book, &world, &mut measures, durations)?;
+    told.extend_from_slice(below.as_slice())?;
     Ok(told)
 }
 
-// What is told of a run below the rounds.
-fn counts_of(
+// What is told of a run below the counts of its rounds and entries.
+fn below_counts(
     alloc: Global,
     book: &Book,
     world: &World,
@@ -155,7 +159,6 @@ fn counts_of(
     durations: &Durations,
 ) -> io::Result<Vec<u8>> {
     let mut text = Vec::new(alloc);
-    writeln!(text, "entries {}", book.totals().entries)?;
     writeln!(text, "collisions {}", world.collisions())?;
     write_world(&mut text, world, measures)?;
     write_times(alloc, &mut text, book.journal(), durations)?;
@@ -164,7 +167,7 @@ fn counts_of(
 
 // Measures a run by these inputs; `None` where memory was refused.
 fn measured<R: AllocGlobal + Wait>(rt: &R, inputs: Inputs) -> Option<Vec<u8>>
-    ensures { IfSome result (λ text. AreMeasures text.items) }
+    ensures { IfSome result (λ text. AreMeasures inputs.plan inputs.script text.items) }
 {
     let Inputs {
         plan,

@@ -1,7 +1,7 @@
 //! A run by its texts.
 ghost use Rattle.std.specs.Prelude.{◌≡◌, ◌<◌, Ok, IfOk, OnOk};
 ghost use Rattle.std.specs.Io.KnownBytes.{Appends};
-ghost use Rattle.cell_drive.specs.Drives.{DrivesTexts, drive_line};
+ghost use Rattle.cell_drive.specs.Drives.{DrivesTexts, EndStatus, drive_line};
 
 use crate::by_commands::{drive_commands, raw_script};
 use crate::by_entries::drive_entries;
@@ -38,7 +38,8 @@ pub(crate) struct Told {
 
 /// The status of a run that ended so, and in which all was in order or not.
 pub(crate) fn status_of(end: DriveEnd, is_in_order: bool) -> u8
-    ensures { end ≡ DriveEnd.Memory → result ≡ 4 }
+    ensures ended { EndStatus end result }
+    ensures memory { end ≡ DriveEnd.Memory → result ≡ 4 }
 {
     match end {
         DriveEnd::Memory => status::OUT_OF_MEMORY,

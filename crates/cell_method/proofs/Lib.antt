@@ -3,3 +3,5 @@ pub mod Holding
 pub mod LineFacts
 pub mod Marks
 pub mod Runs
+pub mod Turns
+pub mod Ending

@@ -1,6 +1,6 @@
 -- How events follow each other
-use Rattle.std.proofs.Common.{◌≡◌, ◌∙◌, ◌+◌, ℕ, List, [], ◌∷◌, ◌++◌, length, Option, Some, None, Bool, true, false, ap}
-use Rattle.std.proofs.Common.{sym, refl, subst, append_assoc, append-nil, if◌then◌else◌, ◌⊎◌, inl, inr, arith}
+use Rattle.std.proofs.Common.{◌≡◌, ◌≢◌, ◌<◌, ◌∙◌, ◌+◌, ◌&&◌, ℕ, List, [], ◌∷◌, ◌++◌, length, Option, Some, None}
+use Rattle.std.proofs.Common.{Bool, true, false, inl, inr, ap, sym, refl, subst, append_assoc, append-nil}
 use Rattle.std.specs.Io.KnownBytes.{Appends}
 use Rattle.std.proofs.KnownBytes.{Appends-nil, Appends-trans}
 use Rattle.cell_types.specs.Entries.{actor_of, command_of}
@@ -14,27 +14,32 @@ use Rattle.cell_rules.specs.declared.limits.BookLimits.{BookLimits}
 use Rattle.cell_rules.specs.declared.refusal.Refusal.{Refusal}
 use Rattle.cell_rules.specs.Legal.{first_of}
 use Rattle.cell_turns.specs.declared.six.Six.{Six}
-use Rattle.cell_ports.specs.Logs.{Log, after_read, after_sending}
+use Rattle.cell_ports.specs.Logs.{ActLog, Log, after_read, after_sending}
+use Rattle.cell_ports.specs.declared.plan.Plan.{Plan}
 use Rattle.cell_turns.specs.Six.{at, map_six, put}
 use Rattle.operator_desk.specs.declared.action.Action.{Action}
 use Rattle.operator_desk.specs.declared.line.Line.{Line}
-use Rattle.operator_desk.specs.Next.{entry_of, left_after, next_of}
-use Rattle.cell_ports.specs.declared.plan.Plan.{Plan}
-use Rattle.cell_method.specs.Asked.{ask_of}
-use Rattle.cell_method.specs.Ends.{end_by, is_finished, is_full}
+use Rattle.operator_desk.specs.Next.{next_of}
+use Rattle.cell_method.specs.Asked.{ask_of, to_book}
 use Rattle.cell_method.specs.Lines.{Row, TakesLine}
+use Rattle.cell_method.specs.Order.{Acting, Answered, ClosesAt, Comes, Event, InOrder, Opened, Operated, Point, Shown}
+use Rattle.cell_method.specs.Order.{IsDry, Showing, Talking, after_line, between}
 use Rattle.cell_method.specs.Replies.{booked_as, line_of}
-use Rattle.cell_method.specs.Rounds.{AnswersBy, Broke, Driven, EndedBy, EndsAs, Event, Answered, Fits, FitsDesk, Goes}
-use Rattle.cell_method.specs.Rounds.{Leads, Opened, Operated, Operates, Reads, Shown, Stand, after_action, after_ask}
-use Rattle.cell_method.specs.Rounds.{after_entry, after_event, after_events, after_judging, after_operator, entry_line}
-use Rattle.cell_method.specs.Rounds.{history, row_of, rows_of, saying, start}
+use Rattle.cell_method.specs.Rounds.{AnswersBy, Broke, BrokeBy, Driven, EndsAs, Fits, FitsDesk}
+use Rattle.cell_method.specs.Rounds.{Goes, HandsFit, Leads, OperatorBroke, Operates, Reads, SameDesk}
+use Rattle.cell_method.specs.Rounds.{Stand, after_action, after_ask, after_deed, after_entry, after_event}
+use Rattle.cell_method.specs.Rounds.{after_events, after_judging, after_operator, can_fail, history, row_of}
+use Rattle.cell_method.specs.Rounds.{rows_of, saying, start}
 use Rattle.cell_method.specs.Shown.{reading_line, round_line}
 use Rattle.cell_method.specs.declared.ask.Ask.{Ask}
 use Rattle.cell_method.specs.declared.ask.Ask.TheVariants as ask
+use Rattle.cell_method.specs.declared.booking.Close.{Close}
+use Rattle.cell_method.specs.declared.booking.Close.TheVariants as close
+use Rattle.cell_method.specs.declared.error.DriveError.{DriveError}
+use Rattle.cell_method.specs.declared.error.DriveError.TheVariants as error
 use Rattle.cell_method.specs.declared.reply.Reply.{Reply}
 use Rattle.cell_method.specs.declared.reply.Reply.TheVariants as reply
 use Rattle.cell_method.specs.declared.rounds.DriveEnd.{DriveEnd}
-use Rattle.cell_method.specs.declared.rounds.DriveEnd.TheVariants as ends
 
 -- what holds of each machine's two things holds with others at m
 pub both_put : {A B : Type 0} (Q : A → B → Type 0) (m : Machine) (a : Six A) (b : Six B) (x : A) (y : B)
@@ -95,67 +100,123 @@ reads-end : (a b : Option (List (Option Row))) (row : Option Row) → TakesLine 
     → (c : Option (List (Option Row))) × Reads a [] c
 reads-end a b row h = (a, reads-nil a)
 
-pub leads-none : (l : BookLimits) (s : Stand) (all : Option (List (Option Row))) → Leads l s s all all
-unfolding after_events rows_of
-leads-none l s all = record { events = []; leads = refl; read = reads-nil all }
+order-none : (at : Point) → InOrder at [] at
+unfolding InOrder
+order-none at = refl
 
-pub leads-more : (l : BookLimits) (s t u : Stand) (a b c : Option (List (Option Row))) → Leads l s t a b
-    → Leads l t u b c → Leads l s u a c
-leads-more l s t u a b c x y = record {
+order-more : (from mid to : Point) (xs ys : List Event) → InOrder from xs mid → InOrder mid ys to
+    → InOrder from (xs ++ ys) to
+unfolding InOrder
+order-more from mid to [] ys first next = subst (λ p. InOrder p ys to) first next
+order-more from mid to (x ∷ xs) ys (at, comes, rest) next = (at, comes, order-more at mid to xs ys rest next)
+
+order-one : (from to : Point) (x : Event) → Comes from x to → InOrder from (x ∷ []) to
+unfolding InOrder
+order-one from to x comes = (to, comes, refl)
+
+pub leads-none : (l : BookLimits) (s : Stand) (at : Point) (all : Option (List (Option Row)))
+    → Leads l s s at at all all
+unfolding after_events rows_of
+leads-none l s at all = record { events = []; order = order-none at; leads = refl; read = reads-nil all }
+
+pub leads-more : (l : BookLimits) (s t u : Stand) (from mid to : Point) (a b c : Option (List (Option Row)))
+    → Leads l s t from mid a b → Leads l t u mid to b c → Leads l s u from to a c
+leads-more l s t u from mid to a b c x y = record {
   events = x.events ++ y.events;
+  order = order-more from mid to x.events y.events x.order y.order;
   leads = y.leads ∙ ap (λ z. after_events l z y.events) x.leads ∙ sym (events-more l s x.events y.events);
   read = subst (λ rows. Reads a rows c) (sym (rows-more x.events y.events))
       (reads-more a b c (rows_of x.events) (rows_of y.events) x.read y.read);
 }
 
 -- one event that reads no line
-pub leads-one : (l : BookLimits) (s : Stand) (x : Event) (all : Option (List (Option Row))) → row_of x ≡ []
-    → Leads l s (after_event l s x) all all
+pub leads-one : (l : BookLimits) (s : Stand) (x : Event) (from to : Point) (all : Option (List (Option Row)))
+    → row_of x ≡ [] → Comes from x to → Leads l s (after_event l s x) from to all all
 unfolding after_events rows_of
-leads-one l s x all none = record {
+leads-one l s x from to all none comes = record {
   events = x ∷ [];
+  order = order-one from to x comes;
   leads = refl;
-  read =
-      subst (λ rows. Reads all rows all) (sym (append-nil (row_of x) ∙ none)) (reads-nil all);
+  read = subst (λ rows. Reads all rows all) (sym (append-nil (row_of x) ∙ none)) (reads-nil all);
 }
 
 -- one line of the method
-pub leads-line : (l : BookLimits) (s : Stand) (row : Option Row) (failed : Bool) (a b : Option (List (Option Row)))
-    → TakesLine a b row true → Leads l s (after_ask l (ask_of row) failed s) a b
+pub leads-line : (l : BookLimits) (s : Stand) (row : Option Row) (failed : Bool) (n : ℕ)
+    (a b : Option (List (Option Row)))
+    → TakesLine a b row true → n < 10000
+    → Leads l s (after_ask l (ask_of row) failed s) (Talking n) (after_line (ask_of row) n) a b
 unfolding after_events rows_of
-leads-line l s row failed a b takes = record {
+leads-line l s row failed n a b takes few = record {
   events = Answered row failed ∷ [];
+  order = order-one (Talking n) (after_line (ask_of row) n) (Answered row failed) (few, refl);
   leads = refl;
-  read =
-      reads-one a b row takes;
+  read = reads-one a b row takes;
 }
+
+-- no line is left
+pub dry-end : (a b c : Option (List (Option Row))) (rows : List (Option Row)) (row : Option Row) → Reads a rows b
+    → TakesLine b c row false → IsDry a c
+dry-end None b c rows row read takes = tt
+dry-end (Some a) None c rows row read takes = absurd read
+dry-end (Some a) (Some b) None rows row read takes = absurd takes
+dry-end (Some a) (Some b) (Some c) rows row read takes = takes.1
+
+-- after a line that asks for an entry, or for nothing, the method goes on
+talks-on : (o : Option Entry) (n : ℕ) → after_line (to_book o) n ≡ Talking (n + 1)
+talks-on None n = refl
+talks-on (Some e) n = refl
 
 -- ---- what an event leaves as it was
 
+same-desk : (s : Stand) → SameDesk s s
+same-desk s = record { lines = refl; lost = refl; hands = refl; rounds = refl }
+
 judging-desk : (why : Option Refusal) (m : Machine) (e : Entry) (failed : Bool) (s : Stand)
-    → FitsDesk s.lines s.lost s.rounds (after_judging why m e failed s)
-judging-desk None m e failed s = record { lines = refl; lost = refl; rounds = refl }
-judging-desk (Some why) m e failed s = record { lines = refl; lost = refl; rounds = refl }
+    → SameDesk s (after_judging why m e failed s)
+judging-desk None m e failed s = record { lines = refl; lost = refl; hands = refl; rounds = refl }
+judging-desk (Some why) m e failed s = record { lines = refl; lost = refl; hands = refl; rounds = refl }
 
 entry-desk : (l : BookLimits) (a : Actor) (e : Entry) (failed : Bool) (s : Stand)
-    → FitsDesk s.lines s.lost s.rounds (after_entry l a e failed s)
+    → SameDesk s (after_entry l a e failed s)
 entry-desk l (actor.Machine m) e failed s = judging-desk (first_of l s.journal e) m e failed s
-entry-desk l actor.Operator e failed s = record { lines = refl; lost = refl; rounds = refl }
+entry-desk l actor.Operator e failed s = record { lines = refl; lost = refl; hands = refl; rounds = refl }
 
-pub ask-desk : (l : BookLimits) (a : Ask) (failed : Bool) (s : Stand)
-    → FitsDesk s.lines s.lost s.rounds (after_ask l a failed s)
+ask-desk : (l : BookLimits) (a : Ask) (failed : Bool) (s : Stand) → SameDesk s (after_ask l a failed s)
 ask-desk l (ask.Book e) failed s = entry-desk l (actor_of e) e failed s
-ask-desk l ask.Done failed s = record { lines = refl; lost = refl; rounds = refl }
-ask-desk l ask.Quit failed s = record { lines = refl; lost = refl; rounds = refl }
-ask-desk l ask.Nothing failed s = record { lines = refl; lost = refl; rounds = refl }
+ask-desk l ask.Done failed s = same-desk s
+ask-desk l ask.Quit failed s = same-desk s
+ask-desk l ask.Nothing failed s = record { lines = refl; lost = refl; hands = refl; rounds = refl }
+
+desk-then : (s t u : Stand) → SameDesk s t → SameDesk t u → SameDesk s u
+desk-then s t u x y = record {
+  lines = y.lines ∙ x.lines;
+  lost = y.lost ∙ x.lost;
+  hands = y.hands ∙ x.hands;
+  rounds = y.rounds ∙ x.rounds;
+}
+
+-- where the operator did nothing his desk fits as before
+desk-fits : {O : Type 0} (tells : O → Bool) (acts : O → ActLog) (script : List Line) (lost : Bool) (hands : O) (n k : ℕ)
+    (s t : Stand)
+    → FitsDesk tells acts script lost hands n s → SameDesk s t → k ≡ n → FitsDesk tells acts script lost hands k t
+desk-fits tells acts script lost hands n k s t d same next = record {
+  lines = d.lines ∙ sym same.lines;
+  lost = d.lost ∙ sym same.lost;
+  hands = λ told. d.hands told ∙ sym same.hands;
+  rounds = next ∙ d.rounds ∙ sym same.rounds;
+}
+
+deed-rest : (a : Action) (failed : Bool) (s : Stand) → ((after_deed a failed s).logs ≡ s.logs)
+    × ((after_deed a failed s).rounds ≡ s.rounds)
+deed-rest a true s = (refl, refl)
+deed-rest a false s = (refl, refl)
 
 action-rest : (a : Option Action) (failed : Bool) (s : Stand) → ((after_action a failed s).logs ≡ s.logs)
     × ((after_action a failed s).rounds ≡ s.rounds)
 action-rest None failed s = (refl, refl)
-action-rest (Some a) true s = (refl, refl)
-action-rest (Some a) false s = (refl, refl)
+action-rest (Some a) failed s = deed-rest a (can_fail a && failed) s
 
-pub operator-rest : (l : BookLimits) (lost failed : Bool) (s : Stand) → ((after_operator l lost failed s).logs ≡ s.logs)
+operator-rest : (l : BookLimits) (lost failed : Bool) (s : Stand) → ((after_operator l lost failed s).logs ≡ s.logs)
     × ((after_operator l lost failed s).rounds ≡ s.rounds)
 operator-rest l true failed s = (refl, refl)
 operator-rest l false failed s = action-rest (next_of s.lines (history l s.journal)) failed s
@@ -221,265 +282,295 @@ operators-entry l e failed s is = ap (λ a. after_entry l a e failed s) (sym is)
 
 -- ---- from stand to stand
 
-pub goes-start : {P : Type 0} (tells : P → Bool) (log : P → Log) (l : BookLimits) (s : Stand)
-    (all : Option (List (Option Row))) (J : List Entry) (ports : Six P) (w : Option (List ℕ))
-    → Fits tells log J ports s → Goes tells log l s all all J ports s.lines s.lost s.rounds w w
-goes-start tells log l s all J ports w fits = record {
+pub goes-start : {P : Type 0} (tells : P → Bool) (log : P → Log) (l : BookLimits) (s : Stand) (at : Point)
+    (all : Option (List (Option Row))) (J : List Entry) (ports : Six P) (D : Stand → Type 0) (w : Option (List ℕ))
+    → Fits tells log J ports s → D s → Goes tells log l s at at all all J ports D w w
+goes-start tells log l s at all J ports D w fits d = record {
   after = s;
-  leads = leads-none l s all;
+  leads = leads-none l s at all;
   fits = fits;
-  desk = record { lines = refl; lost = refl; rounds = refl };
+  desk = d;
   text = λ first h. h;
 }
 
-desk-more : (script : List Line) (is_lost : Bool) (opened : ℕ) (s t : Stand) → FitsDesk script is_lost opened s
-    → FitsDesk s.lines s.lost s.rounds t → FitsDesk script is_lost opened t
-desk-more script is_lost opened s t x y = record {
-  lines = x.lines ∙ y.lines;
-  lost = x.lost ∙ y.lost;
-  rounds = x.rounds
-      ∙ y.rounds;
-}
+-- nothing happened yet
+pub goes-nothing : {P : Type 0} (tells : P → Bool) (log : P → Log) (l : BookLimits) (s : Stand) (at : Point)
+    (all : Option (List (Option Row))) (J : List Entry) (ports : Six P) (w : Option (List ℕ))
+    → Fits tells log J ports s → Goes tells log l s at at all all J ports (SameDesk s) w w
+goes-nothing tells log l s at all J ports w fits =
+    goes-start tells log l s at all J ports (SameDesk s) w fits (same-desk s)
 
-pub goes-then : {P : Type 0} (tells : P → Bool) (log : P → Log) (l : BookLimits) (s : Stand)
-    (a b c : Option (List (Option Row))) (J K : List Entry) (ports ports' : Six P) (script script' : List Line)
-    (lost lost' : Bool) (n n' : ℕ) (w x y : Option (List ℕ))
-    → (first : Goes tells log l s a b J ports script lost n w x)
-    → Goes tells log l first.after b c K ports' script' lost' n' x y
-    → Goes tells log l s a c K ports' script' lost' n' w y
-goes-then tells log l s a b c J K ports ports' script script' lost lost' n n' w x y first next = record {
+pub goes-then : {P : Type 0} (tells : P → Bool) (log : P → Log) (l : BookLimits) (s : Stand) (from mid to : Point)
+    (a b c : Option (List (Option Row))) (J K : List Entry) (ports ports' : Six P) (D E : Stand → Type 0)
+    (w x y : Option (List ℕ))
+    → (first : Goes tells log l s from mid a b J ports D w x) → Goes tells log l first.after mid to b c K ports' E x y
+    → Goes tells log l s from to a c K ports' E w y
+goes-then tells log l s from mid to a b c J K ports ports' D E w x y first next = record {
   after = next.after;
-  leads = leads-more l s first.after next.after a b c first.leads next.leads;
+  leads = leads-more l s first.after next.after from mid to a b c first.leads next.leads;
   fits = next.fits;
   desk = next.desk;
   text = λ z h. next.text z (first.text z h);
 }
 
+-- a line that asks for an entry, or for nothing
+line-leads : (l : BookLimits) (t : Stand) (row : Option Row) (o : Option Entry) (failed : Bool) (n : ℕ)
+    (b c : Option (List (Option Row)))
+    → TakesLine b c row true → n < 10000 → to_book o ≡ ask_of row
+    → Leads l t (after_ask l (to_book o) failed t) (Talking n) (Talking (n + 1)) b c
+line-leads l t row o failed n b c takes few is =
+    subst (λ p. Leads l t (after_ask l (to_book o) failed t) (Talking n) p b c) (talks-on o n)
+    (subst (λ q. Leads l t (after_ask l q failed t) (Talking n) (after_line q n) b c) (sym is)
+    (leads-line l t row failed n b c takes few))
+
 -- that a line was read, done and answered is one event
-pub goes-line : {P : Type 0} (tells : P → Bool) (log : P → Log) (l : BookLimits) (s : Stand)
-    (a b c : Option (List (Option Row))) (J K : List Entry) (ports ports' : Six P) (script : List Line) (lost : Bool)
-    (n : ℕ) (w x y : Option (List ℕ)) (row : Option Row) (asks : Ask) (failed : Bool) (r : Reply)
-    → Goes tells log l s a b J ports script lost n w x → TakesLine b c row true → asks ≡ ask_of row
-    → AnswersBy tells log (after_ask l asks failed) J ports K ports' r → Appends x y (line_of r)
-    → Goes tells log l s a c K ports' script lost n w y
-goes-line tells log l s a b c J K ports ports' script lost n w x y row asks failed r goes takes is answers told =
+pub goes-line : {P : Type 0} (tells : P → Bool) (log : P → Log) (l : BookLimits) (s : Stand) (from : Point) (n : ℕ)
+    (a b c : Option (List (Option Row))) (J K : List Entry) (ports ports' : Six P) (w x y : Option (List ℕ))
+    (row : Option Row) (o : Option Entry) (failed : Bool) (r : Reply)
+    → Goes tells log l s from (Talking n) a b J ports (SameDesk s) w x → TakesLine b c row true → n < 10000
+    → to_book o ≡ ask_of row
+    → AnswersBy tells log (after_ask l (to_book o) failed) J ports K ports' r → Appends x y (line_of r)
+    → Goes tells log l s from (Talking (n + 1)) a c K ports' (SameDesk s) w y
+goes-line tells log l s from n a b c J K ports ports' w x y row o failed r goes takes few is answers told =
     let t = goes.after in
     let did = answers t goes.fits in
     record {
-      after = after_ask l asks failed t;
-      leads = leads-more l s t (after_ask l asks failed t) a b c goes.leads
-          (subst (λ q. Leads l t (after_ask l q failed t) b c) (sym is) (leads-line l t row failed b c takes));
+      after = after_ask l (to_book o) failed t;
+      leads = leads-more l s t (after_ask l (to_book o) failed t) from (Talking n) (Talking (n + 1)) a b c goes.leads
+          (line-leads l t row o failed n b c takes few is);
       fits = did.0;
-      desk = desk-more script lost n t (after_ask l asks failed t) goes.desk (ask-desk l asks failed t);
+      desk = desk-then s t (after_ask l (to_book o) failed t) goes.desk (ask-desk l (to_book o) failed t);
       text = λ z h. subst (Appends z y) (sym did.1) (Appends-trans z x y t.text (line_of r) (goes.text z h) told);
     }
 
 -- a line that closes the round
-pub goes-close : {P : Type 0} (tells : P → Bool) (log : P → Log) (l : BookLimits) (s : Stand)
-    (a b c : Option (List (Option Row))) (J : List Entry) (ports : Six P) (script : List Line) (lost : Bool) (n : ℕ)
-    (w x : Option (List ℕ)) (row : Option Row) (asks : Ask)
-    → Goes tells log l s a b J ports script lost n w x → TakesLine b c row true → asks ≡ ask_of row
+pub goes-close : {P : Type 0} (tells : P → Bool) (log : P → Log) (l : BookLimits) (s : Stand) (from : Point) (n : ℕ)
+    (a b c : Option (List (Option Row))) (J : List Entry) (ports : Six P) (D : Stand → Type 0) (w x : Option (List ℕ))
+    (row : Option Row) (asks : Ask)
+    → Goes tells log l s from (Talking n) a b J ports D w x → TakesLine b c row true → n < 10000 → asks ≡ ask_of row
     → ((t : Stand) → after_ask l asks false t ≡ t)
-    → Goes tells log l s a c J ports script lost n w x
-goes-close tells log l s a b c J ports script lost n w x row asks goes takes is same =
+    → Goes tells log l s from (after_line asks n) a c J ports D w x
+goes-close tells log l s from n a b c J ports D w x row asks goes takes few is same =
     let t = goes.after in
     record {
       after = t;
-      leads = leads-more l s t t a b c goes.leads
-          (subst (λ u. Leads l t u b c) (ap (λ q. after_ask l q false t) (sym is) ∙ same t)
-          (leads-line l t row false b c takes));
+      leads = leads-more l s t t from (Talking n) (after_line asks n) a b c goes.leads
+          (subst (λ u. Leads l t u (Talking n) (after_line asks n) b c) (same t)
+          (subst (λ q. Leads l t (after_ask l q false t) (Talking n) (after_line q n) b c) (sym is)
+          (leads-line l t row false n b c takes few)));
       fits = goes.fits;
       desk = goes.desk;
       text = goes.text;
     }
 
 -- that the lines are over is no event
-leads-end : (l : BookLimits) (s : Stand) (a b : Option (List (Option Row))) (row : Option Row) → TakesLine a b row false
-    → Leads l s s a b
+leads-end : (l : BookLimits) (s : Stand) (at : Point) (a b : Option (List (Option Row))) (row : Option Row)
+    → TakesLine a b row false
+    → Leads l s s at at a b
 unfolding after_events rows_of
-leads-end l s None b row h = record { events = []; leads = refl; read = tt }
-leads-end l s (Some a) None row h = absurd h
-leads-end l s (Some a) (Some b) row h = record { events = []; leads = refl; read = h.0 ∙ sym h.1 }
+leads-end l s at None b row h = record { events = []; order = order-none at; leads = refl; read = tt }
+leads-end l s at (Some a) None row h = absurd h
+leads-end l s at (Some a) (Some b) row h = record {
+  events = [];
+  order = order-none at;
+  leads = refl;
+  read = h.0 ∙ sym h.1;
+}
 
-pub goes-end : {P : Type 0} (tells : P → Bool) (log : P → Log) (l : BookLimits) (s : Stand)
-    (a b c : Option (List (Option Row))) (J : List Entry) (ports : Six P) (script : List Line) (lost : Bool) (n : ℕ)
-    (w x : Option (List ℕ)) (row : Option Row)
-    → Goes tells log l s a b J ports script lost n w x → TakesLine b c row false
-    → Goes tells log l s a c J ports script lost n w x
-goes-end tells log l s a b c J ports script lost n w x row goes takes = record {
+pub goes-end : {P : Type 0} (tells : P → Bool) (log : P → Log) (l : BookLimits) (s : Stand) (from to : Point)
+    (a b c : Option (List (Option Row))) (J : List Entry) (ports : Six P) (D : Stand → Type 0) (w x : Option (List ℕ))
+    (row : Option Row)
+    → Goes tells log l s from to a b J ports D w x → TakesLine b c row false
+    → Goes tells log l s from to a c J ports D w x
+goes-end tells log l s from to a b c J ports D w x row goes takes = record {
   after = goes.after;
-  leads = leads-more l s goes.after goes.after a b c goes.leads (leads-end l goes.after b c row takes);
+  leads = leads-more l s goes.after goes.after from to to a b c goes.leads (leads-end l goes.after to b c row takes);
   fits = goes.fits;
   desk = goes.desk;
   text = goes.text;
 }
 
-pub goes-shown : {P : Type 0} (tells : P → Bool) (log : P → Log) (l : BookLimits) (s : Stand)
-    (a b : Option (List (Option Row))) (J : List Entry) (ports : Six P) (script : List Line) (lost : Bool) (n : ℕ)
-    (w x y : Option (List ℕ)) (m : Machine) (r : Option Reading) (port port' : P)
-    → Goes tells log l s a b J ports script lost n w x → port ≡ at ports m → (tells port' ≡ true → tells port ≡ true)
-    → (tells port' ≡ true → log port' ≡ after_read (log port) r) → Appends x y (reading_line m r)
-    → Goes tells log l s a b J (put ports m port') script lost n w y
-goes-shown tells log l s a b J ports script lost n w x y m r port port' goes picked still told written =
-    let t = goes.after in
+-- it is the machine's turn to be shown
+shown-comes : (m : Machine) (ms rest : List Machine) (r : Option Reading) → ms ≡ m ∷ rest
+    → Comes (Showing ms) (Shown m r) (Showing rest)
+shown-comes m ms rest r turn = subst (λ xs. Comes (Showing xs) (Shown m r) (Showing rest)) (sym turn) (refl, refl)
+
+-- a machine was read: its port has one more reading, as the stand has
+read-fits : {P : Type 0} (tells : P → Bool) (log : P → Log) (l : BookLimits) (J : List Entry) (ports : Six P)
+    (t : Stand)
+    (m : Machine) (r : Option Reading) (port port' : P)
+    → Fits tells log J ports t → port ≡ at ports m → (tells port' ≡ true → tells port ≡ true)
+    → (tells port' ≡ true → log port' ≡ after_read (log port) r)
+    → Fits tells log J (put ports m port') (after_event l t (Shown m r))
+read-fits tells log l J ports t m r port port' fits picked still told =
     let read = after_read (at t.logs m) r in
     let mine : tells port' ≡ true → log port' ≡ read = λ h. told h ∙ ap (λ p. after_read (log p) r) picked
-    ∙ ap (λ g. after_read g r) (goes.fits.logs m (subst (λ p. tells p ≡ true) picked (still h))) in
+    ∙ ap (λ g. after_read g r) (fits.logs m (subst (λ p. tells p ≡ true) picked (still h))) in
+    record {
+      journal = fits.journal;
+      logs = both_put (λ p g. tells p ≡ true → log p ≡ g) m ports t.logs port' read fits.logs mine;
+    }
+
+pub goes-shown : {P : Type 0} (tells : P → Bool) (log : P → Log) (l : BookLimits) (s : Stand) (from : Point)
+    (ms rest : List Machine)
+    (a b : Option (List (Option Row))) (J : List Entry) (ports : Six P) (w x y : Option (List ℕ)) (m : Machine)
+    (r : Option Reading) (port port' : P)
+    → ms ≡ m ∷ rest → Goes tells log l s from (Showing ms) a b J ports (SameDesk s) w x → port ≡ at ports m
+    → (tells port' ≡ true → tells port ≡ true)
+    → (tells port' ≡ true → log port' ≡ after_read (log port) r) → Appends x y (reading_line m r)
+    → Goes tells log l s from (Showing rest) a b J (put ports m port') (SameDesk s) w y
+goes-shown tells log l s from ms rest a b J ports w x y m r port port' turn goes picked still told written =
+    let t = goes.after in
     record {
       after = after_event l t (Shown m r);
-      leads = leads-more l s t (after_event l t (Shown m r)) a b b goes.leads (leads-one l t (Shown m r) b refl);
-      fits = record {
-        journal = goes.fits.journal;
-        logs = both_put (λ p g. tells p ≡ true
-            → log p ≡ g) m ports t.logs port' read goes.fits.logs mine;
+      leads = leads-more l s t (after_event l t (Shown m r)) from (Showing ms) (Showing rest) a b b goes.leads
+          (leads-one l t (Shown m r) (Showing ms) (Showing rest) b refl (shown-comes m ms rest r turn));
+      fits = read-fits tells log l J ports t m r port port' goes.fits picked still told;
+      desk = record {
+        lines = goes.desk.lines;
+        lost = goes.desk.lost;
+        hands = goes.desk.hands;
+        rounds = goes.desk.rounds;
       };
-      desk = record { lines = goes.desk.lines; lost = goes.desk.lost; rounds = goes.desk.rounds };
       text = λ z h. Appends-trans z x y t.text (reading_line m r) (goes.text z h) written;
     }
 
 -- the line names the round by its number, which counts this one
-pub goes-opened : {P : Type 0} (tells : P → Bool) (log : P → Log) (l : BookLimits) (s : Stand)
-    (a b : Option (List (Option Row))) (J : List Entry) (ports : Six P) (script : List Line) (lost : Bool) (n k : ℕ)
-    (w x y : Option (List ℕ))
-    → Goes tells log l s a b J ports script lost n w x → n + 1 ≡ k → Appends x y (round_line k)
-    → Goes tells log l s a b J ports script lost k w y
-goes-opened tells log l s a b J ports script lost n k w x y goes next written =
+pub goes-opened : {P O : Type 0} (tells : P → Bool) (log : P → Log) (telling : O → Bool) (acts : O → ActLog)
+    (l : BookLimits) (s : Stand) (from : Point) (a b : Option (List (Option Row))) (J : List Entry) (ports : Six P)
+    (script : List Line) (lost : Bool) (hands : O) (n k : ℕ) (w x y : Option (List ℕ))
+    → FitsDesk telling acts script lost hands n s → n + 1 ≡ k
+    → Goes tells log l s from (Showing []) a b J ports (SameDesk s) w x
+    → Appends x y (round_line k)
+    → Goes tells log l s from (Talking 0) a b J ports (FitsDesk telling acts script lost hands k) w y
+goes-opened tells log telling acts l s from a b J ports script lost hands n k w x y desk next goes written =
     let t = goes.after in
-    let number : k ≡ t.rounds + 1 = sym next ∙ ap (λ i. i + 1) goes.desk.rounds in
+    let d = desk-fits telling acts script lost hands n n s t desk goes.desk refl in
+    let number : k ≡ t.rounds + 1 = sym next ∙ ap (λ i. i + 1) d.rounds in
     record {
       after = after_event l t Opened;
-      leads = leads-more l s t (after_event l t Opened) a b b goes.leads (leads-one l t Opened b refl);
+      leads = leads-more l s t (after_event l t Opened) from (Showing []) (Talking 0) a b b goes.leads
+          (leads-one l t Opened (Showing []) (Talking 0) b refl refl);
       fits = record { journal = goes.fits.journal; logs = goes.fits.logs };
-      desk = record { lines = goes.desk.lines; lost = goes.desk.lost; rounds = number };
+      desk = record { lines = d.lines; lost = d.lost; hands = d.hands; rounds = number };
       text = λ z h. Appends-trans z x y t.text (round_line (t.rounds + 1)) (goes.text z h)
           (subst (λ i. Appends x y (round_line i)) number written);
     }
 
 -- the operator's turn may change the journal and his desk, but asks no machine
-pub goes-operated : {P : Type 0} (tells : P → Bool) (log : P → Log) (l l' : BookLimits) (s : Stand)
-    (a b : Option (List (Option Row))) (J K : List Entry) (ports : Six P) (script script' : List Line)
-    (lost lost' : Bool) (n : ℕ) (w x y : Option (List ℕ)) (failed : Bool)
-    → l' ≡ l → Goes tells log l s a b J ports script lost n w x
-    → ((t : Stand) → t.journal ≡ J → t.lines ≡ script → t.lost ≡ lost → Operates l' failed t K script' lost' x y)
-    → Goes tells log l s a b K ports script' lost' n w y
-goes-operated tells log l l' s a b J K ports script script' lost lost' n w x y failed same goes operates =
+pub goes-operated : {P O : Type 0} (tells : P → Bool) (log : P → Log) (telling : O → Bool) (acts : O → ActLog)
+    (l l' : BookLimits) (s : Stand) (from : Point) (a b : Option (List (Option Row))) (J K : List Entry) (ports : Six P)
+    (script script' : List Line) (lost lost' : Bool) (hands hands' : O) (n : ℕ) (w x y : Option (List ℕ))
+    (failed : Bool)
+    → l' ≡ l → Goes tells log l s from Acting a b J ports (FitsDesk telling acts script lost hands n) w x
+    → ((t : Stand) (k : ℕ) → t.journal ≡ J → FitsDesk telling acts script lost hands k t
+    → Operates telling acts l' failed t K script' lost' hands' x y)
+    → Goes tells log l s from between a b K ports (FitsDesk telling acts script' lost' hands' n) w y
+goes-operated tells log telling acts l l' s from a b J K ports script script' lost lost' hands hands' n w x y failed
+    same goes
+    operates =
     let t = goes.after in
-    let did = subst (λ m. Operates m failed t K script' lost' x y) same
-    (operates t (sym goes.fits.journal) (sym goes.desk.lines) (sym goes.desk.lost)) in
+    let did = subst (λ m. Operates telling acts m failed t K script' lost' hands' x y) same
+    (operates t n (sym goes.fits.journal) goes.desk) in
     let rest = operator-rest l t.lost failed t in
     record {
       after = after_event l t (Operated failed);
-      leads = leads-more l s t (after_event l t (Operated failed)) a b b goes.leads
-          (leads-one l t (Operated failed) b refl);
+      leads = leads-more l s t (after_event l t (Operated failed)) from Acting between a b b goes.leads
+          (leads-one l t (Operated failed) Acting between b refl refl);
       fits = record { journal = did.journal; logs = λ m h. goes.fits.logs m h ∙ ap (λ g. at g m) (sym rest.0) };
-      desk = record { lines = did.lines; lost = did.lost; rounds = goes.desk.rounds ∙ sym rest.1 };
+      desk = record {
+        lines = did.lines;
+        lost = did.lost;
+        hands = did.hands;
+        rounds = goes.desk.rounds ∙ sym rest.1;
+      };
       text = λ z h. did.text z (goes.text z h);
     }
 
 -- of a run that broke off the text isn't told, so that part is left out
-pub broke-here : {P : Type 0} (tells : P → Bool) (log : P → Log) (l : BookLimits) (s : Stand)
-    (a b : Option (List (Option Row))) (J : List Entry) (ports : Six P) (script : List Line) (lost : Bool) (n : ℕ)
-    (w x : Option (List ℕ))
-    → Goes tells log l s a b J ports script lost n w x → Broke tells log l s a J ports
-broke-here tells log l s a b J ports script lost n w x goes = record {
+pub broke-here : {P : Type 0} (tells : P → Bool) (log : P → Log) (l : BookLimits) (s : Stand) (from to : Point)
+    (a b : Option (List (Option Row))) (J : List Entry) (ports : Six P) (D : Stand → Type 0) (w x : Option (List ℕ))
+    → Goes tells log l s from to a b J ports D w x → Broke tells log l s from a J ports D
+broke-here tells log l s from to a b J ports D w x goes = record {
   after = goes.after;
   left = b;
-  leads =
-      goes.leads;
+  to = to;
+  leads = goes.leads;
   fits = goes.fits;
+  desk = goes.desk;
 }
 
-pub broke-later : {P : Type 0} (tells : P → Bool) (log : P → Log) (l : BookLimits) (s : Stand)
-    (a b : Option (List (Option Row))) (J K : List Entry) (ports ports' : Six P) (script : List Line) (lost : Bool)
-    (n : ℕ) (w x : Option (List ℕ))
-    → (goes : Goes tells log l s a b J ports script lost n w x) → Broke tells log l goes.after b K ports'
-    → Broke tells log l s a K ports'
-broke-later tells log l s a b J K ports ports' script lost n w x goes broke = record {
+pub broke-later : {P : Type 0} (tells : P → Bool) (log : P → Log) (l : BookLimits) (s : Stand) (from mid : Point)
+    (a b : Option (List (Option Row))) (J K : List Entry) (ports ports' : Six P) (D E : Stand → Type 0)
+    (w x : Option (List ℕ))
+    → (goes : Goes tells log l s from mid a b J ports D w x) → Broke tells log l goes.after mid b K ports' E
+    → Broke tells log l s from a K ports' E
+broke-later tells log l s from mid a b J K ports ports' D E w x goes broke = record {
   after = broke.after;
   left = broke.left;
-  leads = leads-more l s goes.after broke.after a b broke.left goes.leads broke.leads;
+  to = broke.to;
+  leads = leads-more l s goes.after broke.after from mid broke.to a b broke.left goes.leads broke.leads;
   fits = broke.fits;
+  desk = broke.desk;
+}
+
+-- with less said of the stand where it broke off
+pub broke-as : {P : Type 0} (tells : P → Bool) (log : P → Log) (l : BookLimits) (s : Stand) (from : Point)
+    (a : Option (List (Option Row))) (J : List Entry) (ports : Six P) (D E : Stand → Type 0)
+    → ((t : Stand) → D t → E t) → Broke tells log l s from a J ports D → Broke tells log l s from a J ports E
+broke-as tells log l s from a J ports D E less broke = record {
+  after = broke.after;
+  left = broke.left;
+  to = broke.to;
+  leads = broke.leads;
+  fits = broke.fits;
+  desk = less broke.after broke.desk;
 }
 
 -- the answer to a line wasn't written
-pub broke-line : {P : Type 0} (tells : P → Bool) (log : P → Log) (l : BookLimits) (s : Stand)
-    (a b c : Option (List (Option Row))) (J K : List Entry) (ports ports' : Six P) (script : List Line) (lost : Bool)
-    (n : ℕ) (w x : Option (List ℕ)) (row : Option Row) (asks : Ask) (failed : Bool) (r : Reply)
-    → Goes tells log l s a b J ports script lost n w x → TakesLine b c row true → asks ≡ ask_of row
-    → AnswersBy tells log (after_ask l asks failed) J ports K ports' r
-    → Broke tells log l s a K ports'
-broke-line tells log l s a b c J K ports ports' script lost n w x row asks failed r goes takes is answers =
+pub broke-line : {P : Type 0} (tells : P → Bool) (log : P → Log) (l : BookLimits) (s : Stand) (from : Point) (n : ℕ)
+    (a b c : Option (List (Option Row))) (J K : List Entry) (ports ports' : Six P) (w x : Option (List ℕ))
+    (row : Option Row) (o : Option Entry) (failed : Bool) (r : Reply)
+    → Goes tells log l s from (Talking n) a b J ports (SameDesk s) w x → TakesLine b c row true → n < 10000
+    → to_book o ≡ ask_of row
+    → AnswersBy tells log (after_ask l (to_book o) failed) J ports K ports' r
+    → Broke tells log l s from a K ports' (SameDesk s)
+broke-line tells log l s from n a b c J K ports ports' w x row o failed r goes takes few is answers =
     let t = goes.after in
     record {
-      after = after_ask l asks failed t;
+      after = after_ask l (to_book o) failed t;
       left = c;
-      leads = leads-more l s t (after_ask l asks failed t) a b c goes.leads
-          (subst (λ q. Leads l t (after_ask l q failed t) b c) (sym is) (leads-line l t row failed b c takes));
+      to = Talking (n + 1);
+      leads = leads-more l s t (after_ask l (to_book o) failed t) from (Talking n) (Talking (n + 1)) a b c goes.leads
+          (line-leads l t row o failed n b c takes few is);
       fits = (answers t goes.fits).0;
+      desk = desk-then s t (after_ask l (to_book o) failed t) goes.desk (ask-desk l (to_book o) failed t);
     }
 
--- no journal sets the turn limit
-no-limit : (done full : Bool) → Some ends.TurnLimit
-    ≡ (if done then Some ends.Finished else if full then Some ends.Full else None) → ⊥
-no-limit true full is = cc
-no-limit false true is = cc
-no-limit false false is = cc
-
--- a round set the end
-pub round-ends : (p : Plan) (s : Stand) (J : List Entry) (e : DriveEnd) → J ≡ s.journal → EndedBy p J (Some e)
-    → EndsAs p s e
-round-ends p s J ends.Quit same is = tt
-round-ends p s J ends.TooManyLines same is = tt
-round-ends p s J ends.Finished same is = is ∙ ap (end_by p) same
-round-ends p s J ends.Full same is = is ∙ ap (end_by p) same
-round-ends p s J ends.Memory same is = is ∙ ap (end_by p) same
-round-ends p s J ends.TurnLimit same is = absurd (no-limit (is_finished p.plates J) (is_full p J) is)
-
--- there were as many rounds as there may be, and none of them set an end
-pub turns-over : (p : Plan) (s : Stand) (J : List Entry) (n : ℕ) → J ≡ s.journal → s.rounds ≡ n → n ≡ p.turns
-    → (n ≡ 0) ⊎ (end_by p J ≡ None) → EndsAs p s ends.TurnLimit
-turns-over p s J n same rounds all (inl none) = absurd (omega (arith, all, none, p.turns_in_range.0))
-turns-over p s J n same rounds all (inr going) = (sym (ap (end_by p) same) ∙ going, rounds ∙ all)
-
 -- nothing was told at the start, so the run's text is all that was written
-pub driven : {P : Type 0} (tells : P → Bool) (log : P → Log) (p : Plan) (l : BookLimits) (s : Stand)
-    (a b : Option (List (Option Row))) (e : DriveEnd) (J : List Entry) (ports : Six P) (script : List Line)
-    (lost : Bool) (n : ℕ) (w x : Option (List ℕ))
-    → s.text ≡ [] → (goes : Goes tells log l s a b J ports script lost n w x) → EndsAs p goes.after e
-    → Driven tells log p l s a b e J ports w x
-driven tells log p l s a b e J ports script lost n w x none goes is = record {
+pub driven : {P O : Type 0} (tells : P → Bool) (log : P → Log) (telling : O → Bool) (acts : O → ActLog) (p : Plan)
+    (l : BookLimits) (s : Stand) (to : Point) (a b : Option (List (Option Row))) (e : DriveEnd) (J : List Entry)
+    (ports : Six P)
+    (script : List Line) (lost : Bool) (hands : O) (n : ℕ) (w x : Option (List ℕ))
+    → s.text ≡ [] → (goes : Goes tells log l s between to a b J ports (FitsDesk telling acts script lost hands n) w x)
+    → EndsAs p goes.after to a b e → Driven tells log p l s a b e J ports (HandsFit telling acts hands) w x
+driven tells log telling acts p l s to a b e J ports script lost hands n w x none goes is = record {
   after = goes.after;
+  to = to;
   leads = goes.leads;
   ends = is;
+  hands = goes.desk.hands;
   fits = goes.fits;
   text = goes.text w (subst (Appends w w) (sym none) (Appends-nil w));
 }
 
 -- a run fits its start
-pub start-fits : {P : Type 0} (tells : P → Bool) (log : P → Log) (J : List Entry) (ports : Six P) (lines : List Line)
-    → Fits tells log J ports (start log J ports lines)
-start-fits tells log J ports lines = record { journal = refl; logs = λ m h. map_at log ports m }
+pub start-fits : {P : Type 0} (tells : P → Bool) (log : P → Log) (J : List Entry) (ports : Six P) (hands : ActLog)
+    (lines : List Line)
+    → Fits tells log J ports (start log J ports hands lines)
+start-fits tells log J ports hands lines = record { journal = refl; logs = λ m h. map_at log ports m }
 
--- the operator's action was done and booked
-pub operates-done : (l : BookLimits) (s : Stand) (J K : List Entry) (script left : List Line) (lost : Bool)
-    (w x : Option (List ℕ)) (a : Action)
-    → s.journal ≡ J → s.lines ≡ script → s.lost ≡ lost → lost ≡ false → next_of script (history l J) ≡ Some a
-    → K ≡ J ++ entry_of a ∷ [] → left ≡ left_after script → Appends w x (entry_line (entry_of a))
-    → Operates l false s K left lost w x
-operates-done l s J K script left lost w x a journal lines was off next grown rest written =
-    let here : next_of s.lines (history l s.journal) ≡ Some a = ap (λ X. next_of s.lines (history l X)) journal
-    ∙ ap (λ ls. next_of ls (history l J)) lines ∙ next in
-    let whole : after_operator l s.lost false s ≡ after_action (Some a) false s =
-    ap (λ b. after_operator l b false s) (was ∙ off) ∙ ap (λ o. after_action o false s) here in
-    record {
-      journal = grown ∙ ap (λ X. X ++ entry_of a ∷ []) (sym journal) ∙ ap (λ t. t.journal) (sym whole);
-      lines = rest ∙ ap left_after (sym lines) ∙ ap (λ t. t.lines) (sym whole);
-      lost = sym was ∙ ap (λ t. t.lost) (sym whole);
-      text = λ z h. subst (Appends z x) (ap (λ t. t.text) (sym whole))
-          (Appends-trans z w x s.text (entry_line (entry_of a)) h written);
-    }
-
--- ---- the same within other limits that are these, and with another desk that is this
+-- ---- the same within other limits that are these
 
 pub answers-limits : {P : Type 0} (tells : P → Bool) (log : P → Log) (l l' : BookLimits) (a : Ask) (failed : Bool)
     (J K : List Entry) (ports ports' : Six P) (r : Reply)
@@ -488,106 +579,164 @@ pub answers-limits : {P : Type 0} (tells : P → Bool) (log : P → Log) (l l' :
 answers-limits tells log l l' a failed J K ports ports' r same h =
     subst (λ m. AnswersBy tells log (after_ask m a failed) J ports K ports' r) same h
 
-pub goes-limits : {P : Type 0} (tells : P → Bool) (log : P → Log) (l l' : BookLimits) (s : Stand)
-    (a b : Option (List (Option Row))) (J : List Entry) (ports : Six P) (script : List Line) (lost : Bool) (n : ℕ)
-    (w x : Option (List ℕ))
-    → l' ≡ l → Goes tells log l' s a b J ports script lost n w x → Goes tells log l s a b J ports script lost n w x
-goes-limits tells log l l' s a b J ports script lost n w x same h =
-    subst (λ m. Goes tells log m s a b J ports script lost n w x) same h
+pub goes-limits : {P : Type 0} (tells : P → Bool) (log : P → Log) (l l' : BookLimits) (s : Stand) (from to : Point)
+    (a b : Option (List (Option Row))) (J : List Entry) (ports : Six P) (D : Stand → Type 0) (w x : Option (List ℕ))
+    → l' ≡ l → Goes tells log l' s from to a b J ports D w x → Goes tells log l s from to a b J ports D w x
+goes-limits tells log l l' s from to a b J ports D w x same h =
+    subst (λ m. Goes tells log m s from to a b J ports D w x) same h
 
-pub broke-limits : {P : Type 0} (tells : P → Bool) (log : P → Log) (l l' : BookLimits) (s : Stand)
-    (a : Option (List (Option Row))) (J : List Entry) (ports : Six P)
-    → l' ≡ l → Broke tells log l' s a J ports → Broke tells log l s a J ports
-broke-limits tells log l l' s a J ports same h = subst (λ m. Broke tells log m s a J ports) same h
+-- the point is this one
+pub goes-at : {P : Type 0} (tells : P → Bool) (log : P → Log) (l : BookLimits) (s : Stand) (from to at : Point)
+    (a b : Option (List (Option Row))) (J : List Entry) (ports : Six P) (D : Stand → Type 0) (w x : Option (List ℕ))
+    → to ≡ at → Goes tells log l s from to a b J ports D w x → Goes tells log l s from at a b J ports D w x
+goes-at tells log l s from to at a b J ports D w x is h =
+    subst (λ p. Goes tells log l s from p a b J ports D w x) is h
 
-pub goes-desk : {P : Type 0} (tells : P → Bool) (log : P → Log) (l : BookLimits) (s : Stand)
-    (a b : Option (List (Option Row))) (J : List Entry) (ports : Six P) (script script' : List Line) (lost lost' : Bool)
-    (n n' : ℕ) (w x : Option (List ℕ))
-    → script' ≡ script → lost' ≡ lost → n' ≡ n → Goes tells log l s a b J ports script lost n w x
-    → Goes tells log l s a b J ports script' lost' n' w x
-goes-desk tells log l s a b J ports script script' lost lost' n n' w x p q r goes = record {
-  after = goes.after;
-  leads = goes.leads;
-  fits = goes.fits;
-  desk = record { lines = p ∙ goes.desk.lines; lost = q ∙ goes.desk.lost; rounds = r ∙ goes.desk.rounds };
-  text = goes.text;
-}
+pub broke-limits : {P O : Type 0} (tells : P → Bool) (log : P → Log) (telling : O → Bool) (acts : O → ActLog)
+    (l l' : BookLimits) (s : Stand) (from : Point) (a : Option (List (Option Row))) (J : List Entry) (ports : Six P)
+    (hands : O)
+    (e : DriveError)
+    → l' ≡ l → Broke tells log l' s from a J ports (BrokeBy telling acts l' hands e)
+    → Broke tells log l s from a J ports (BrokeBy telling acts l hands e)
+broke-limits tells log telling acts l l' s from a J ports hands e same h =
+    subst (λ m. Broke tells log m s from a J ports (BrokeBy telling acts m hands e)) same h
 
 -- a machine was read, and what it shows wasn't written
-pub broke-shown : {P : Type 0} (tells : P → Bool) (log : P → Log) (l : BookLimits) (s : Stand)
-    (a b : Option (List (Option Row))) (J : List Entry) (ports : Six P) (script : List Line) (lost : Bool) (n : ℕ)
-    (w x : Option (List ℕ)) (m : Machine) (r : Option Reading) (port port' : P)
-    → Goes tells log l s a b J ports script lost n w x → port ≡ at ports m → (tells port' ≡ true → tells port ≡ true)
+pub broke-shown : {P : Type 0} (tells : P → Bool) (log : P → Log) (l : BookLimits) (s : Stand) (from : Point)
+    (ms rest : List Machine)
+    (a b : Option (List (Option Row))) (J : List Entry) (ports : Six P) (w x : Option (List ℕ)) (m : Machine)
+    (r : Option Reading) (port port' : P)
+    → ms ≡ m ∷ rest → Goes tells log l s from (Showing ms) a b J ports (SameDesk s) w x → port ≡ at ports m
+    → (tells port' ≡ true → tells port ≡ true)
     → (tells port' ≡ true → log port' ≡ after_read (log port) r)
-    → Broke tells log l s a J (put ports m port')
-broke-shown tells log l s a b J ports script lost n w x m r port port' goes picked still told =
+    → Broke tells log l s from a J (put ports m port') (SameDesk s)
+broke-shown tells log l s from ms rest a b J ports w x m r port port' turn goes picked still told =
     let t = goes.after in
-    let read = after_read (at t.logs m) r in
-    let mine : tells port' ≡ true → log port' ≡ read = λ h. told h ∙ ap (λ p. after_read (log p) r) picked
-    ∙ ap (λ g. after_read g r) (goes.fits.logs m (subst (λ p. tells p ≡ true) picked (still h))) in
     record {
       after = after_event l t (Shown m r);
       left = b;
-      leads = leads-more l s t (after_event l t (Shown m r)) a b b goes.leads (leads-one l t (Shown m r) b refl);
-      fits = record {
-        journal = goes.fits.journal;
-        logs = both_put (λ p g. tells p ≡ true
-            → log p ≡ g) m ports t.logs port' read goes.fits.logs mine;
+      to = Showing rest;
+      leads = leads-more l s t (after_event l t (Shown m r)) from (Showing ms) (Showing rest) a b b goes.leads
+          (leads-one l t (Shown m r) (Showing ms) (Showing rest) b refl (shown-comes m ms rest r turn));
+      fits = read-fits tells log l J ports t m r port port' goes.fits picked still told;
+      desk = record {
+        lines = goes.desk.lines;
+        lost = goes.desk.lost;
+        hands = goes.desk.hands;
+        rounds = goes.desk.rounds;
       };
     }
 
 -- ---- a round
 
--- the machines were read, the round was opened, and its lines were answered
-pub lines-taken : {P : Type 0} (tells : P → Bool) (log : P → Log) (l : BookLimits) (s : Stand)
-    (a b : Option (List (Option Row))) (J K : List Entry) (ports ports' : Six P) (script : List Line) (lost : Bool)
-    (n k : ℕ) (w x y z : Option (List ℕ))
-    → FitsDesk script lost n s → n + 1 ≡ k → Goes tells log l s a a J ports s.lines s.lost s.rounds w x
-    → Appends x y (round_line k)
-    → ((t : Stand) → Fits tells log J ports t → Goes tells log l t a b K ports' t.lines t.lost t.rounds y z)
-    → Goes tells log l s a b K ports' script lost k w z
-lines-taken tells log l s a b J K ports ports' script lost n k w x y z desk next shown written took =
-    let opened = goes-opened tells log l s a a J ports s.lines s.lost s.rounds k w x y shown
-    (ap (λ i. i + 1) (sym desk.rounds) ∙ next) written in
+-- the machines were read, the round was opened, and its lines were answered and closed so
+pub lines-taken : {P O : Type 0} (tells : P → Bool) (log : P → Log) (telling : O → Bool) (acts : O → ActLog)
+    (l : BookLimits) (s : Stand) (a b : Option (List (Option Row))) (J K : List Entry) (ports ports' : Six P)
+    (script : List Line) (lost : Bool) (hands : O) (n k : ℕ) (w x y z : Option (List ℕ)) (closed here : Close)
+    → FitsDesk telling acts script lost hands n s → n + 1 ≡ k
+    → Goes tells log l s between (Showing []) a a J ports (SameDesk s) w x → Appends x y (round_line k)
+    → closed ≡ here
+    → ((t : Stand) → Fits tells log J ports t → (to : Point) × ClosesAt closed to a b
+    × Goes tells log l t (Talking 0) to a b K ports' (SameDesk t) y z)
+    → (to : Point) × ClosesAt here to a b
+    × Goes tells log l s between to a b K ports' (FitsDesk telling acts script lost hands k) w z
+lines-taken tells log telling acts l s a b J K ports ports' script lost hands n k w x y z closed here desk next shown
+    written is took =
+    let opened = goes-opened tells log telling acts l s between a a J ports script lost hands n k w x y desk next shown
+    written in
     let t = opened.after in
-    goes-desk tells log l s a b K ports' t.lines script t.lost lost t.rounds k w z (desk.lines ∙ opened.desk.lines)
-    (desk.lost ∙ opened.desk.lost) opened.desk.rounds
-    (goes-then tells log l s a a b J K ports ports' s.lines t.lines s.lost t.lost k t.rounds w y z opened
-    (took t opened.fits))
+    let (to, closes, rest) = took t opened.fits in
+    let desk-rest : Goes tells log l t (Talking 0) to a b K ports' (FitsDesk telling acts script lost hands k) y z =
+    record {
+      after = rest.after;
+      leads = rest.leads;
+      fits = rest.fits;
+      desk = desk-fits telling acts script lost hands k k t rest.after opened.desk rest.desk refl;
+      text = rest.text;
+    } in (
+      to,
+      subst (λ c. ClosesAt c to a b) is closes,
+      goes-then tells log l s between (Talking 0) to a a b J K ports ports' (FitsDesk telling acts script lost hands k)
+          (FitsDesk telling acts script lost hands k) w y z opened desk-rest,
+    )
+
+-- the lines were closed by the method, so the operator has his turn
+pub lines-done : {P : Type 0} (tells : P → Bool) (log : P → Log) (l : BookLimits) (s : Stand)
+    (a b : Option (List (Option Row))) (K : List Entry) (ports : Six P) (D : Stand → Type 0) (w z : Option (List ℕ))
+    → (to : Point) × ClosesAt close.Done to a b × Goes tells log l s between to a b K ports D w z
+    → Goes tells log l s between Acting a b K ports D w z
+lines-done tells log l s a b K ports D w z (to, acting, goes) =
+    goes-at tells log l s between to Acting a b K ports D w z acting goes
+
+-- the operator did nothing, so his hands are as they were
+hands-same : {O : Type 0} (telling : O → Bool) (acts : O → ActLog) (l : BookLimits) (script : List Line) (lost : Bool)
+    (hands : O) (n : ℕ) (e : DriveError) (s t : Stand)
+    → FitsDesk telling acts script lost hands n s → SameDesk s t → e ≢ error.OutOfMemory
+    → BrokeBy telling acts l hands e t
+hands-same telling acts l script lost hands n error.OutOfMemory s t d same other = absurd (other refl)
+hands-same telling acts l script lost hands n error.ReadFault s t d same other = λ told. d.hands told ∙ sym same.hands
+hands-same telling acts l script lost hands n error.WriteFault s t d same other = λ told. d.hands told ∙ sym same.hands
+
+-- the readings broke off
+pub readings-broke : {P O : Type 0} (tells : P → Bool) (log : P → Log) (telling : O → Bool) (acts : O → ActLog)
+    (l : BookLimits) (s : Stand) (from : Point) (a : Option (List (Option Row))) (J : List Entry) (ports : Six P)
+    (script : List Line) (lost : Bool) (hands : O) (n : ℕ) (e : DriveError)
+    → FitsDesk telling acts script lost hands n s → e ≢ error.OutOfMemory
+    → Broke tells log l s from a J ports (SameDesk s) → Broke tells log l s from a J ports
+    (BrokeBy telling acts l hands e)
+readings-broke tells log telling acts l s from a J ports script lost hands n e desk other =
+    broke-as tells log l s from a J ports (SameDesk s) (BrokeBy telling acts l hands e)
+    (λ t same. hands-same telling acts l script lost hands n e s t desk same other)
 
 -- the lines of the round broke off
-pub lines-broke : {P : Type 0} (tells : P → Bool) (log : P → Log) (l : BookLimits) (s : Stand)
-    (a : Option (List (Option Row))) (J K : List Entry) (ports ports' : Six P) (script : List Line) (lost : Bool)
-    (n k : ℕ) (w x y : Option (List ℕ))
-    → FitsDesk script lost n s → n + 1 ≡ k → Goes tells log l s a a J ports s.lines s.lost s.rounds w x
-    → Appends x y (round_line k)
-    → ((t : Stand) → Fits tells log J ports t → Broke tells log l t a K ports')
-    → Broke tells log l s a K ports'
-lines-broke tells log l s a J K ports ports' script lost n k w x y desk next shown written took =
-    let opened = goes-opened tells log l s a a J ports s.lines s.lost s.rounds k w x y shown
-    (ap (λ i. i + 1) (sym desk.rounds) ∙ next) written in
-    broke-later tells log l s a a J K ports ports' s.lines s.lost k w y opened (took opened.after opened.fits)
+pub lines-broke : {P O : Type 0} (tells : P → Bool) (log : P → Log) (telling : O → Bool) (acts : O → ActLog)
+    (l : BookLimits) (s : Stand) (a : Option (List (Option Row))) (J K : List Entry) (ports ports' : Six P)
+    (script : List Line) (lost : Bool) (hands : O) (n k : ℕ) (w x y : Option (List ℕ)) (e : DriveError)
+    → FitsDesk telling acts script lost hands n s → n + 1 ≡ k
+    → Goes tells log l s between (Showing []) a a J ports (SameDesk s) w x
+    → Appends x y (round_line k) → e ≢ error.OutOfMemory
+    → ((t : Stand) → Fits tells log J ports t → Broke tells log l t (Talking 0) a K ports' (SameDesk t))
+    → Broke tells log l s between a K ports' (BrokeBy telling acts l hands e)
+lines-broke tells log telling acts l s a J K ports ports' script lost hands n k w x y e desk next shown written other
+    took =
+    let opened = goes-opened tells log telling acts l s between a a J ports script lost hands n k w x y desk next shown
+    written
+    in
+    broke-later tells log l s between (Talking 0) a a J K ports ports' (FitsDesk telling acts script lost hands k)
+    (BrokeBy telling acts l hands e) w y opened (readings-broke tells log telling acts l opened.after (Talking 0) a K
+    ports' script
+    lost hands k e opened.desk other (took opened.after opened.fits))
 
 -- the operator's turn broke off
-pub broke-operated : {P : Type 0} (tells : P → Bool) (log : P → Log) (l l' : BookLimits) (s : Stand)
-    (a b : Option (List (Option Row))) (J K : List Entry) (ports : Six P) (script : List Line) (lost : Bool) (n : ℕ)
-    (w x : Option (List ℕ)) (failed : Bool)
-    → l' ≡ l → Goes tells log l s a b J ports script lost n w x
-    → ((t : Stand) → t.journal ≡ J → t.lines ≡ script → t.lost ≡ lost
-    → K ≡ (after_operator l' t.lost failed t).journal)
-    → Broke tells log l s a K ports
-broke-operated tells log l l' s a b J K ports script lost n w x failed same goes operates =
+pub broke-operated : {P O : Type 0} (tells : P → Bool) (log : P → Log) (telling : O → Bool) (acts : O → ActLog)
+    (l l' : BookLimits) (s : Stand) (from : Point) (a b : Option (List (Option Row))) (J K : List Entry) (ports : Six P)
+    (script : List Line) (lost : Bool) (hands hands' : O) (n : ℕ) (w x : Option (List ℕ)) (e : DriveError)
+    → l' ≡ l → Goes tells log l s from Acting a b J ports (FitsDesk telling acts script lost hands n) w x
+    → ((t : Stand) (k : ℕ) → t.journal ≡ J → FitsDesk telling acts script lost hands k t
+    → OperatorBroke telling acts l' e t K hands')
+    → Broke tells log l s from a K ports (BrokeBy telling acts l hands' e)
+broke-operated tells log telling acts l l' s from a b J K ports script lost hands hands' n w x e same goes operates =
     let t = goes.after in
-    let did = operates t (sym goes.fits.journal) (sym goes.desk.lines) (sym goes.desk.lost)
-    ∙ ap (λ m. (after_operator m t.lost failed t).journal) same in
-    record {
-      after = after_event l t (Operated failed);
-      left = b;
-      leads = leads-more l s t (after_event l t (Operated failed)) a b b goes.leads
-          (leads-one l t (Operated failed) b refl);
-      fits = record {
-        journal = did;
-        logs = λ m h. goes.fits.logs m h
-            ∙ ap (λ g. at g m) (sym (operator-rest l t.lost failed t).0);
-      };
-    }
+    elim (subst (λ m. OperatorBroke telling acts m e t K hands') same
+    (operates t n (sym goes.fits.journal) goes.desk)) [
+      | inl here ↦ record {
+        after = t;
+        left = b;
+        to = Acting;
+        leads = goes.leads;
+        fits = record { journal = here.0; logs = goes.fits.logs };
+        desk = here.1;
+      }
+      | inr acted ↦ record {
+        after = after_operator l t.lost false t;
+        left = b;
+        to = between;
+        leads = leads-more l s t (after_event l t (Operated false)) from Acting between a b b goes.leads
+            (leads-one l t (Operated false) Acting between b refl refl);
+        fits = record {
+          journal = acted.0;
+          logs = λ m h. goes.fits.logs m h ∙ ap (λ g. at g m) (sym (operator-rest l t.lost false t).0);
+        };
+        desk = acted.1;
+      }
+    ]

@@ -1,13 +1,14 @@
 //! A round's lines: each is answered, and the entry that it asks for is booked where it is allowed.
-ghost use Rattle.std.specs.Prelude.{◌≡◌, Bool, IfOk, IsErr, true};
+ghost use Rattle.std.specs.Prelude.{◌≡◌, ◌≢◌, Bool, IfErr, IfOk, IsErr, true};
 ghost use Rattle.cell_types.specs.Entries.{actor_of, command_of};
 ghost use Rattle.cell_types.specs.declared.words.Actor.TheVariants as actors;
 ghost use Rattle.cell_rules.specs.Legal.{first_of};
 ghost use Rattle.cell_ports.specs.Logs.{after_sending};
 ghost use Rattle.cell_method.specs.Lines.{lines_left};
 ghost use Rattle.cell_method.specs.Asked.{to_book};
+ghost use Rattle.cell_method.specs.Order.{ClosesAt, Point, Talking};
 ghost use Rattle.cell_method.specs.Replies.{booked_as};
-ghost use Rattle.cell_method.specs.Rounds.{AnswersBy, Broke, Fits, Goes, Stand, after_ask, after_judging};
+ghost use Rattle.cell_method.specs.Rounds.{AnswersBy, Broke, Fits, Goes, SameDesk, Stand, after_ask, after_judging};
 
 use crate::ask::{Ask, ask_of};
 use crate::error::DriveError;
@@ -15,7 +16,7 @@ use crate::line::LineReader;
 use crate::onlooker::Onlooker;
 use crate::reply::{Reply, tell};
 use cell_ports::Port;
-use cell_rows::TellsFault;
+use cell_rows::{Four, TellsFault};
 use cell_turns::Ports;
 use cell_types::{Actor, Entry, Machine, actor_of, command_of};
 use plate_book::{Book, Refusal};
@@ -86,9 +87,10 @@ fn book<P: Port, L: Onlooker>(
     booked_as(book.journal().len(), has_failed)
 }
 
-// Does what a line asks for, and gives its answer.
+// Does what a line of these fields asks for, and gives its answer.
 fn take<P: Port, L: Onlooker>(
     entry: Option<Entry>,
+    four: Option<Four<'_>>,
     cell: &mut Book,
     ports: &mut Ports<P>,
     onlooker: &mut L,
@@ -98,12 +100,16 @@ fn take<P: Port, L: Onlooker>(
     ensures limits { cell.new.limits ≡ cell.old.limits }
 {
     let Some(entry) = entry else {
+        onlooker.unread(four);
         return Reply::Unreadable;
     };
     let wanted = entry;
     match actor_of(entry) {
         Actor::Machine(machine) => book(machine, wanted, cell, ports, onlooker),
-        Actor::Operator => Reply::Unreadable,
+        Actor::Operator => {
+            onlooker.unread(four);
+            Reply::Unreadable
+        }
     }
 }
 
@@ -115,14 +121,18 @@ pub(crate) fn take_lines<R: TellsFault, W: Write, P: Port, L: Onlooker>(
     writer: &mut W,
     onlooker: &mut L,
 ) -> Result<Close, DriveError>
-    ensures goes { IfOk result (λ _. (s : Stand) → Fits P.tells P.log book.old.entries ports.old s
-        → Goes P.tells P.log book.old.limits s (lines_left R.remaining lines.old) (lines_left R.remaining lines.new)
-        book.new.entries ports.new s.lines s.lost s.rounds (W.contents writer.old) (W.contents writer.new)) }
+    ensures goes { IfOk result (λ close. (s : Stand) → Fits P.tells P.log book.old.entries ports.old s
+        → (to : Point) × ClosesAt close to (lines_left R.remaining lines.old) (lines_left R.remaining lines.new)
+        × Goes P.tells P.log book.old.limits s (Talking 0) to (lines_left R.remaining lines.old)
+        (lines_left R.remaining lines.new) book.new.entries ports.new (SameDesk s) (W.contents writer.old)
+        (W.contents writer.new)) }
     ensures broke { IsErr result → (s : Stand) → Fits P.tells P.log book.old.entries ports.old s
-        → Broke P.tells P.log book.old.limits s (lines_left R.remaining lines.old) book.new.entries ports.new }
+        → Broke P.tells P.log book.old.limits s (Talking 0) (lines_left R.remaining lines.old) book.new.entries
+        ports.new (SameDesk s) }
+    ensures memory { IfErr result (λ e. e ≢ DriveError.OutOfMemory) }
     ensures limits { book.new.limits ≡ book.old.limits }
 {
-    for _ in 0..MAX_LINES {
+    for _count in 0..MAX_LINES {
         if !lines.advance()? {
             return Ok(Close::Quit);
         }
@@ -132,7 +142,7 @@ pub(crate) fn take_lines<R: TellsFault, W: Write, P: Port, L: Onlooker>(
             Ask::Book(entry) => Some(entry),
             Ask::Nothing => None,
         };
-        let reply = take(wanted, book, ports, onlooker);
+        let reply = take(wanted, lines.four(), book, ports, onlooker);
         tell(writer, reply)?;
     }
     Ok(Close::Long)

@@ -1,4 +1,5 @@
 //! What looks on while a method drives the cell.
+use cell_rows::Four;
 use cell_types::Entry;
 use plate_book::Refusal;
 
@@ -13,6 +14,9 @@ pub trait Onlooker {
 
     /// An entry was refused.
     fn refused(&mut self, why: Refusal);
+
+    /// A line was no record of a machine's entry. These are its fields, if it is a record.
+    fn unread(&mut self, four: Option<Four<'_>>);
 
     /// The operator's entry was booked, after what it wants by hand was done.
     fn acted(&mut self, entry: &Entry);

@@ -1,5 +1,5 @@
 //! The line that tells what a machine shows.
-ghost use Rattle.std.specs.Prelude.{◌≡◌, ◌≤◌, length, map, OnOk};
+ghost use Rattle.std.specs.Prelude.{◌≡◌, ◌≢◌, ◌≤◌, length, map, IfErr, OnOk};
 ghost use Rattle.std.specs.Io.KnownBytes.{Appends};
 ghost use Rattle.cell_method.specs.Shown.{presence_words, reading_line, shown, sign_after, switch_words, switches_text};
 
@@ -174,7 +174,9 @@ pub(crate) fn show<W: Write>(
     machine: Machine,
     reading: Option<Reading>,
 ) -> Result<(), DriveError>
-    ensures { OnOk result (Appends (W.contents writer.old) (W.contents writer.new) (reading_line machine reading)) }
+    ensures told { OnOk result (Appends (W.contents writer.old) (W.contents writer.new)
+        (reading_line machine reading)) }
+    ensures memory { IfErr result (λ e. e ≢ DriveError.OutOfMemory) }
 {
     write!(writer, "{}", ReadingLine { machine, reading })?;
     Ok(())

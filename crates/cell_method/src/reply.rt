@@ -1,5 +1,5 @@
 //! The answer to a line of a method.
-ghost use Rattle.std.specs.Prelude.{◌≡◌, OnOk};
+ghost use Rattle.std.specs.Prelude.{◌≡◌, ◌≢◌, IfErr, OnOk};
 ghost use Rattle.std.specs.Io.KnownBytes.{Appends};
 ghost use Rattle.cell_method.specs.Replies.{line_of, word_or_blank};
 
@@ -49,7 +49,8 @@ impl fmt::Display for Reply {
 
 /// Writes an answer, and flushes the writer.
 pub(crate) fn tell<W: Write>(writer: &mut W, reply: Reply) -> Result<(), DriveError>
-    ensures { OnOk result (Appends (W.contents writer.old) (W.contents writer.new) (line_of reply)) }
+    ensures told { OnOk result (Appends (W.contents writer.old) (W.contents writer.new) (line_of reply)) }
+    ensures memory { IfErr result (λ e. e ≢ DriveError.OutOfMemory) }
 {
     write!(writer, "{reply}")?;
     writer.flush()?;

@@ -1,5 +1,5 @@
 //! A run in rounds.
-ghost use Rattle.std.specs.Prelude.{◌≡◌, ◌+◌, ℕ, List, Option, false, true, IfOk, IsErr, OnOk};
+ghost use Rattle.std.specs.Prelude.{◌≡◌, ◌≢◌, ◌+◌, ℕ, [], List, Option, false, true, IfErr, IfOk, IsErr, OnOk};
 ghost use Rattle.std.specs.Io.KnownBytes.{Appends};
 ghost use Rattle.cell_types.specs.declared.words.Entry.{Entry as EntryValue};
 ghost use Rattle.cell_rules.specs.declared.limits.BookLimits.{BookLimits};
@@ -7,7 +7,9 @@ ghost use Rattle.cell_rules.specs.Legal.{legal};
 ghost use Rattle.cell_rules.specs.Safety.{IsSafe};
 ghost use Rattle.cell_method.specs.Ends.{end_by, is_finished};
 ghost use Rattle.cell_method.specs.Lines.{Row, lines_left};
-ghost use Rattle.cell_method.specs.Rounds.{Broke, Driven, EndedBy, Fits, FitsDesk, Goes, Stand, start};
+ghost use Rattle.cell_method.specs.Order.{Point, Showing, between};
+ghost use Rattle.cell_method.specs.Rounds.{Broke, BrokeBy, Driven, EndedBy, Fits, FitsDesk, Goes, HandsFit, SameDesk};
+ghost use Rattle.cell_method.specs.Rounds.{Stand, start};
 ghost use Rattle.cell_method.specs.Shown.{round_line};
 
 use crate::booking::{Close, take_lines};
@@ -44,10 +46,11 @@ pub enum DriveEnd {
 // Reads each machine in order, and tells what it shows.
 fn show_readings<P: Port, W: Write>(ports: &mut Ports<P>, writer: &mut W) -> Result<(), DriveError>
     ensures goes { OnOk result ((l : BookLimits) (s : Stand) (J : List EntryValue) (all : Option (List (Option Row)))
-        → Fits P.tells P.log J ports.old s → Goes P.tells P.log l s all all J ports.new s.lines s.lost s.rounds
-        (W.contents writer.old) (W.contents writer.new)) }
+        → Fits P.tells P.log J ports.old s → Goes P.tells P.log l s between (Showing []) all all J ports.new
+        (SameDesk s) (W.contents writer.old) (W.contents writer.new)) }
     ensures broke { IsErr result → (l : BookLimits) (s : Stand) (J : List EntryValue) (all : Option (List (Option Row)))
-        → Fits P.tells P.log J ports.old s → Broke P.tells P.log l s all J ports.new }
+        → Fits P.tells P.log J ports.old s → Broke P.tells P.log l s between all J ports.new (SameDesk s) }
+    ensures memory { IfErr result (λ e. e ≢ DriveError.OutOfMemory) }
 {
     for machine in MACHINES {
         let reading = ports.pick(machine).read();
@@ -58,7 +61,8 @@ fn show_readings<P: Port, W: Write>(ports: &mut Ports<P>, writer: &mut W) -> Res
 
 // Opens the round of a number.
 fn open_round<W: Write>(writer: &mut W, number: u32) -> Result<(), DriveError>
-    ensures { OnOk result (Appends (W.contents writer.old) (W.contents writer.new) (round_line number)) }
+    ensures told { OnOk result (Appends (W.contents writer.old) (W.contents writer.new) (round_line number)) }
+    ensures memory { IfErr result (λ e. e ≢ DriveError.OutOfMemory) }
 {
     write!(writer, "round,{number},,\n")?;
     writer.flush()?;
@@ -97,15 +101,19 @@ fn take_round<R: TellsFault, W: Write, P: Port, O: OperatorPort, L: Onlooker>(
     writer: &mut W,
     onlooker: &mut L,
 ) -> Result<Option<DriveEnd>, DriveError>
-    ensures goes { IfOk result (λ _. (s : Stand) (rounds : ℕ) → rounds + 1 ≡ number
-        → Fits P.tells P.log book.old.entries ports.old s → FitsDesk desk.old.script desk.old.lost rounds s
-        → Goes P.tells P.log book.old.limits s (lines_left R.remaining lines.old) (lines_left R.remaining lines.new)
-        book.new.entries ports.new desk.new.script desk.new.lost number (W.contents writer.old)
+    ensures goes { IfOk result (λ end. (s : Stand) (rounds : ℕ) → rounds + 1 ≡ number
+        → Fits P.tells P.log book.old.entries ports.old s
+        → FitsDesk O.tells O.log desk.old.script desk.old.lost hands.old rounds s
+        → (to : Point) × EndedBy plan.now book.new.entries to (lines_left R.remaining lines.old)
+        (lines_left R.remaining lines.new) end × Goes P.tells P.log book.old.limits s between to
+        (lines_left R.remaining lines.old) (lines_left R.remaining lines.new) book.new.entries ports.new
+        (FitsDesk O.tells O.log desk.new.script desk.new.lost hands.new number) (W.contents writer.old)
         (W.contents writer.new)) }
-    ensures broke { IsErr result → (s : Stand) (rounds : ℕ) → rounds + 1 ≡ number
-        → Fits P.tells P.log book.old.entries ports.old s → FitsDesk desk.old.script desk.old.lost rounds s
-        → Broke P.tells P.log book.old.limits s (lines_left R.remaining lines.old) book.new.entries ports.new }
-    ensures ended { IfOk result (EndedBy plan.now book.new.entries) }
+    ensures broke { IfErr result (λ e. (s : Stand) (rounds : ℕ) → rounds + 1 ≡ number
+        → Fits P.tells P.log book.old.entries ports.old s
+        → FitsDesk O.tells O.log desk.old.script desk.old.lost hands.old rounds s
+        → Broke P.tells P.log book.old.limits s between (lines_left R.remaining lines.old) book.new.entries ports.new
+        (BrokeBy O.tells O.log book.old.limits hands.new e)) }
     ensures limits { book.new.limits ≡ book.old.limits }
 {
     show_readings(ports, writer)?;
@@ -134,12 +142,13 @@ fn take_rounds<R: TellsFault, W: Write, P: Port, O: OperatorPort, L: Onlooker>(
 ) -> Result<DriveEnd, DriveError>
     requires { desk.old.lost ≡ false }
     ensures run { IfOk result (λ end. Driven P.tells P.log plan.now book.old.limits
-        (start P.log book.old.entries ports.old desk.old.script) (lines_left R.remaining lines.old)
-        (lines_left R.remaining lines.new) end book.new.entries ports.new (W.contents writer.old)
-        (W.contents writer.new)) }
-    ensures broke { IsErr result → Broke P.tells P.log book.old.limits
-        (start P.log book.old.entries ports.old desk.old.script) (lines_left R.remaining lines.old) book.new.entries
-        ports.new }
+        (start P.log book.old.entries ports.old (O.log hands.old) desk.old.script) (lines_left R.remaining lines.old)
+        (lines_left R.remaining lines.new) end book.new.entries ports.new (HandsFit O.tells O.log hands.new)
+        (W.contents writer.old) (W.contents writer.new)) }
+    ensures broke { IfErr result (λ e. Broke P.tells P.log book.old.limits
+        (start P.log book.old.entries ports.old (O.log hands.old) desk.old.script) between
+        (lines_left R.remaining lines.old) book.new.entries ports.new
+        (BrokeBy O.tells O.log book.old.limits hands.new e)) }
     ensures limits { book.new.limits ≡ book.old.limits }
 {
     for round in 0..plan.turns {
@@ -172,14 +181,17 @@ pub fn drive<R: TellsFault, W: Write, P: Port, O: OperatorPort, L: Onlooker>(
     writer: &mut W,
     onlooker: &mut L,
 ) -> Result<DriveEnd, DriveError>
-    // Events lead from the start to this end, to the journal, to what the ports were asked and to what was written.
+    // Events lead in their order from the start to this end, to the journal, to what the ports were asked, to what the
+    // operator's hands did and to what was written.
     ensures run { IfOk result (λ end. Driven P.tells P.log plan.now book.old.limits
-        (start P.log book.old.entries ports.old script) (lines_left R.remaining lines.old)
-        (lines_left R.remaining lines.new) end book.new.entries ports.new (W.contents writer.old)
-        (W.contents writer.new)) }
-    // The same where it breaks off, but for what was written and which lines are left.
-    ensures broke { IsErr result → Broke P.tells P.log book.old.limits (start P.log book.old.entries ports.old script)
-        (lines_left R.remaining lines.old) book.new.entries ports.new }
+        (start P.log book.old.entries ports.old (O.log hands.old) script) (lines_left R.remaining lines.old)
+        (lines_left R.remaining lines.new) end book.new.entries ports.new (HandsFit O.tells O.log hands.new)
+        (W.contents writer.old) (W.contents writer.new)) }
+    // The same where it breaks off, but for what was written and which lines are left. Memory is refused only to the
+    // booking of a plate that the operator has taken out.
+    ensures broke { IfErr result (λ e. Broke P.tells P.log book.old.limits
+        (start P.log book.old.entries ports.old (O.log hands.old) script) between (lines_left R.remaining lines.old)
+        book.new.entries ports.new (BrokeBy O.tells O.log book.old.limits hands.new e)) }
     ensures legal { legal book.new.limits book.new.entries ≡ true }
     ensures safe { IsSafe book.new.entries }
     ensures limits { book.new.limits ≡ book.old.limits }

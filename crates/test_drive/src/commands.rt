@@ -27,11 +27,18 @@ fn a_rule_that_is_broken_is_told(rt: HostRuntime) -> Result<(), Fail> {
         explain: true,
         ..COMMANDS
     };
-    let lines = b"magnet_off,arm2,,\non,arm_one,top,\nquit,,,\n";
+    let lines = b"magnet_off,arm2,,\non,arm_one,nowhere,\non,arm_one,top,\nquit,,,\n";
     let written = driven(&rt, ONE_PLATE, driving, lines.as_slice(), 1);
     let text = written.output.as_slice();
     assert!(rt; has_line(text, "broken NoSuchPose 1"));
     let errors = written.errors.as_slice();
+    assert!(rt;
+        has_line(
+            errors,
+            "unreadable in round 1, line 2: field 3 has to be rest, to_end, to_table, low, high, \
+belt, robot, table1, p1_load, p1_unload, p2_load, p2_unload, deposit2, in, out, middle, top or bottom"
+        )
+    );
     assert!(rt; has_line(errors, "NoSuchPose in round 1: on,arm_one,top,"));
     Ok(())
 }

@@ -80,6 +80,45 @@ untrue in round 1: admitted,1,,: feed_in is empty\n";
 }
 
 #[test]
+fn the_field_that_cannot_be_read_is_told(rt: HostRuntime) -> Result<(), Fail> {
+    let told = |lines: &[u8], why: &str| -> bool {
+        let driving = DriveOptions {
+            explain: true,
+            ..ENTRIES
+        };
+        let written = driven(&rt, ONE_PLATE, driving, lines, 1);
+        has_line(written.output.as_slice(), "unreadable,,,")
+            && has_line(written.errors.as_slice(), why)
+    };
+    assert!(rt;
+        told(
+            b"lamp,feed,green,\nclaimed,tabel,z1,\nhop,,,\n",
+            "unreadable in round 1, line 2: field 2 has to be feed, table, robot, press1, press2 or deposit"
+        )
+    );
+    assert!(rt;
+        told(
+            b"done,,,\nhop,,,\n",
+            "unreadable in round 2, line 1: field 1 has to be lamp, admitted, claimed, yielded, started, arrived, \
+conveyed, forged, gripped, dropped, delivered, declared, reinstated, done or quit"
+        )
+    );
+    assert!(rt;
+        told(
+            b"stop_asked,feed,,\n",
+            "unreadable in round 1, line 1: only the operator books such an entry"
+        )
+    );
+    assert!(rt;
+        told(
+            b"admitted,1\n",
+            "unreadable in round 1, line 1: a line has four fields of at most 20 bytes, and no quote"
+        )
+    );
+    Ok(())
+}
+
+#[test]
 fn the_operator_does_his_script(rt: HostRuntime) -> Result<(), Fail> {
     let operator = "always,,stop,press1\nfailed,press1,repair,press1\n";
     let lines = b"done,,,\ndeclared,press1,operator_stop,\ndone,,,\n";

@@ -1,7 +1,8 @@
 use Rattle.std.proofs.Common.{◌≡◌, ◌⊎◌, None}
 use Rattle.cell_method.specs.Ends.{end_by}
 use Rattle.cell_method.specs.Lines.{lines_left}
-use Rattle.cell_method.specs.Rounds.{Goes, start}
+use Rattle.cell_method.specs.Order.{between}
+use Rattle.cell_method.specs.Rounds.{FitsDesk, Goes, start}
 use Rattle.cell_method.proofs.rounds.take_rounds.Given as goal
 
 -- the rounds so far led here, and none of them set an end
@@ -9,8 +10,10 @@ abbrev pub invariant-loop-round : goal.invariant-loop-round
 invariant-loop-round g l = record {
   limits : l.book.limits ≡ l.fn.book.limits;
   goes : Goes g.P.Port.tells g.P.Port.log l.fn.book.limits
-      (start g.P.Port.log l.fn.book.entries l.fn.ports l.fn.desk.script) (lines_left g.R.Read.remaining l.fn.lines)
+      (start g.P.Port.log l.fn.book.entries l.fn.ports (g.O.OperatorPort.log l.fn.hands) l.fn.desk.script) between
+      between (lines_left g.R.Read.remaining l.fn.lines)
       (lines_left g.R.Read.remaining l.lines) l.book.entries l.ports
-      l.desk.script l.desk.lost l.round (g.W.Write.contents l.fn.writer) (g.W.Write.contents l.writer);
+      (FitsDesk g.O.OperatorPort.tells g.O.OperatorPort.log l.desk.script l.desk.lost l.hands l.round)
+      (g.W.Write.contents l.fn.writer) (g.W.Write.contents l.writer);
   ends : (l.round ≡ 0) ⊎ (end_by l.plan l.book.entries ≡ None);
 }

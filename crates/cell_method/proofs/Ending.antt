@@ -1,0 +1,92 @@
+-- How a run comes to its end
+use Rattle.std.proofs.Common.{◌≡◌, ◌∙◌, ◌⊎◌, ℕ, List, Option, Some, None, Bool, true, false, inl, inr, ap, sym}
+use Rattle.std.proofs.Common.{refl, subst, arith, if◌then◌else◌}
+use Rattle.cell_types.specs.declared.words.Entry.{Entry}
+use Rattle.cell_ports.specs.declared.plan.Plan.{Plan}
+use Rattle.cell_method.specs.Ends.{end_by, is_finished, is_full}
+use Rattle.cell_method.specs.Lines.{Row}
+use Rattle.cell_method.specs.Order.{Acting, HasQuit, IsDry, Over, Point, Showing, Talking, between}
+use Rattle.cell_method.specs.Rounds.{EndedBy, EndsAs, Reads, Stand}
+use Rattle.cell_method.specs.declared.rounds.DriveEnd.{DriveEnd}
+use Rattle.cell_method.specs.declared.rounds.DriveEnd.TheVariants as ends
+
+-- the same, by the lines that were left earlier
+dry-earlier : (a b c : Option (List (Option Row))) (rows : List (Option Row)) → Reads a rows b → IsDry b c → IsDry a c
+dry-earlier None b c rows read dry = tt
+dry-earlier (Some a) None c rows read dry = absurd read
+dry-earlier (Some a) (Some b) None rows read dry = tt
+dry-earlier (Some a) (Some b) (Some c) rows read dry = dry
+
+pub quit-earlier : (at : Point) (a b c : Option (List (Option Row))) (rows : List (Option Row)) → Reads a rows b
+    → HasQuit at b c → HasQuit at a c
+quit-earlier Over a b c rows read quit = tt
+quit-earlier (Talking n) a b c rows read quit = dry-earlier a b c rows read quit
+quit-earlier (Showing ms) a b c rows read quit = absurd quit
+quit-earlier Acting a b c rows read quit = absurd quit
+
+-- no journal sets the turn limit
+no-limit : (done full : Bool) → Some ends.TurnLimit
+    ≡ (if done then Some ends.Finished else if full then Some ends.Full else None) → ⊥
+no-limit true full is = cc
+no-limit false true is = cc
+no-limit false false is = cc
+
+no-quit : (done full : Bool) → Some ends.Quit
+    ≡ (if done then Some ends.Finished else if full then Some ends.Full else None) → ⊥
+no-quit true full is = cc
+no-quit false true is = cc
+no-quit false false is = cc
+
+no-many : (done full : Bool) → Some ends.TooManyLines
+    ≡ (if done then Some ends.Finished else if full then Some ends.Full else None) → ⊥
+no-many true full is = cc
+no-many false true is = cc
+no-many false false is = cc
+
+-- a round set the end
+pub round-ends : (p : Plan) (s : Stand) (J : List Entry) (at : Point) (all left : Option (List (Option Row)))
+    (e : DriveEnd)
+    → J ≡ s.journal → EndedBy p J at all left (Some e) → EndsAs p s at all left e
+round-ends p s J at all left ends.Quit same is = is
+round-ends p s J at all left ends.TooManyLines same is = is
+round-ends p s J at all left ends.Finished same is = (is.0, is.1 ∙ ap (end_by p) same)
+round-ends p s J at all left ends.Full same is = (is.0, is.1 ∙ ap (end_by p) same)
+round-ends p s J at all left ends.Memory same is = (is.0, is.1 ∙ ap (end_by p) same)
+round-ends p s J at all left ends.TurnLimit same is =
+    absurd (no-limit (is_finished p.plates J) (is_full p J) is.1)
+
+-- the round set this end, or none
+pub ended-is : (p : Plan) (J : List Entry) (at : Point) (all left : Option (List (Option Row)))
+    (some this : Option DriveEnd)
+    → some ≡ this → EndedBy p J at all left some → EndedBy p J at all left this
+ended-is p J at all left some this is ended = subst (λ o. EndedBy p J at all left o) is ended
+
+-- the same, by the lines that were left earlier
+pub ended-earlier : (p : Plan) (J : List Entry) (at : Point) (a b c : Option (List (Option Row)))
+    (rows : List (Option Row)) (e : DriveEnd)
+    → Reads a rows b → EndedBy p J at b c (Some e) → EndedBy p J at a c (Some e)
+ended-earlier p J at a b c rows ends.Quit read is = quit-earlier at a b c rows read is
+ended-earlier p J at a b c rows ends.TooManyLines read is = is
+ended-earlier p J at a b c rows ends.Finished read is = is
+ended-earlier p J at a b c rows ends.Full read is = is
+ended-earlier p J at a b c rows ends.Memory read is = is
+ended-earlier p J at a b c rows ends.TurnLimit read is = is
+
+-- there were as many rounds as there may be, and none of them set an end
+pub turns-over : (p : Plan) (s : Stand) (all left : Option (List (Option Row))) (J : List Entry) (n : ℕ)
+    → J ≡ s.journal → s.rounds ≡ n → n ≡ p.turns → (n ≡ 0) ⊎ (end_by p J ≡ None)
+    → EndsAs p s between all left ends.TurnLimit
+turns-over p s all left J n same rounds all-of (inl none) = absurd (omega (arith, all-of, none, p.turns_in_range.0))
+turns-over p s all left J n same rounds all-of (inr going) =
+    (refl, sym (ap (end_by p) same) ∙ going, rounds ∙ all-of)
+
+-- a round is closed, so only the journal can end the run
+pub closed-ends : (p : Plan) (J : List Entry) (all left : Option (List (Option Row))) (e : Option DriveEnd)
+    → e ≡ end_by p J → EndedBy p J between all left e
+closed-ends p J all left None is = (refl, is)
+closed-ends p J all left (Some ends.Finished) is = (refl, is)
+closed-ends p J all left (Some ends.Full) is = (refl, is)
+closed-ends p J all left (Some ends.Memory) is = (refl, is)
+closed-ends p J all left (Some ends.TurnLimit) is = (refl, is)
+closed-ends p J all left (Some ends.Quit) is = absurd (no-quit (is_finished p.plates J) (is_full p J) is)
+closed-ends p J all left (Some ends.TooManyLines) is = absurd (no-many (is_finished p.plates J) (is_full p J) is)
