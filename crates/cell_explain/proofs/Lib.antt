@@ -6,3 +6,9 @@ pub mod SetOut
 pub mod ToldOf
 pub mod Wider
 pub mod Whole
+pub mod Lines
+pub mod Sinces
+pub mod Rows
+pub mod Walks
+pub mod Counted
+pub mod Behind

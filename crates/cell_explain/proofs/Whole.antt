@@ -17,22 +17,22 @@ use Rattle.cell_explain.proofs.ToldOf.{told-then}
 use Rattle.cell_explain.proofs.Wider.{legal-greatest}
 
 -- what is told of a book, by the lines of both scripts
-abbrev pub told_of : History → End → Plan → List Line → List PlannedFault → List ℕ
-told_of b e plan lines faults =
+abbrev pub told_of : History → End → Plan → ℕ → List Line → List PlannedFault → List ℕ
+told_of b e plan at lines faults =
     run_of b.entries e plan ++ (failures_of b.entries
-    ++ (plates_of b.limits b.entries ++ (waiting_of b.limits b.entries lines ++ missed_of b.entries faults)))
+    ++ (plates_of b.limits b.entries ++ (waiting_of b.limits b.entries at lines ++ missed_of b.entries faults)))
 
 -- its parts, one after the other, of which the last is told where it was written
 pub told-whole : {A B : Type 0} (r : Result A B) (b : History) (J : List Entry) (e : End) (plan : Plan)
-    (lines : List Line) (faults : List PlannedFault)
+    (at : ℕ) (lines : List Line) (faults : List PlannedFault)
     (old first second third fourth new : Option (List ℕ)) → b ≡ record { limits = limits_of plan; entries = J }
     → Appends old first (run_of b.entries e plan) → Appends first second (failures_of b.entries)
     → Appends second third (plates_of b.limits b.entries)
-    → Appends third fourth (waiting_of b.limits b.entries lines)
+    → Appends third fourth (waiting_of b.limits b.entries at lines)
     → OnOk r (Appends fourth new (missed_of b.entries faults))
-    → OnOk r (Appends old new (told_of (record { limits = limits_of plan; entries = J }) e plan lines faults))
-told-whole r b J e plan lines faults old first second third fourth new is h i j k m =
-    subst (λ (a : History). OnOk r (Appends old new (told_of a e plan lines faults))) is
+    → OnOk r (Appends old new (told_of (record { limits = limits_of plan; entries = J }) e plan at lines faults))
+told-whole r b J e plan at lines faults old first second third fourth new is h i j k m =
+    subst (λ (a : History). OnOk r (Appends old new (told_of a e plan at lines faults))) is
     (told-then r old first new _ _ h (told-then r first second new _ _ i
     (told-then r second third new _ _ j (told-then r third fourth new _ _ k m))))
 
@@ -45,3 +45,9 @@ always (Err e) p = tt
 pub legal-book : (b : History) (J : List Entry) (plan : Plan) → b ≡ record { limits = limits_of plan; entries = J }
     → legal b.limits b.entries ≡ true → legal greatest J ≡ true
 legal-book b J plan is h = legal-greatest plan J (subst (λ (a : History). legal a.limits a.entries ≡ true) is h)
+
+-- what is known of a number goes with what it is in
+pub with-line : {A B : Type 0} (r : Result A B) (L P : ℕ → Type 0) (at : ℕ) → L at → OnOk r (P at)
+    → OnOk r ((n : ℕ) × L n × P n)
+with-line (Ok x) L P at l p = (at, l, p)
+with-line (Err e) L P at l p = tt

@@ -1,5 +1,6 @@
 -- What is told of a run's end
-use Rattle.std.specs.Prelude.{ℕ, List, [], ◌++◌, Result, Ok, Err}
+use Rattle.std.specs.Prelude.{ℕ, List, [], ◌++◌, Option, Result, Ok, Err}
+use Rattle.std.specs.Io.KnownBytes.{Appends}
 use Rattle.cell_types.specs.declared.words.Entry.{Entry}
 use Rattle.cell_types.specs.Limits.{max_entries, max_plates}
 use Rattle.cell_rows.specs.Rows.{rows_of}
@@ -14,7 +15,8 @@ use Rattle.cell_explain.specs.Limit.{limit_of}
 use Rattle.cell_explain.specs.Counts.{laid_back_of, unadmitted_of}
 use Rattle.cell_explain.specs.Failures.{failures_of}
 use Rattle.cell_explain.specs.Plates.{plates_of}
-use Rattle.cell_explain.specs.Waiting.{waiting_of}
+use Rattle.cell_explain.specs.Places.{HasLine}
+use Rattle.cell_explain.specs.Waiting.{lines_done, waiting_of}
 use Rattle.cell_explain.specs.Missed.{missed_of}
 
 -- the greatest limits that any run may have
@@ -40,10 +42,15 @@ abbrev pub run_of : List Entry → End → Plan → List ℕ
 run_of J e plan = limit_of J e plan ++ (unadmitted_of J plan.plates ++ laid_back_of J)
 
 -- what is told of the end of a run by this plan, by its journal and the texts of its two scripts: the run as a whole,
--- the failed machines, the plates that stand in the cell, the first line of the operator's script that isn't done, and
--- the faults that were never reached
-abbrev pub ending_of : List Entry → End → Plan → List ℕ → List ℕ → List ℕ
-ending_of J e plan faults operator =
+-- the failed machines, the plates that stand in the cell, the first line of the operator's script that isn't done and
+-- where it stands, and the faults that were never reached
+abbrev pub ending_of : List Entry → End → Plan → List ℕ → List ℕ → ℕ → List ℕ
+ending_of J e plan faults operator at =
     run_of J e plan ++ (failures_of J ++ (plates_of (limits_of plan) J
-    ++ (waiting_of (limits_of plan) J (script_lines line_of operator)
+    ++ (waiting_of (limits_of plan) J at (script_lines line_of operator)
     ++ missed_of J (script_lines next_fault faults))))
+
+-- that was written, with the line of the first record of the operator's script that isn't done
+abbrev pub TellsEnding : List Entry → End → Plan → List ℕ → List ℕ → Option (List ℕ) → Option (List ℕ) → Type 0
+TellsEnding J e plan faults operator old new =
+    (at : ℕ) × HasLine operator (lines_done J) at × Appends old new (ending_of J e plan faults operator at)

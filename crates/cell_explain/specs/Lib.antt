@@ -12,3 +12,6 @@ pub mod Plates
 pub mod Waiting
 pub mod Missed
 pub mod Endings
+pub mod Facts
+pub mod Places
+pub mod Spots

@@ -1,8 +1,8 @@
 -- What is said of a journal's text
-use Rattle.std.specs.Prelude.{◌≡◌, ◌≢◌, ◌⊎◌, ◌+◌, ℕ, List, [], ◌++◌, length, Option, Some, Result, Ok, Err, ⊤, codes}
+use Rattle.std.specs.Prelude.{◌≡◌, ◌≢◌, ◌⊎◌, ◌+◌, ℕ, List, [], length, Option, Some, Result, Ok, Err, codes}
 use Rattle.std.specs.Prelude.{slice_get}
 use Rattle.std.specs.Io.KnownBytes.{Appends}
-use Rattle.cell_rows.specs.Rows.{rows_of}
+use Rattle.cell_rows.specs.Rows.{Row, rows_of}
 use Rattle.cell_types.specs.declared.words.Entry.{Entry}
 use Rattle.cell_types.specs.declared.words.Totals.{Totals}
 use Rattle.cell_rules.specs.declared.refusal.Refusal.{Refusal}
@@ -12,9 +12,10 @@ use Rattle.cell_audit.specs.Reading.{SpellsFirst}
 use Rattle.cell_output.specs.Watched.{WritesPart}
 use Rattle.cell_audit.specs.Lines.{IsAnswer, lines_of, status_of}
 use Rattle.cell_explain.specs.declared.due.Circumstances.{Circumstances}
-use Rattle.cell_explain.specs.declared.telling.Since.{Since}
-use Rattle.cell_explain.specs.declared.telling.Since.TheVariants as since
 use Rattle.cell_explain.specs.declared.wanted.Trouble.{Trouble}
+use Rattle.cell_types.specs.Records.{read_row}
+use Rattle.cell_explain.specs.Facts.{IsSince}
+use Rattle.cell_explain.specs.Places.{HasLine, HasRecord}
 use Rattle.cell_explain.specs.Sayings.{profile_line, record_line, refused_line}
 
 -- one of these sayings was written
@@ -37,36 +38,31 @@ SaysNothing status saying = (status ≡ 4) × (saying ≡ [])
 abbrev pub SaysRefusal : (List ℕ → Type 0) → ℕ → List ℕ → Type 0
 SaysRefusal says status saying = ((status ≡ 1) × says saying) ⊎ SaysNothing status saying
 
--- a record stands in a text
-abbrev pub StandsIn : List ℕ → List ℕ → Type 0
-StandsIn text bytes = (before : List ℕ) × (after : List ℕ) × (text ≡ before ++ (bytes ++ after))
-
--- what is said of a record that can't be read: its line, its number, itself, and why
-abbrev pub SaysRecord : List ℕ → List ℕ → ℕ → List ℕ → Type 0
-SaysRecord text name number saying =
-    (line : ℕ) × (bytes : List ℕ) × (why : Trouble) × StandsIn text bytes
+-- what is said of a record that can't be read, by its place from 0 and the number that it is told by: its line, its
+-- number, itself, and why
+abbrev pub SaysRecord : List ℕ → List ℕ → ℕ → ℕ → List ℕ → Type 0
+SaysRecord text name place number saying =
+    (line : ℕ) × (bytes : List ℕ) × (why : Trouble) × HasRecord text place line bytes
     × (saying ≡ record_line line name number bytes why)
 
--- since when an entry is refused after a journal: always, or since an entry of the journal, whose number is counted
--- from 1
-abbrev pub IsSince : List Entry → Since → Type 0
-IsSince J since.Opening = ⊤
-IsSince J (since.Entry n e) = (place : ℕ) × (n ≡ place + 1) × (slice_get J place ≡ Some e)
-IsSince J since.Always = ⊤
+-- the record of this number, counted from 0, is the entry's
+abbrev pub IsEntryOf : List Row → ℕ → Entry → Type 0
+IsEntryOf rows number e = (row : Row) × (slice_get rows number ≡ Some row) × (read_row row ≡ Some e)
 
 -- what is said of a refused entry: its line, its number, its record, the refusal, since which of the entries before it,
 -- and what is so beside
 abbrev pub SaysRefused : List ℕ → ℕ → Refusal → List ℕ → Type 0
 SaysRefused text number why saying =
-    (line : ℕ) × (bytes : List ℕ) × (J : List Entry) × (made : Circumstances) × StandsIn text bytes
-    × SpellsFirst J (rows_of text)
-    × (length J + 1 ≡ number) × IsSince J made.since × (saying ≡ refused_line line number bytes why made)
+    (line : ℕ) × (bytes : List ℕ) × (J : List Entry) × (e : Entry) × (made : Circumstances)
+    × HasRecord text number line bytes × SpellsFirst J (rows_of text) × (length J + 1 ≡ number)
+    × IsEntryOf (rows_of text) number e × IsSince J e why made.since
+    × (saying ≡ refused_line line number bytes why made)
 
 -- what is said of a record of a journal that can't be read; record 0 is the profile's
 abbrev pub SaysUnreadable : List ℕ → ℕ → List ℕ → Type 0
 SaysUnreadable text number saying =
-    ((number ≡ 0) × ((line : ℕ) × (saying ≡ profile_line line)))
-    ⊎ ((number ≢ 0) × SaysRecord text (codes "entry") number saying)
+    ((number ≡ 0) × ((line : ℕ) × HasLine text 0 line × (saying ≡ profile_line line)))
+    ⊎ ((number ≢ 0) × SaysRecord text (codes "entry") number number saying)
 
 -- what is said of a text by the audit's answer: the audit's lines where it is legal, and nothing where memory was
 -- refused

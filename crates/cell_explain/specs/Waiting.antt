@@ -71,12 +71,15 @@ task_wait l J (task.Expect k) = refusal_line (first_of l J (Expected k))
 abbrev pub line_wait : BookLimits → List Entry → Line → List ℕ
 line_wait l J line = if holds J line.when then task_wait l J line.task else trigger_wait J line.when
 
--- what is told of the first line that isn't done, where there is one: the number of its record, and what it waits for
-abbrev pub undone_line : BookLimits → List Entry → ℕ → Option Line → List ℕ
-undone_line l J n None = []
-undone_line l J n (Some line) = codes "record "
-    ++ (decimal n ++ (codes " of the operator's script isn't done: " ++ line_wait l J line))
+-- what is told of the first line that isn't done, where there is one: the line of the text, the number of its record,
+-- and what it waits for
+abbrev pub undone_line : BookLimits → List Entry → ℕ → ℕ → Option Line → List ℕ
+undone_line l J at n None = []
+undone_line l J at n (Some line) = codes "line "
+    ++ (decimal at ++ (codes ", record "
+    ++ (decimal n ++ (codes " of the operator's script isn't done: " ++ line_wait l J line))))
 
--- what is told of the script: its first line that isn't done, and what that waits for
-abbrev pub waiting_of : BookLimits → List Entry → List Line → List ℕ
-waiting_of l J lines = undone_line l J (lines_done J + 1) (slice_get lines (lines_done J))
+-- what is told of the script: its first line that isn't done, which stands in this line of its text, and what that
+-- waits for
+abbrev pub waiting_of : BookLimits → List Entry → ℕ → List Line → List ℕ
+waiting_of l J at lines = undone_line l J at (lines_done J + 1) (slice_get lines (lines_done J))

@@ -1,13 +1,14 @@
 //! Why a journal's text is refused.
-ghost use Rattle.std.specs.Prelude.{◌≡◌, ℕ, IfOk, IsErr, Some, string_bytes, true};
+ghost use Rattle.std.specs.Prelude.{◌≡◌, ℕ, IfOk, IfSome, IsErr, Some, string_bytes, true};
+ghost use Rattle.cell_explain.specs.Facts.{IsSince};
 ghost use Rattle.cell_audit.specs.Reading.{IsBefore, SpellsFirst};
 ghost use Rattle.cell_output.specs.Watched.{IsSameWriter, bytes_held, has_refused};
 ghost use Rattle.cell_audit.specs.Lines.{TellsAudit};
-ghost use Rattle.cell_rows.specs.Rows.{current_row, rows_of};
+ghost use Rattle.cell_rows.specs.Rows.{IsOpen, current_row, rows_left, rows_of};
 ghost use Rattle.cell_types.specs.Records.{read_row};
 ghost use Rattle.cell_explain.specs.Explained.{EndsAsAudit};
 ghost use Rattle.cell_explain.specs.Sayings.{refused_line};
-ghost use Rattle.cell_explain.specs.Told.{IsSince, SaysAudit, SaysJournal, SaysRefusal, SaysRefused, SaysUnreadable};
+ghost use Rattle.cell_explain.specs.Told.{IsEntryOf, SaysAudit, SaysJournal, SaysRefusal, SaysRefused, SaysUnreadable};
 ghost use Rattle.cell_explain.specs.Told.{Tells, TellsPart};
 
 use crate::due::{Circumstances, Due, due_of};
@@ -69,26 +70,45 @@ fn entry_of<R: TellsFault>(rows: &RowReader<R>) -> Option<Entry>
     }
 }
 
-// What is read of a text into a book, and the entry of the record at which that ended, if it is one's.
-fn read_again(alloc: Global, text: &[u8]) -> Result<(Audited, Option<Entry>), AllocError>
-    ensures before { IfOk result (λ read. IsBefore read.0.answer read.0.book.entries) }
-    ensures first { IfOk result (λ read. SpellsFirst read.0.book.entries (rows_of text.now)) }
+// The entry of the record of a number, counted from 0, of those that are left; `None` where it is none's, or can't be
+// read.
+fn entry_in<R: TellsFault>(rows: &mut RowReader<R>, number: u32) -> Option<Entry>
+    requires { IsOpen rows.old }
+    ensures { IfSome (rows_left R.remaining rows.old) (λ all. IfSome result (IsEntryOf all number)) }
+{
+    for place in 0..number {
+        match rows.advance() {
+            Ok(true) => {}
+            _ => return None,
+        }
+    }
+    match rows.advance() {
+        Ok(true) => entry_of(rows),
+        _ => None,
+    }
+}
+
+// The entry of the record of a number of a text, counted from 0; `None` where it is none's, or can't be read.
+fn entry_at(alloc: Global, text: &[u8], number: u32) -> Option<Entry>
+    ensures { IfSome result (IsEntryOf (rows_of text.now) number) }
 {
     let mut rows = RowReader::new(alloc, text);
-    let reading = read_rows(alloc, &mut rows)?;
-    Ok((reading, entry_of(&rows)))
+    entry_in(&mut rows, number)
+}
+
+// What is read of a text into a book.
+fn read_again(alloc: Global, text: &[u8]) -> Result<Audited, AllocError>
+    ensures before { IfOk result (λ read. IsBefore read.answer read.book.entries) }
+    ensures first { IfOk result (λ read. SpellsFirst read.book.entries (rows_of text.now)) }
+{
+    let mut rows = RowReader::new(alloc, text);
+    read_rows(alloc, &mut rows)
 }
 
 // Since when it is so that an entry is refused after those of a journal, and what it needs.
-fn circumstances(journal: &Journal, entry: Option<Entry>, why: Refusal) -> Circumstances
-    ensures { IsSince journal.now.entries result.since }
+fn circumstances(journal: &Journal, entry: Entry, why: Refusal) -> Circumstances
+    ensures { IsSince journal.now.entries entry why result.since }
 {
-    let Some(entry) = entry else {
-        return Circumstances {
-            since: Since::Always,
-            due: Due::Nothing,
-        };
-    };
     let left = left_by(journal);
     let refused = entry;
     Circumstances {
@@ -119,11 +139,11 @@ fn refused_line(
 fn say_refused(alloc: Global, text: &[u8], place: u32, why: Refusal) -> Said
     ensures { SaysRefusal (SaysRefused text.now place why) result.status result.text.items }
 {
-    let Ok((reading, entry)) = read_again(alloc, text) else {
+    let Ok(reading) = read_again(alloc, text) else {
         return Said::nothing(alloc);
     };
-    match reading.answer {
-        Err(AuditError::Refused(again, _)) if again == place => {
+    match (reading.answer, entry_at(alloc, text, place)) {
+        (Err(AuditError::Refused(again, _)), Some(entry)) if again == place => {
             let record = record_of(text, place);
             let made = circumstances(reading.book.journal(), entry, why);
             Said::line(

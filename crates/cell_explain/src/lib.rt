@@ -3,6 +3,7 @@
 
 mod due;
 pub mod endings;
+mod facts;
 mod fields;
 mod grammar;
 mod journal;

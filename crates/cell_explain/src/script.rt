@@ -1,10 +1,11 @@
 //! Why a script is refused.
-ghost use Rattle.std.specs.Prelude.{◌≡◌, ℕ, IfOk, IsErr, codes, string_bytes, true, vec_items};
+ghost use Rattle.std.specs.Prelude.{◌≡◌, ◌-◌, ℕ, IfOk, IsErr, codes, string_bytes, true, vec_items};
 ghost use Rattle.std.specs.Result.{result_map_both};
 ghost use Rattle.cell_output.specs.Watched.{IsSameWriter, bytes_held, has_refused};
 ghost use Rattle.cell_sim.specs.Script.{next_fault};
 ghost use Rattle.operator_desk.specs.Lines.{line_of};
 ghost use Rattle.cell_explain.specs.Explained.{EndsAsFaults, EndsAsScript};
+ghost use Rattle.cell_explain.specs.Places.{HasLine};
 ghost use Rattle.cell_explain.specs.Sayings.{good_line, long_line};
 ghost use Rattle.cell_explain.specs.Scripts.{SaysAnswer, SaysScript};
 ghost use Rattle.cell_explain.specs.Told.{SaysRecord, Tells, TellsPart};
@@ -35,7 +36,7 @@ fn good_line(alloc: Global, name: &str, count: usize) -> Result<String, AllocErr
 
 // The line of a script with more lines than it may have: where the first of these begins.
 fn long_line(alloc: Global, text: &[u8]) -> Result<String, AllocError>
-    ensures { IfOk result (λ line. (n : ℕ) × (string_bytes line ≡ long_line n)) }
+    ensures { IfOk result (λ line. (n : ℕ) × HasLine text.now 1000 n × (string_bytes line ≡ long_line n)) }
 {
     let line = record_of(text, MAX_LINES).line;
     format!(in alloc; "line {line}: more than 1000 lines\n")
@@ -59,7 +60,7 @@ fn trouble_of(kind: Kind, record: &[u8]) -> Trouble {
 
 // The line of a record that is no line of a script; records are counted from 1.
 fn unread_line(alloc: Global, text: &[u8], kind: Kind, number: u32) -> Result<String, AllocError>
-    ensures { IfOk result (λ line. SaysRecord text.now (codes "record") number (string_bytes line)) }
+    ensures { IfOk result (λ line. SaysRecord text.now (codes "record") (number - 1) number (string_bytes line)) }
 {
     let record = record_of(text, number.saturating_sub(1));
     let trouble = trouble_of(kind, record.bytes);

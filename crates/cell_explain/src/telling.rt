@@ -1,14 +1,18 @@
 //! Which entry made it so that another is refused.
-ghost use Rattle.std.specs.Prelude.{◌≡◌, length, take, true};
+ghost use Rattle.std.specs.Prelude.{◌≡◌, false, length, true};
 ghost use Rattle.cell_types.specs.After.{after};
-ghost use Rattle.cell_journal.specs.Snapshots.{HasRoom, seen, state_of};
-ghost use Rattle.cell_explain.specs.Told.{IsSince};
+ghost use Rattle.cell_journal.specs.Snapshots.{seen, state_of};
+ghost use Rattle.cell_types.specs.Entries.{actor_of};
+ghost use Rattle.cell_explain.specs.Facts.{IsLastOf, IsSince, IsSinceNamed, NamesPlate, fact_of, full_length};
+ghost use Rattle.cell_explain.specs.Facts.{not_held, plate_in, station_of, wrong_plate};
+ghost use Rattle.cell_types.specs.Parts.{parts_of};
 
+use crate::facts::{Fact, admitted, since_when};
 use cell_journal::{Journal, Snapshot};
 use cell_sentences::EntryDeed;
 use cell_types::{
-    Actor, Axis, AxisState, Belt, Colour, Entry, MAX_ENTRIES, Machine, Object, PlateId, Station,
-    Zone, actor_of, motion_to, parts_of, press_of, station_of_arm,
+    Actor, Colour, Entry, MAX_ENTRIES, Object, PlateId, Station, Zone, actor_of, motion_to,
+    parts_of, press_of, station_of_arm,
 };
 use plate_book::Refusal;
 use std::fmt;
@@ -38,106 +42,41 @@ impl fmt::Display for Since {
     }
 }
 
-// What the first entries of a journal leave, for which another entry is refused.
-#[derive(Clone, Copy)]
-enum Fact {
-    Light(Belt, Colour),
-    Failed(Machine, bool),
-    Asked(Machine),
-    Held(Zone, Option<Machine>),
-    NotHeldBy(Zone, Machine),
-    Stands(Axis, AxisState),
-    Plate(Station, Option<PlateId>),
-    Expected(Option<PlateId>),
-    Admitted(u32),
-    /// There are so many entries or more.
-    Entries(u32),
-}
-
-impl Fact {
-    fn holds(&self, state: &Snapshot) -> bool {
-        match *self {
-            Fact::Light(belt, colour) => state.lamp(belt) == colour,
-            Fact::Failed(machine, failed) => state.failed(machine) == failed,
-            Fact::Asked(machine) => state.asked(machine),
-            Fact::Held(zone, holder) => state.holder(zone) == holder,
-            Fact::NotHeldBy(zone, machine) => state.holder(zone) != Some(machine),
-            Fact::Stands(axis, pose) => state.pose(axis) == pose,
-            Fact::Plate(station, plate) => state.plate_at(station) == plate,
-            Fact::Expected(plate) => state.expected() == plate,
-            Fact::Admitted(count) => state.totals.admitted == count,
-            Fact::Entries(count) => state.totals.entries >= count,
-        }
-    }
-}
-
-// Whether one more entry can be counted.
-#[tactic(auto, unfolding(cell_journal::specs::Snapshots::state_of))]
-fn has_room(state: &Snapshot) -> bool
-    ensures { result ≡ true → HasRoom (state_of state.now) }
-{
-    state.totals.entries < u32::MAX
-        && state.totals.admitted < u32::MAX
-        && state.totals.forged < u32::MAX
-        && state.totals.quarantined < u32::MAX
-        && state.totals.delivered < u32::MAX
-        && state.totals.reinstated < u32::MAX
-}
-
-// Applies the effect of an entry. A journal is shorter than the counts reach.
-fn step(state: &mut Snapshot, entry: Entry) {
-    if has_room(state) {
-        state.change(entry);
-    }
-}
-
 /// What all entries of a journal leave, of which 255 at most are replayed.
 pub(crate) fn left_by(journal: &Journal) -> Snapshot
-    ensures { state_of result ≡ seen (after (take (length journal.now.entries) journal.now.entries)) }
+    ensures { state_of result ≡ seen (after journal.now.entries) }
 {
     let (left, _) = journal.state_at(journal.len());
     left
 }
 
-// Since when a fact holds that the entries of a journal leave.
-fn since_when(journal: &Journal, fact: &Fact) -> Since
-    ensures { IsSince journal.now.entries result }
-{
-    let mut state = Snapshot::opening();
-    let mut since = Since::Opening;
-    let mut held = fact.holds(&state);
-    for place in 0..journal.len() {
-        if let Some(entry) = journal.get(place) {
-            let booked = entry;
-            step(&mut state, entry);
-            let holds = fact.holds(&state);
-            if holds && !held {
-                since = Since::Entry(place + 1, booked);
-            }
-            held = holds;
-        }
-    }
-    since
-}
-
 // The last entry that names a plate.
 fn last_of(journal: &Journal, plate: PlateId) -> Since
-    ensures { IsSince journal.now.entries result }
+    ensures { IsLastOf journal.now.entries (length journal.now.entries) plate result }
 {
     let mut since = Since::Always;
     for place in 0..journal.len() {
-        if let Some(entry) = journal.get(place) {
-            let booked = entry;
-            if plate_of(entry) == Some(plate) {
-                since = Since::Entry(place + 1, booked);
-            }
+        let entry = journal.at(place);
+        let booked = entry;
+        if names(entry, plate) {
+            since = Since::Entry(place + 1, booked);
         }
     }
     since
 }
 
+// Whether an entry names a plate.
+fn names(entry: Entry, plate: PlateId) -> bool
+    ensures yes { result ≡ true → NamesPlate plate entry }
+    ensures no { result ≡ false → NamesPlate plate entry → ⊥ }
+{
+    plate_of(entry) == Some(plate)
+}
+
 // The plate that an entry names.
-fn plate_of(entry: Entry) -> Option<PlateId> {
+fn plate_of(entry: Entry) -> Option<PlateId>
+    ensures { result ≡ plate_in (parts_of entry).object }
+{
     let object = parts_of(entry).object;
     match object {
         Object::Plate(plate) => Some(plate),
@@ -146,7 +85,9 @@ fn plate_of(entry: Entry) -> Option<PlateId> {
 }
 
 /// The station at which an entry wants its plate to be.
-pub(crate) fn station_of(entry: Entry) -> Option<Station> {
+pub(crate) fn station_of(entry: Entry) -> Option<Station>
+    ensures { result ≡ station_of entry }
+{
     match entry {
         Entry::Conveyed { axis, dest, .. } => Some(motion_to(axis, dest)?.from),
         Entry::Forged { press, .. } => Some(press_of(press)?.station),
@@ -158,9 +99,11 @@ pub(crate) fn station_of(entry: Entry) -> Option<Station> {
 }
 
 // For which fact an entry is refused that names the wrong plate.
-fn wrong_plate(entry: Entry, state: &Snapshot) -> Option<Fact> {
+fn wrong_plate(entry: Entry, state: &Snapshot) -> Option<Fact>
+    ensures { result ≡ wrong_plate entry (state_of state.now) }
+{
     match entry {
-        Entry::Admitted { .. } => Some(Fact::Admitted(state.totals.admitted)),
+        Entry::Admitted { .. } => Some(Fact::Admitted(admitted(state))),
         Entry::Reinstated { .. } => Some(Fact::Expected(state.expected())),
         _ => {
             let station = station_of(entry)?;
@@ -170,7 +113,9 @@ fn wrong_plate(entry: Entry, state: &Snapshot) -> Option<Fact> {
 }
 
 // For which fact an entry is refused that its machine doesn't hold a zone.
-fn not_held(entry: Entry, zone: Zone) -> Option<Fact> {
+fn not_held(entry: Entry, zone: Zone) -> Option<Fact>
+    ensures { result ≡ not_held zone (actor_of entry) }
+{
     match actor_of(entry) {
         Actor::Machine(machine) => Some(Fact::NotHeldBy(zone, machine)),
         Actor::Operator => None,
@@ -178,7 +123,9 @@ fn not_held(entry: Entry, zone: Zone) -> Option<Fact> {
 }
 
 // How many entries a journal has that is full for an entry.
-fn full_length(entry: Entry) -> u32 {
+fn full_length(entry: Entry) -> u32
+    ensures { result ≡ full_length entry }
+{
     match entry {
         Entry::Declared { .. } => MAX_ENTRIES + 6,
         _ => MAX_ENTRIES,
@@ -186,10 +133,12 @@ fn full_length(entry: Entry) -> u32 {
 }
 
 // For which fact an entry is refused after entries that leave this; `None` where it is for none of these facts.
-fn fact_of(why: Refusal, entry: Entry, state: &Snapshot) -> Option<Fact> {
+fn fact_of(why: Refusal, entry: Entry, state: &Snapshot) -> Option<Fact>
+    ensures { result ≡ fact_of why entry (state_of state.now) }
+{
     match why {
         Refusal::JournalFull => Some(Fact::Entries(full_length(entry))),
-        Refusal::PlateLimit => Some(Fact::Admitted(state.totals.admitted)),
+        Refusal::PlateLimit => Some(Fact::Admitted(admitted(state))),
         Refusal::MachineFailed(machine) | Refusal::OwnerFailed(machine) => {
             Some(Fact::Failed(machine, true))
         }
@@ -212,7 +161,7 @@ fn fact_of(why: Refusal, entry: Entry, state: &Snapshot) -> Option<Fact> {
 
 // Since when it is so that no fact tells of.
 fn since_named(journal: &Journal, entry: Entry, why: Refusal) -> Since
-    ensures { IsSince journal.now.entries result }
+    ensures { IsSinceNamed journal.now.entries entry why result }
 {
     match (why, entry) {
         (Refusal::WrongPlate | Refusal::NotReturnable, Entry::Expected { plate }) => {
@@ -225,7 +174,8 @@ fn since_named(journal: &Journal, entry: Entry, why: Refusal) -> Since
 /// Since when it is so that an entry is refused after those of a journal, which leave this. It is told in a pass over
 /// the journal.
 pub(crate) fn told(journal: &Journal, entry: Entry, why: Refusal, left: &Snapshot) -> Since
-    ensures { IsSince journal.now.entries result }
+    requires { state_of left.now ≡ seen (after journal.now.entries) }
+    ensures { IsSince journal.now.entries entry why result }
 {
     let refused = entry;
     match fact_of(why, entry, left) {

@@ -2,13 +2,13 @@
 ghost use Rattle.std.specs.Prelude.{◌≡◌, IfOk, OnOk, true};
 ghost use Rattle.std.specs.Io.KnownBytes.{Appends};
 ghost use Rattle.cell_rules.specs.Legal.{legal};
-ghost use Rattle.cell_explain.specs.Endings.{ending_of, greatest, limits_of, run_of};
+ghost use Rattle.cell_explain.specs.Endings.{TellsEnding, greatest, limits_of, run_of};
 
 use crate::endings::counts::{write_laid_back, write_unadmitted};
 use crate::endings::failures::write_failures;
 use crate::endings::faults::write_faults;
 use crate::endings::limit::write_limit;
-use crate::endings::operator::write_operator;
+use crate::endings::operator::{undone_at, write_operator};
 use crate::endings::plates::write_plates;
 use cell_journal::Journal;
 use cell_ports::Plan;
@@ -45,8 +45,8 @@ fn write_run<W: Write>(writer: &mut W, book: &Book, end: End, plan: &Plan) -> Re
 /// Writes why a run by this plan, which left this journal, had this end: the limit that ended it, where one did; how
 /// many plates weren't admitted, and how many were laid back; a line for each machine that is failed, with its cause
 /// and its entry; for each plate that stands in the cell, with the entry by which it would go on and what refuses that;
-/// for the first record of the operator's script that isn't done, with what it waits for; and for each fault whose
-/// motion was never reached.
+/// for the first record of the operator's script that isn't done, with its line and what it waits for; and for each
+/// fault whose motion was never reached.
 ///
 /// The scripts are those of the run; one that can't be read has no lines. An error is the writer's, or that memory was
 /// refused, or that the journal isn't legal by the plan's limits.
@@ -60,8 +60,8 @@ pub fn write_ending<W: Write>(
     writer: &mut W,
 ) -> Result<()>
     // What is written is the ending of the journal, the run's end and plan, and the scripts.
-    ensures text { OnOk result (Appends (W.contents writer.old) (W.contents writer.new)
-        (ending_of journal.now.entries end plan.now faults.now operator.now)) }
+    ensures text { OnOk result (TellsEnding journal.now.entries end plan.now faults.now operator.now
+        (W.contents writer.old) (W.contents writer.new)) }
     // It is written of legal journals alone.
     ensures legal { OnOk result (legal greatest journal.now.entries ≡ true) }
     // They are legal by the plan's limits too.
@@ -72,6 +72,7 @@ pub fn write_ending<W: Write>(
     write_run(writer, &book, end, plan)?;
     write_failures(writer, &book)?;
     write_plates(writer, &book)?;
-    write_operator(alloc, writer, &book, operator)?;
+    let at = undone_at(journal, operator);
+    write_operator(alloc, writer, &book, operator, at)?;
     write_faults(alloc, writer, &book, faults)
 }

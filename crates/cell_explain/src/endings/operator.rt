@@ -6,8 +6,10 @@ ghost use Rattle.cell_rules.specs.Legal.{first_of};
 ghost use Rattle.cell_explain.specs.Waiting.{is_operator, line_wait, lines_done, refusal_line, task_wait, trigger_wait};
 ghost use Rattle.cell_explain.specs.Waiting.{undone_line, waiting_of};
 ghost use Rattle.cell_explain.specs.Endings.{script_lines};
+ghost use Rattle.cell_explain.specs.Places.{HasLine};
 
 use crate::endings::words::{are, plates, were};
+use crate::places::record_of;
 use cell_journal::Journal;
 use cell_rows::{LineError, read_script};
 use cell_sentences::{RefusalSentence, station_name, the_machine};
@@ -117,21 +119,22 @@ fn write_wait<W: Write>(writer: &mut W, book: &Book, line: Line) -> Result<()>
     }
 }
 
-// Writes the line that isn't done, where there is one, by the number of its record.
+// Writes the line that isn't done, where there is one, by the line of the text and the number of its record.
 fn write_undone<W: Write>(
     writer: &mut W,
     book: &Book,
+    at: usize,
     number: u64,
     line: Option<Line>,
 ) -> Result<()>
     ensures { OnOk result (Appends (W.contents writer.old) (W.contents writer.new)
-        (undone_line book.now.limits book.now.entries number line)) }
+        (undone_line book.now.limits book.now.entries at number line)) }
 {
     match line {
         Some(line) => {
             write!(
                 writer,
-                "record {number} of the operator's script isn't done: "
+                "line {at}, record {number} of the operator's script isn't done: "
             )?;
             write_wait(writer, book, line)
         }
@@ -139,16 +142,24 @@ fn write_undone<W: Write>(
     }
 }
 
-/// Writes the first record of the operator's script that isn't done, by its number, and what it waits for. The records
-/// are done in their order, each with an entry of the operator's.
+/// The line of the operator's script in which the first record begins that isn't done.
+pub(crate) fn undone_at(journal: &Journal, operator: &[u8]) -> usize
+    ensures { HasLine operator.now (lines_done journal.now.entries) result }
+{
+    record_of(operator, lines_done(journal)).line
+}
+
+/// Writes the first record of the operator's script that isn't done, by its line and its number, and what it waits for.
+/// The records are done in their order, each with an entry of the operator's.
 pub(crate) fn write_operator<W: Write>(
     alloc: Global,
     writer: &mut W,
     book: &Book,
     operator: &[u8],
+    at: usize,
 ) -> Result<()>
     ensures { OnOk result (Appends (W.contents writer.old) (W.contents writer.new)
-        (waiting_of book.now.limits book.now.entries (script_lines line_of operator.now))) }
+        (waiting_of book.now.limits book.now.entries at (script_lines line_of operator.now))) }
 {
     let lines = match read_script::<Line>(alloc, operator) {
         Ok(lines) => lines,
@@ -157,5 +168,5 @@ pub(crate) fn write_operator<W: Write>(
     };
     let done = lines_done(book.journal());
     let number = u64::from(done) + 1;
-    write_undone(writer, book, number, lines.get(done as usize).copied())
+    write_undone(writer, book, at, number, lines.get(done as usize).copied())
 }

@@ -4,4 +4,5 @@ use Rattle.cell_explain.proofs.Parts.{some-line}
 use Rattle.cell_explain.proofs.script.long_line.Goals as goal
 
 pub returns : goal.returns
-returns c = some-line c.format.result string_bytes c.record_of.result.line c.format.ensures.ok
+returns c = some-line c.format.result string_bytes c.args.text.now _ c.record_of.result.line
+    c.record_of.ensures c.format.ensures.ok

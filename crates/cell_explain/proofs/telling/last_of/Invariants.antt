@@ -1,7 +1,7 @@
 -- The loop that searches the journal for the last entry on a plate
-use Rattle.cell_explain.specs.Told.{IsSince}
+use Rattle.cell_explain.specs.Facts.{IsLastOf}
 use Rattle.cell_explain.proofs.telling.last_of.Given as goal
 
--- what is answered so far names no entry, or one with the number at which it stands
+-- what is answered so far is the last of the entries so far that names the plate
 abbrev pub invariant-loop-place : goal.invariant-loop-place
-invariant-loop-place l = IsSince l.journal.entries l.since
+invariant-loop-place l = IsLastOf l.journal.entries l.place l.plate l.since
