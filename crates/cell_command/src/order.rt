@@ -1,13 +1,15 @@
 //! The words of the command line.
-ghost use Rattle.std.specs.Prelude.{IfOk, IfSome, codes, map};
-ghost use Rattle.clap.specs.Kinds.{FailsBy};
+ghost use Rattle.std.specs.Prelude.{◌≡◌, IfOk, IfSome, [], ◌∷◌, codes, map};
+ghost use Rattle.clap.specs.Kinds.{FailsBy, HasKind};
 ghost use Rattle.clap.specs.Words.{fault_of, found_of, rows_of};
 ghost use Rattle.cell_command.specs.Shape.{cellctl};
 ghost use Rattle.cell_command.specs.Orders.{Fits, HasAnyValues, HasFlag, HasPath, HasPaths, HasValue, HasValues};
 ghost use Rattle.cell_command.specs.Orders.{IsDriven, IsExplained, IsExplored, IsMeasured, IsOrdered, IsRun, IsShown};
 ghost use Rattle.cell_command.specs.Orders.{IsSwept};
+ghost use Rattle.cell_command.specs.Refusals.{refusals, wants_own_help};
 
 use crate::command::command;
+use clap::error::ErrorKind;
 use clap::{ArgMatches, Error};
 use std::alloc::{AllocError, Global};
 
@@ -322,13 +324,9 @@ fn order_of<'a>(alloc: Global, name: &str, matches: &ArgMatches<'a>) -> Option<O
     }
 }
 
-/// Reads the words of the command line, of which the first is the program's name.
-///
-/// The error is clap's: words that are no command, a request for help, or want of memory.
-pub fn read_words<'a>(alloc: Global, words: &'a [&'a str]) -> Result<Order<'a>, Error>
-    // An order is that of the command which clap matches in the words.
+// The order of the command that clap matches in the words, or clap's error.
+fn read_command<'a>(alloc: Global, words: &'a [&'a str]) -> Result<Order<'a>, Error>
     ensures order { IfOk result (IsOrdered (map (λ w. w.now) words.now)) }
-    // It comes only where clap finds no fault in the words, and an error is the first fault's, or memory's.
     ensures fault { FailsBy (fault_of cellctl (map (λ w. w.now) words.now)) result }
 {
     let matches = command(alloc)?.try_get_matches_from(words)?;
@@ -339,5 +337,47 @@ pub fn read_words<'a>(alloc: Global, words: &'a [&'a str]) -> Result<Order<'a>, 
             None => Err(Error::from(AllocError)),
         },
         None => Err(Error::from(AllocError)),
+    }
+}
+
+// Whether the words ask for the help of `help`.
+fn wants_own_help(words: &[&str]) -> bool
+    ensures { result ≡ wants_own_help (map (λ w. w.now) words.now) }
+{
+    match words {
+        [_, command, wanted] => { *command == "help" && (*wanted == "--help" || *wanted == "-h") }
+        _ => false,
+    }
+}
+
+// The help of `help`, as clap gives it, or want of memory.
+fn own_help(alloc: Global) -> Error
+    ensures { HasKind (ErrorKind.DisplayHelp ∷ []) result }
+{
+    let Err(help) = read_command(alloc, &["cellctl", "help", "help"]) else {
+        return Error::from(AllocError);
+    };
+    if help.kind() == ErrorKind::DisplayHelp {
+        help
+    } else {
+        // clap gives nothing else for these words.
+        Error::from(AllocError)
+    }
+}
+
+/// Reads the words of the command line, of which the first is the program's name.
+///
+/// The error is clap's: words that are no command, a request for help, or want of memory.
+pub fn read_words<'a>(alloc: Global, words: &'a [&'a str]) -> Result<Order<'a>, Error>
+    // An order is that of the command which clap matches in the words.
+    ensures order { IfOk result (IsOrdered (map (λ w. w.now) words.now)) }
+    // It comes only where clap finds no fault in the words, and an error is the first fault's, or memory's. `help` that
+    // is asked for its own help gives that, or memory's.
+    ensures fault { FailsBy (refusals (map (λ w. w.now) words.now)) result }
+{
+    if wants_own_help(words) {
+        Err(own_help(alloc))
+    } else {
+        read_command(alloc, words)
     }
 }

@@ -1,29 +1,37 @@
 -- What the program prints for settings, and the status with which it ends
 use Rattle.std.specs.Prelude.{◌≡◌, ◌/◌, ◌%◌, ◌==◌, ◌||◌, ℕ, Bool, List, [], ◌∷◌, ◌++◌, Option, Result, Ok, Err, map}
-use Rattle.std.specs.Prelude.{slice_index, nat_lt, if◌then◌else◌, codes}
+use Rattle.std.specs.Prelude.{slice_index, if◌then◌else◌, codes, flat_map, encode_utf8}
+use Rattle.std.specs.Char.{is_control}
+use Rattle.std.specs.Int.{is_in_range}
+use Rattle.std.specs.Str.{chars}
 use Rattle.std.specs.Io.KnownBytes.{Appends}
-use Rattle.std.specs.List.{concat}
 use Rattle.cell_output.specs.Watched.{WritesPart}
 use Rattle.cell_settings.specs.Settings.{AnswersText, Numbers}
 use Rattle.cell_settings.specs.declared.error.SettingsError.{SettingsError}
 use Rattle.cell_settings.specs.declared.error.SettingsError.TheVariants as error
 
--- the control characters of ASCII
-abbrev pub is_control : ℕ → Bool
-is_control byte = nat_lt byte 32 || byte == 127
+-- whether a character is printed as an escape: a control character, or one that parts lines or turns the direction of
+-- text
+abbrev pub is_escaped : ℕ → Bool
+is_escaped c = is_control c || (c == 0x061C || (is_in_range 0x200E 0x200F c || (is_in_range 0x2028 0x202E c
+    || is_in_range 0x2066 0x2069 c)))
 
 -- the digit of a number below 16
 abbrev pub hex_digit : ℕ → ℕ
 hex_digit n = slice_index (codes "0123456789ABCDEF") n
 
--- a control character as TOML's escape of it, by four digits, and another byte as it stands
-abbrev pub escaped_byte : ℕ → List ℕ
-escaped_byte byte = if is_control byte then codes "\\u00" ++ hex_digit (byte / 16) ∷ hex_digit (byte % 16)
-    ∷ [] else byte ∷ []
+-- a character's escape in TOML, by four digits
+abbrev pub escape : ℕ → List ℕ
+escape c = codes "\\u" ++ hex_digit (c / 4096 % 16) ∷ hex_digit (c / 256 % 16) ∷ hex_digit (c / 16 % 16)
+    ∷ hex_digit (c % 16) ∷ []
 
--- a path as it is printed, byte by byte
+-- such a character as its escape, and another one as it stands
+abbrev pub escaped_char : ℕ → List ℕ
+escaped_char c = if is_escaped c then escape c else encode_utf8 c
+
+-- a path as it is printed, character by character
 abbrev pub escaped : List ℕ → List ℕ
-escaped path = concat (map escaped_byte path)
+escaped path = flat_map escaped_char (chars path)
 
 -- the line of an error that names a path
 abbrev pub path_line : List ℕ → List ℕ → List ℕ

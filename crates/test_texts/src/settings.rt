@@ -114,8 +114,8 @@ const FIRST_FAULTS: [Case; 9] = [
     ),
 ];
 
-// A control character is printed as its escape.
-const ESCAPED: [Case; 6] = [
+// A control character is printed as its escape, and so is one that parts lines or turns the direction of text.
+const ESCAPED: [Case; 9] = [
     (
         b"\"x\\nsettings ok\" = 1",
         b"settings UnknownKey x\\u000Asettings ok\n",
@@ -134,18 +134,38 @@ const ESCAPED: [Case; 6] = [
         b"[watch.arm_one]\n\"\\n\" = 3",
         b"settings UnknownKey watch.arm_one.\\u000A\n",
     ),
+    (
+        b"\"\\u0080\\u009B31m\\u009F\" = 1",
+        b"settings UnknownKey \\u0080\\u009B31m\\u009F\n",
+    ),
+    (
+        b"[watch.\"\xE2\x80\xAEpress\"]\nleave = 3",
+        b"settings UnknownKey watch.\\u202Epress\n",
+    ),
+    (
+        b"\"\\u061C\\u200E\\u200F\\u2028\\u2029\\u202A\\u202E\\u2066\\u2069\" = 1",
+        b"settings UnknownKey \\u061C\\u200E\\u200F\\u2028\\u2029\\u202A\\u202E\\u2066\\u2069\n",
+    ),
 ];
 
 // All other characters are printed as they stand.
-const AS_THEY_STAND: [Case; 4] = [
+const AS_THEY_STAND: [Case; 6] = [
     (
         b"\"caf\xC3\xA9 \xE2\x82\xAC\" = 1",
         b"settings UnknownKey caf\xC3\xA9 \xE2\x82\xAC\n",
     ),
     (b"'a\\nb\\u000A' = 1", b"settings UnknownKey a\\nb\\u000A\n"),
     (
-        b"\" ~.\\\"\\u0080\" = 1",
-        b"settings UnknownKey  ~.\"\xC2\x80\n",
+        b"\" ~.\\\"\\u00A0\" = 1",
+        b"settings UnknownKey  ~.\"\xC2\xA0\n",
+    ),
+    (
+        b"\"\\u061B\\u061D\\u200D\\u2010\" = 1",
+        b"settings UnknownKey \xD8\x9B\xD8\x9D\xE2\x80\x8D\xE2\x80\x90\n",
+    ),
+    (
+        b"\"\\u2027\\u202F\\u2065\\u206A\" = 1",
+        b"settings UnknownKey \xE2\x80\xA7\xE2\x80\xAF\xE2\x81\xA5\xE2\x81\xAA\n",
     ),
     (b"\"\" = 1", b"settings UnknownKey \n"),
 ];

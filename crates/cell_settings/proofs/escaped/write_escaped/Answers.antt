@@ -1,22 +1,36 @@
--- Where a write is refused, the pieces of the bytes before are written whole
-use Rattle.std.proofs.Common.{◌∙◌, ap, refl, sym}
-use Rattle.cell_output.proofs.Pieces.{part-after, piece-after, pieces-split}
-use Rattle.cell_settings.specs.Checked.{escaped, escaped_byte}
+-- Where a write is refused, the characters before are written whole
+use Rattle.std.proofs.Common.{◌++◌, ◌∙◌, refl}
+use Rattle.std.proofs.KnownBytes.{Appends-trans}
+use Rattle.std.proofs.lemmas.List.{nil_from_length}
+use Rattle.std.proofs.lemmas.Str.{IsUtf8-past_char}
+use Rattle.cell_output.proofs.Pieces.{part-after}
+use Rattle.cell_settings.specs.Checked.{escaped_char}
+use Rattle.cell_settings.proofs.Escapes.{escaped-end, escaped-more, escaped-split}
 use Rattle.cell_settings.proofs.escaped.write_escaped.Goals as goal
 
-pub returns-in_err-write_byte-clause-part : goal.returns-in_err-write_byte-clause-part
-returns-in_err-write_byte-clause-part g c = λ failed.
-    let bytes = c.as_bytes-byte-items.result.now in
-    part-after _ _ _ _ _ _ _ (ap escaped (sym (c.as_bytes-byte-items.ensures.value ∙ c.as_str.ensures))
-    ∙ pieces-split escaped_byte bytes c.loop-byte.byte-index _ c.loop-byte-test.true)
-    c.loop-byte.invariant.bytes (c.in_err-write_byte.ensures.part refl)
+pub returns-in_err-write_char-clause-part : goal.returns-in_err-write_char-clause-part
+returns-in_err-write_char-clause-part g c = λ failed.
+    let inv = c.loop-c.invariant in
+    part-after _ _ _ inv.bytes.0 _ _ _
+    (escaped-split _ _ _ c.in-Some.c _ inv.utf8 c.in-Some.ensures.steps.0 inv.bytes.2)
+    inv.bytes.1 (c.in_err-write_char.ensures.part refl)
 
-pub loop-byte-preserved : goal.loop-byte-preserved
-loop-byte-preserved g c =
-    let inv = c.loop-byte.invariant in
+pub loop-c-preserved : goal.loop-c-preserved
+loop-c-preserved g c =
+    let inv = c.loop-c.invariant in
+    let parts = c.in-Some.ensures.steps.0 in
     record {
-      writer = c.in_ok-write_byte.ensures.writer ∙ inv.writer;
-      bytes = piece-after _ _ _ escaped_byte c.as_bytes-byte-items.result.now c.loop-byte.byte-index _
-          c.loop-byte-test.true inv.bytes c.in_ok-write_byte.ensures.whole;
-      same = c.in_ok-write_byte.ensures.same ∙ inv.same;
+      utf8 = IsUtf8-past_char _ _ _ inv.utf8 parts;
+      writer = c.in_ok-write_char.ensures.writer ∙ inv.writer;
+      bytes = (
+        inv.bytes.0 ++ escaped_char c.in-Some.c,
+        Appends-trans _ _ _ _ _ inv.bytes.1 c.in_ok-write_char.ensures.whole,
+        escaped-more _ _ _ _ _ inv.utf8 parts inv.bytes.2,
+      );
+      same = c.in_ok-write_char.ensures.same ∙ inv.same;
     }
+
+pub returns-clause-whole : goal.returns-clause-whole
+returns-clause-whole g c =
+    let inv = c.loop-c.invariant in
+    escaped-end _ _ _ _ _ (nil_from_length _ c.in-None.ensures.steps.0.0) inv.bytes.2 inv.bytes.1

@@ -4,7 +4,7 @@ use Rattle.clap.specs.Kinds.{HasKind}
 use Rattle.clap.specs.Words.{App, fault_of, found_of, is_simple, is_simple_and_free, rows_of, subcommand_of}
 use Rattle.clap.specs.Words.{subcommand_rows_of}
 use Rattle.cell_command.proofs.Facts.{cellctl-free, cellctl-simple, joined}
-use Rattle.cell_command.proofs.order.read_words.Goals as goal
+use Rattle.cell_command.proofs.order.read_command.Goals as goal
 
 pub returns-in-Some-order_of-clause-order : goal.returns-in-Some-order_of-clause-order
 returns-in-Some-order_of-clause-order c =
