@@ -1,8 +1,7 @@
 //! What is told of each run of a sweep.
 ghost use Rattle.std.specs.Prelude.{◌≡◌, IfOk};
-ghost use Rattle.cell_explain.specs.Endings.{ending_of};
 ghost use Rattle.cell_sweep.specs.Cases.{script_of};
-ghost use Rattle.cell_sweep.specs.Rows.{IsToldOf, first_line};
+ghost use Rattle.cell_sweep.specs.Rows.{IsToldOf, IsWait, first_line};
 
 use crate::runs::Ran;
 use cell_explain::endings::write_ending;
@@ -55,9 +54,8 @@ fn first_line(text: &[u8]) -> &[u8]
 
 // The first line of what is told of a run's end.
 fn wait_of(alloc: Global, ran: &Ran, faults: &[u8], operator: &[u8]) -> io::Result<Vec<u8>>
-    ensures { IfOk result (λ line. line.items
-        ≡ first_line (ending_of ran.now.outcome.book.entries ran.now.outcome.end ran.now.plan faults.now
-        operator.now)) }
+    ensures { IfOk result (λ line. IsWait ran.now.outcome.book.entries ran.now.outcome.end ran.now.plan faults.now
+        operator.now line.items) }
 {
     let mut text = Vec::new(alloc);
     let outcome = &ran.outcome;
