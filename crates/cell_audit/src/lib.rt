@@ -16,6 +16,7 @@ pub use error::{AuditError, MigrateError};
 pub use judge::{audit, audit_rows, audit_text};
 pub use lines::{
     audit_lines, audit_lines_watched, audit_rows_watched, migrate_lines, migrate_rows_watched,
+    write_answer,
 };
 pub use migration::{migrate, migrate_watched};
 pub use profile::Profile;

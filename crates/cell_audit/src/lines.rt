@@ -4,8 +4,9 @@ ghost use Rattle.std.specs.Io.KnownBytes.{Appends};
 ghost use Rattle.cell_rows.specs.Rows.{IsOpen, device_failed, rows_left};
 ghost use Rattle.cell_audit.specs.Migrated.{rows_in};
 ghost use Rattle.cell_output.specs.Watched.{IsSameWriter, WritesPart, bytes_held, has_refused};
-ghost use Rattle.cell_audit.specs.Lines.{StopsMigration, TellsAudit, TellsMigration, TellsPart, TellsPartOfRows};
-ghost use Rattle.cell_audit.specs.Lines.{TellsRows, WritesAnswer, lines_of, refusal_line, totals_lines};
+ghost use Rattle.cell_audit.specs.Lines.{MigratesSome, StopsMigration, TellsAudit, TellsMigration, TellsPart};
+ghost use Rattle.cell_audit.specs.Lines.{TellsPartOfRows, TellsRows, TellsSome, WritesAnswer, lines_of, refusal_line};
+ghost use Rattle.cell_audit.specs.Lines.{totals_lines};
 
 use crate::error::{AuditError, MigrateError};
 use crate::judge::audit_rows;
@@ -98,16 +99,18 @@ fn write_refusal<W: Write>(
     }
 }
 
-// Writes the lines of an answer, and gives its status.
-fn write_answer<W: Write>(
+/// Writes the lines of an audit's answer, and gives its status.
+pub fn write_answer<W: Write>(
     writer: &mut WatchedWriter<'_, W>,
     answer: Result<(u8, Totals), AuditError>,
 ) -> Result<u8, WriteFault>
     ensures writer { IsSameWriter writer.old writer.new }
     ensures whole { IfOk result (WritesAnswer (bytes_held W.contents writer.old) (bytes_held W.contents writer.new)
         answer) }
+    // After an error a first part of the lines was written, and not all.
     ensures part { IsErr result → WritesPart (bytes_held W.contents writer.old) (bytes_held W.contents writer.new)
         (lines_of answer) }
+    // It fails only where a write was refused.
     ensures fault { IsErr result → has_refused writer.new ≡ true }
 {
     match answer {
@@ -141,6 +144,8 @@ pub fn audit_rows_watched<R: TellsFault, W: Write>(
         (bytes_held W.contents writer.new)) }
     ensures part { IsErr result → TellsPartOfRows (rows_left R.remaining rows.old) (bytes_held W.contents writer.old)
         (bytes_held W.contents writer.new) }
+    // Also of records that aren't known it tells an answer that is due for some text.
+    ensures some { TellsSome (bytes_held W.contents writer.old) (bytes_held W.contents writer.new) result }
     // It gives the status of a reader that failed only where a failed read was noted, and answers that the writer
     // failed only where a write was refused.
     ensures read_fault { result ≡ Ok 3 → device_failed R.failed rows.new ≡ true }
@@ -162,6 +167,7 @@ pub fn audit_lines_watched<R: Read + Drop, W: Write>(
         (bytes_held W.contents writer.new)) }
     ensures part { IsErr result → TellsPart (R.remaining reader) (bytes_held W.contents writer.old)
         (bytes_held W.contents writer.new) }
+    ensures some { TellsSome (bytes_held W.contents writer.old) (bytes_held W.contents writer.new) result }
     // It answers that the writer failed only where a write was refused.
     ensures fault { IsErr result → has_refused writer.new ≡ true }
 {
@@ -188,6 +194,8 @@ pub fn audit_lines<R: Read + Drop, W: Write>(
     ensures whole { IfOk result (TellsAudit (R.remaining reader) (W.contents writer.old) (W.contents writer.new)) }
     // Where the writer failed, a first part of such lines was written.
     ensures part { IsErr result → TellsPart (R.remaining reader) (W.contents writer.old) (W.contents writer.new) }
+    // Where the reader doesn't tell its bytes, they are those of an answer to some text.
+    ensures some { TellsSome (W.contents writer.old) (W.contents writer.new) result }
 {
     let mut writer = WatchedWriter::new(writer);
     audit_lines_watched(alloc, reader, &mut writer)
@@ -208,6 +216,9 @@ pub fn migrate_rows_watched<R: TellsFault, W: Write, E: Write>(
         (bytes_held W.contents writer.new) (bytes_held E.contents errors.old) (bytes_held E.contents errors.new)) }
     ensures part { IsErr result → StopsMigration (rows_left R.remaining rows.old) (bytes_held W.contents writer.old)
         (bytes_held W.contents writer.new) (bytes_held E.contents errors.old) (bytes_held E.contents errors.new) }
+    // Also of records that aren't known it tells a migration of some text.
+    ensures some { MigratesSome (bytes_held W.contents writer.old) (bytes_held W.contents writer.new)
+        (bytes_held E.contents errors.old) (bytes_held E.contents errors.new) result }
     // It gives the status of a reader that failed only where a failed read was noted, and answers that a writer failed
     // only where a write of one of the two was refused.
     ensures read_fault { result ≡ Ok 3 → device_failed R.failed rows.new ≡ true }
@@ -248,6 +259,9 @@ pub fn migrate_lines<R: Read + Drop, W: Write, E: Write>(
     // Where a writer failed, a first part of the text or of such a line was written.
     ensures part { IsErr result → StopsMigration (rows_in (R.remaining reader)) (W.contents writer.old)
         (W.contents writer.new) (E.contents errors.old) (E.contents errors.new) }
+    // Where the reader doesn't tell its bytes, they are those of some text.
+    ensures some { MigratesSome (W.contents writer.old) (W.contents writer.new) (E.contents errors.old)
+        (E.contents errors.new) result }
 {
     let mut rows = RowReader::new(alloc, Watched::new(reader));
     let mut writer = WatchedWriter::new(writer);

@@ -1,15 +1,18 @@
 -- What is shown for a number of entries is what is shown for the words that ask for it.
-use Rattle.std.proofs.Common.{◌≡◌, ◌≢◌, ◌≤◌, ℕ, List, Option, None, Some, Result, Ok, Err, ap, arith, refl, unwrap_or}
-use Rattle.std.specs.Prelude.{IfOk, IfSome}
+use Rattle.std.proofs.Common.{◌≡◌, ◌≢◌, ◌≤◌, ◌<◌, ℕ, List, Option, None, Some, Result, Ok, Err}
+use Rattle.std.proofs.Common.{ap, arith, refl, inl, inr, unwrap_or}
+use Rattle.std.specs.Prelude.{IfOk, IfSome, ⊤}
 use Rattle.cell_output.specs.declared.watched.WriteFault.{WriteFault}
 use Rattle.cell_command.specs.Counts.{Counts, IsNumber}
 use Rattle.cell_command.specs.declared.count.Count.{Count}
 use Rattle.cell_audit.specs.Migrated.{rows_in}
-use Rattle.cell_rows.specs.Rows.{Row}
-use Rattle.cell_show.specs.Shown.{AsksPast, HasEntry, TellsEntries}
+use Rattle.cell_rows.specs.Rows.{Row, rows_of}
+use Rattle.cell_show.specs.Shown.{AsksPast, HasEntry, ShownOf, ShowsSome as ShowsOne, TellsEntries}
+use Rattle.cell_show.specs.declared.show.Form.{Form}
 use Rattle.cell_show.specs.declared.error.ShowError.{ShowError}
 use Rattle.cell_show.specs.declared.error.ShowError.TheVariants as error
-use Rattle.cell_orders.specs.Shows.{HasNone, IsAsked}
+use Rattle.cell_orders.specs.Shows.{HasNone, IsAsked, ShowsSome}
+use Rattle.cell_orders.specs.Texts.{IsWrong}
 
 pub shown-of : {X : Type 0} (r : Result (Result ℕ WriteFault) X) (P Q : ℕ → Type 0) → ((s : ℕ) → P s → Q s)
     → IfOk r (λ w. IfOk w P) → IfOk r (λ w. IfOk w Q)
@@ -48,3 +51,43 @@ pub past-all : (text : Option (List ℕ)) (n : ℕ) (why : ShowError) → 429496
     → AsksPast (Some 4294967295) why
     → IfSome (rows_in text) (TellsEntries why) → HasNone (Some n) text
 past-all text n why big other past told = (why, other, past-further n why big past, told)
+
+-- what is shown of some text, by the answer of a call that shows it
+pub shown-some : (entry : Option ℕ) (status : ℕ) (old new old_errors new_errors : Option (List ℕ))
+    → ((text : List ℕ) × ShownOf (rows_of text) entry (λ _. ⊤) (Ok status)) → (1 < status → new ≡ old)
+    → ShowsSome entry old new old_errors new_errors status
+shown-some entry status old new old_errors new_errors (text, (due, there)) nothing =
+    (text, inl (due, nothing, λ low. (there low).0))
+
+-- or why it isn't
+pub none-some : (entry : Option ℕ) (why : ShowError) (old new old_errors new_errors : Option (List ℕ))
+    → ((text : List ℕ) × ShownOf (rows_of text) entry (λ _. ⊤) (Err why)) → why ≢ error.WriteFault
+    → AsksPast entry why → IsWrong old new old_errors new_errors 2
+    → ShowsSome entry old new old_errors new_errors 2
+none-some entry why old new old_errors new_errors (text, told) other past wrong =
+    (text, inr (wrong, (why, other, past, told)))
+
+-- more entries than a journal may have are asked for: of a text that isn't read
+pub beyond-unread : (form : Form) (n status : ℕ) (from to old errors : Option (List ℕ))
+    → ShowsOne form (Some 4294967295) from to (Ok status) → 1 < status
+    → ShowsSome (Some n) old old errors errors status
+beyond-unread form n status from to old errors (text, (due, there)) high =
+    (text, inl (due, λ _. refl, λ low. absurd (omega (arith, low, high))))
+
+-- of one that has as many as can be told, and so too many for a page
+pub beyond-many : (form : Form) (n status : ℕ) (from to : Option (List ℕ))
+    → ShowsOne form (Some 4294967295) from to (Ok status) → status ≤ 1
+    → (text : List ℕ) × HasNone (Some n) (Some text)
+beyond-many form n status from to (text, (due, there)) low = (text, too-many (Some text) n (there low).0)
+
+-- of one that hasn't
+pub beyond-none : (n : ℕ) (why : ShowError) → 4294967296 ≤ n → why ≢ error.WriteFault
+    → AsksPast (Some 4294967295) why → ((text : List ℕ) × TellsEntries why (rows_of text))
+    → (text : List ℕ) × HasNone (Some n) (Some text)
+beyond-none n why big other past (text, told) = (text, past-all (Some text) n why big other past told)
+
+-- which is told
+pub none-of : (n : ℕ) (old new old_errors new_errors : Option (List ℕ))
+    → ((text : List ℕ) × HasNone (Some n) (Some text)) → IsWrong old new old_errors new_errors 2
+    → ShowsSome (Some n) old new old_errors new_errors 2
+none-of n old new old_errors new_errors (text, none) wrong = (text, inr (wrong, none))

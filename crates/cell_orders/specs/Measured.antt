@@ -12,10 +12,14 @@ use Rattle.cell_orders.specs.declared.measure.Found.TheVariants as found
 abbrev pub IsLegalText : List ℕ → Type 0
 IsLegalText text = (number : ℕ) × (totals : Totals) × SpellsLegal (rows_of text) number totals
 
--- only a journal whose text is legal is measured
-abbrev pub IsFound : List ℕ → Found → Type 0
-IsFound text (found.Legal measures) = IsLegalText text
-IsFound text (found.Refused line) = ⊤
+-- there is a text that spells a legal journal
+abbrev pub HasLegalText : Type 0
+HasLegalText = (text : List ℕ) × IsLegalText text
+
+-- only a journal that has a legal text is measured
+abbrev pub IsFound : Found → Type 0
+IsFound (found.Legal measures) = HasLegalText
+IsFound (found.Refused line) = ⊤
 
 -- there are so many legal texts
 abbrev pub AreLegal : ℕ → Type 0

@@ -38,6 +38,11 @@ abbrev pub Shows : Option ℕ → Option (List ℕ) → Option (List ℕ) → Op
 Shows entry text old new old_errors new_errors status =
     IsShown entry text old new status ⊎ (IsWrong old new old_errors new_errors status × HasNone entry text)
 
+-- the same of some text
+abbrev pub ShowsSome : Option ℕ → Option (List ℕ) → Option (List ℕ) → Option (List ℕ) → Option (List ℕ) → ℕ → Type 0
+ShowsSome entry old new old_errors new_errors status =
+    (text : List ℕ) × Shows entry (Some text) old new old_errors new_errors status
+
 -- a number of entries, or all of them, is that of a count
 abbrev pub IsAsked : Option Count → Option ℕ → Type 0
 IsAsked None entry = entry ≡ None

@@ -5,8 +5,8 @@ ghost use Rattle.cell_orders.specs.Explains.{Explains, ExplainsSettings, Explain
 use crate::failure::Failure;
 use crate::mistaken::wrong;
 use crate::texts::{
-    explain_faults_in, explain_input, explain_journal_in, explain_operator_in, settings_in,
-    tell_too_long,
+    about_input, explain_faults_in, explain_input, explain_journal_in, explain_operator_in,
+    settings_in, tell_too_long,
 };
 use cell_command::Explaining;
 use cell_explain::explain_settings;
@@ -73,7 +73,7 @@ fn explain_text<'a, R: AllocGlobal + Files, I: Read + Drop, W: Write>(
         (W.contents output.new))) }
 {
     match text {
-        Text::Input => Ok(explain_input(rt.alloc(), input, output)?),
+        Text::Input => about_input(explain_input(rt.alloc(), input, output)),
         Text::Journal(path) => explain_journal_in(rt, path, output),
         Text::Settings(path) => explain_settings_in(rt, path, output),
         Text::Faults(path) => explain_faults_in(rt, path, output),

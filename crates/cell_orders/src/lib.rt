@@ -25,5 +25,5 @@ pub use mistaken::wrong;
 pub use noted::Noted;
 pub use reading::{JournalText, ScriptText, journal_text, script_text, settings_text};
 pub use show::show_words;
-pub use texts::{journal_in, script_in, settings_in, tell_too_long};
+pub use texts::{book_in, journal_in, script_in, settings_in, tell_too_long};
 pub use times::{durations_in, tell_times};

@@ -1,11 +1,12 @@
 //! The command that measures journals.
-ghost use Rattle.std.specs.Prelude.{◌≡◌, IfOk, List, ℕ, false, length};
-ghost use Rattle.cell_orders.specs.Measured.{AreLegal, IsFound, IsLegalText, MeasuresJournals};
+ghost use Rattle.std.specs.Prelude.{◌≡◌, Err, IfOk, false, length};
+ghost use Rattle.cell_audit.specs.Lines.{lines_of};
+ghost use Rattle.cell_orders.specs.Measured.{AreLegal, HasLegalText, IsFound, MeasuresJournals};
 
 use crate::failure::Failure;
-use crate::texts::journal_in;
+use crate::texts::book_in;
 use crate::times::{durations_in, tell_times};
-use cell_audit::{audit_lines, read_journal};
+use cell_audit::{AuditError, write_answer};
 use cell_command::{Escaped, Measuring};
 use cell_measures::{Durations, Measured, Measures, csv_of, measure, table_of};
 use cell_output::{WatchedWriter, WriteFault, status};
@@ -37,19 +38,29 @@ struct Sorted {
     lines: Vec<u8>,
 }
 
-// Measures the journal of a text, or gives the audit's line where it is refused.
-#[tactic(auto, using(crate::proofs::Measuring::legal_of))]
-fn find(alloc: Global, text: &[u8], durations: &Durations) -> Result<Found, AllocError>
-    ensures { IfOk result (IsFound text.now) }
+// The line of the audit for a journal that is refused.
+fn line_of(alloc: Global, why: AuditError) -> Result<Vec<u8>, AllocError>
+    ensures { IfOk result (λ line. line.items ≡ lines_of (Err why)) }
 {
-    let reading = read_journal(alloc, text)?;
-    if reading.answer.is_ok() {
-        return Ok(Found::Legal(measure(alloc, reading.book.journal(), durations)?));
-    }
     let mut line = Vec::new(alloc);
-    match audit_lines(alloc, text, &mut line) {
-        Ok(ended) if ended == status::REFUSED => Ok(Found::Refused(line)),
-        _ => Err(AllocError),
+    match write_answer(&mut WatchedWriter::new(&mut line), Err(why)) {
+        Ok(_) => Ok(line),
+        Err(WriteFault) => Err(AllocError),
+    }
+}
+
+// Measures the journal in a file, or gives the audit's line where it is refused. It keeps the entries, and no text.
+fn find<'a, R: AllocGlobal + Files>(
+    rt: &R,
+    path: &'a str,
+    durations: &Durations,
+) -> Result<Found, Failure<'a>>
+    ensures { IfOk result IsFound }
+{
+    let reading = book_in(rt, path)?;
+    match reading.answer {
+        Ok(_) => Ok(Found::Legal(measure(rt.alloc(), reading.book.journal(), durations)?)),
+        Err(why) => Ok(Found::Refused(line_of(rt.alloc(), why)?)),
     }
 }
 
@@ -68,8 +79,8 @@ impl Sorted {
         found: Found,
         several: bool,
     ) -> Result<(), AllocError>
-        ensures { IfOk result (λ _. (text : List ℕ) → IsFound text found → self.new.refused ≡ false
-            → IsLegalText text × (self.old.refused ≡ false)) }
+        ensures { IfOk result (λ _. IsFound found → self.new.refused ≡ false
+            → HasLegalText × (self.old.refused ≡ false)) }
     {
         let name = printed(alloc, path)?;
         match found {
@@ -131,8 +142,7 @@ fn sort<'a, R: AllocGlobal + Files>(
     };
     let several = measuring.journals.len() > 1;
     for path in measuring.journals.as_slice() {
-        let text = journal_in(rt, path)?.bytes;
-        let found = find(alloc, text.as_slice(), durations)?;
+        let found = find(rt, path, durations)?;
         sorted.add(alloc, path, found, several)?;
     }
     Ok(sorted)

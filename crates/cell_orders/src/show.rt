@@ -1,13 +1,14 @@
 //! The command that shows the cell.
-ghost use Rattle.std.specs.Prelude.{◌≡◌, ◌≢◌, ◌<◌, ◌≤◌, ◌^◌, ℕ, IfErr, IfOk, IfSome, List, Option, Some, true};
+ghost use Rattle.std.specs.Prelude.{◌≡◌, ◌≢◌, ◌<◌, ◌≤◌, ◌^◌, ℕ, IfErr, IfOk, IfSome, List, Option, Some, true, ⊤};
+ghost use Rattle.cell_rows.specs.Rows.{rows_of};
 ghost use Rattle.cell_audit.specs.Migrated.{rows_in};
-ghost use Rattle.cell_show.specs.Shown.{AsksPast, HasEntry, TellsEntries, TellsStatus};
-ghost use Rattle.cell_orders.specs.Shows.{IsAlone, IsAsked, Shows, ShowsEntry, ShowsWords, IsTimed, form_of};
+ghost use Rattle.cell_show.specs.Shown.{AsksPast, HasEntry, ShownOf, TellsEntries, TellsStatus};
+ghost use Rattle.cell_orders.specs.Shows.{IsAlone, IsAsked, IsTimed, Shows, ShowsEntry, ShowsSome, ShowsWords, form_of};
 ghost use Rattle.cell_orders.specs.Texts.{OfText};
 
 use crate::failure::Failure;
 use crate::mistaken::wrong;
-use crate::texts::journal_in;
+use crate::texts::{open_noted, unless_noted, unless_wanting};
 use crate::times::{durations_in, tell_times};
 use cell_command::{Count, Escaped, Showing, read_count};
 use cell_output::{WriteFault, status};
@@ -30,14 +31,14 @@ fn form_of(showing: &Showing<'_>) -> Option<Form>
     }
 }
 
-// Shows so many entries of a journal's text, or all of them, beside those of another text where one is given.
-fn show_with<I: Read + Drop, W: Write>(
+// Shows so many entries of a journal's text, or all of them, beside those of another text where its reader is given.
+fn show_with<I: Read + Drop, O: Read + Drop, W: Write>(
     alloc: Global,
     input: I,
     output: &mut W,
     form: Form,
     entry: Option<u32>,
-    other: Option<&[u8]>,
+    other: Option<O>,
 ) -> Result<u8, ShowError>
     ensures status { IfOk result (TellsStatus (rows_in (I.remaining input))) }
     ensures unread { IfOk result (λ status. 1 < status → output.new ≡ output.old) }
@@ -45,26 +46,30 @@ fn show_with<I: Read + Drop, W: Write>(
     ensures past { IfErr result (AsksPast entry) }
     ensures entries { IfErr result (λ why. IfSome (rows_in (I.remaining input)) (TellsEntries why)) }
     ensures nothing { IfErr result (λ why. why ≢ ShowError.WriteFault → output.new ≡ output.old) }
+    ensures some { (text : List ℕ) × ShownOf (rows_of text) entry (λ _. ⊤) result }
 {
     match other {
         None => show_journal(alloc, input, form, entry, output),
-        Some(text) => show_beside(alloc, input, text, form, entry, output),
+        Some(reader) => show_beside(alloc, input, reader, form, entry, output),
     }
 }
 
 // Shows so many entries of a journal's text, or all of them. An entry that isn't there, or a page of too many, is told
 // among the errors.
-fn show_entries<I: Read + Drop, W: Write, E: Write>(
+fn show_entries<I: Read + Drop, O: Read + Drop, W: Write, E: Write>(
     alloc: Global,
     input: I,
     output: &mut W,
     errors: &mut E,
     form: Form,
     entry: Option<u32>,
-    other: Option<&[u8]>,
+    other: Option<O>,
 ) -> io::Result<Result<u8, WriteFault>>
-    ensures { IfOk result (λ written. IfOk written
+    ensures shown { IfOk result (λ written. IfOk written
         (Shows entry (I.remaining input) (W.contents output.old) (W.contents output.new) (E.contents errors.old)
+        (E.contents errors.new))) }
+    ensures some { IfOk result (λ written. IfOk written
+        (ShowsSome entry (W.contents output.old) (W.contents output.new) (E.contents errors.old)
         (E.contents errors.new))) }
 {
     match show_with(alloc, input, output, form, entry, other) {
@@ -84,8 +89,11 @@ fn show_beyond<I: Read + Drop, E: Write>(
     errors: &mut E,
     form: Form,
 ) -> io::Result<Result<u8, WriteFault>>
-    ensures { (n : ℕ) (old : Option (List ℕ)) → 2 ^ 32 ≤ n
+    ensures shown { (n : ℕ) (old : Option (List ℕ)) → 2 ^ 32 ≤ n
         → IfOk result (λ written. IfOk written (Shows (Some n) (I.remaining input) old old (E.contents errors.old)
+        (E.contents errors.new))) }
+    ensures some { (n : ℕ) (old : Option (List ℕ)) → 2 ^ 32 ≤ n
+        → IfOk result (λ written. IfOk written (ShowsSome (Some n) old old (E.contents errors.old)
         (E.contents errors.new))) }
 {
     let error = match show_journal(alloc, input, form, Some(u32::MAX), &mut io::sink()) {
@@ -100,18 +108,22 @@ fn show_beyond<I: Read + Drop, E: Write>(
 }
 
 // Shows so many entries of a journal's text, or all of them where there is no count.
-fn show_count<I: Read + Drop, W: Write, E: Write>(
+fn show_count<I: Read + Drop, O: Read + Drop, W: Write, E: Write>(
     alloc: Global,
     input: I,
     output: &mut W,
     errors: &mut E,
     form: Form,
     count: Option<Count>,
-    other: Option<&[u8]>,
+    other: Option<O>,
 ) -> io::Result<Result<u8, WriteFault>>
-    ensures { (entry : Option ℕ) → IsAsked count entry
+    ensures shown { (entry : Option ℕ) → IsAsked count entry
         → IfOk result (λ written. IfOk written
         (Shows entry (I.remaining input) (W.contents output.old) (W.contents output.new) (E.contents errors.old)
+        (E.contents errors.new))) }
+    ensures some { (entry : Option ℕ) → IsAsked count entry
+        → IfOk result (λ written. IfOk written
+        (ShowsSome entry (W.contents output.old) (W.contents output.new) (E.contents errors.old)
         (E.contents errors.new))) }
 {
     match count {
@@ -123,20 +135,54 @@ fn show_count<I: Read + Drop, W: Write, E: Write>(
     }
 }
 
-// The journal's text in a file, if one is named.
-fn other_in<'a, R: AllocGlobal + Files>(
+// Shows so many entries of the journal in a file, which is read once.
+fn show_in<'a, R: AllocGlobal + Files, O: Read + Drop, W: Write, E: Write>(
     rt: &R,
-    beside: Option<&'a str>,
-) -> Result<Option<Vec<u8>>, Failure<'a>> {
-    match beside {
-        None => Ok(None),
-        Some(path) => Ok(Some(journal_in(rt, path)?.bytes)),
+    path: &'a str,
+    output: &mut W,
+    errors: &mut E,
+    form: Form,
+    count: Option<Count>,
+    other: Option<O>,
+) -> Result<Result<u8, WriteFault>, Failure<'a>>
+    ensures { (entry : Option ℕ) → IsAsked count entry
+        → IfOk result (λ written. IfOk written
+        (ShowsSome entry (W.contents output.old) (W.contents output.new) (E.contents errors.old)
+        (E.contents errors.new))) }
+{
+    let mut reader = open_noted(rt, path)?;
+    let shown = match show_count(rt.alloc(), &mut reader, output, errors, form, count, other) {
+        Ok(told) => unless_wanting(told),
+        Err(error) => Err(error),
+    };
+    unless_noted(path, shown, reader.error)
+}
+
+// Shows so many entries of the journal in a file, or of that on the input where no file is named, beside that of
+// another reader where there is one.
+fn show_text<'a, R: AllocGlobal + Files, I: Read + Drop, O: Read + Drop, W: Write, E: Write>(
+    rt: &R,
+    input: I,
+    output: &mut W,
+    errors: &mut E,
+    form: Form,
+    count: Option<Count>,
+    file: Option<&'a str>,
+    other: Option<O>,
+) -> Result<Result<u8, WriteFault>, Failure<'a>>
+    ensures { (entry : Option ℕ) → IsAsked count entry
+        → IfOk result (λ written. IfOk written (λ status. OfText file.entry (I.remaining input)
+        (λ text. Shows entry text (W.contents output.old) (W.contents output.new) (E.contents errors.old)
+        (E.contents errors.new) status))) }
+{
+    match file {
+        None => Ok(show_count(rt.alloc(), input, output, errors, form, count, other)?),
+        Some(path) => show_in(rt, path, output, errors, form, count, other),
     }
 }
 
-// Shows so many entries of the journal in a file, or of that on the input where no file is named, beside that in
-// another file where such a one is named.
-fn show_text<'a, R: AllocGlobal + Files, I: Read + Drop, W: Write, E: Write>(
+// Shows so many entries of a journal, beside that in another file where such a one is named.
+fn show_files<'a, R: AllocGlobal + Files, I: Read + Drop, W: Write, E: Write>(
     rt: &R,
     input: I,
     output: &mut W,
@@ -150,14 +196,22 @@ fn show_text<'a, R: AllocGlobal + Files, I: Read + Drop, W: Write, E: Write>(
         (λ text. Shows entry text (W.contents output.old) (W.contents output.new) (E.contents errors.old)
         (E.contents errors.new) status))) }
 {
-    let alloc = rt.alloc();
-    let found = other_in(rt, showing.beside)?;
-    let other = found.as_deref();
-    let Some(path) = showing.file else {
-        return Ok(show_count(alloc, input, output, errors, form, count, other)?);
+    let Some(path) = showing.beside else {
+        let other: Option<&[u8]> = None;
+        return show_text(rt, input, output, errors, form, count, showing.file, other);
     };
-    let text = journal_in(rt, path)?.bytes;
-    Ok(show_count(alloc, text.as_slice(), output, errors, form, count, other)?)
+    let mut other = open_noted(rt, path)?;
+    let shown = show_text(
+        rt,
+        input,
+        output,
+        errors,
+        form,
+        count,
+        showing.file,
+        Some(&mut other),
+    )?;
+    unless_noted(path, Ok(shown), other.error)
 }
 
 // The form that is shown, and whether durations go with it.
@@ -206,14 +260,14 @@ fn show_entry<'a, R: AllocGlobal + Files, I: Read + Drop, W: Write, E: Write>(
         (W.contents output.new) (E.contents errors.old) (E.contents errors.new))) }
 {
     let Some(word) = showing.entry else {
-        return show_text(rt, input, output, errors, form, None, showing);
+        return show_files(rt, input, output, errors, form, None, showing);
     };
     let Some(count) = read_count(word) else {
         let word = Escaped(word);
         writeln!(errors, "error: ENTRY is a whole number, and not '{word}'")?;
         return Ok(Ok(status::WRONG_ARGUMENTS));
     };
-    show_text(rt, input, output, errors, form, Some(count), showing)
+    show_files(rt, input, output, errors, form, Some(count), showing)
 }
 
 // Whether another journal is to be shown beside, and no page is asked for.

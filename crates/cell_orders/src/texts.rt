@@ -2,12 +2,13 @@
 ghost use Rattle.std.specs.Prelude.{◌≡◌, ◌⊎◌, ℕ, List, Ok, Some, IfErr, IfOk, IfSome};
 ghost use Rattle.cell_explain.specs.Explained.{EndsAsAudit, EndsAsFaults, EndsAsScript};
 ghost use Rattle.cell_audit.specs.Lines.{status_of};
+ghost use Rattle.cell_audit.specs.Reading.{IsBefore, IsSomeReading};
 ghost use Rattle.cell_orders.specs.Texts.{TellsTooLong};
 
 use crate::failure::Failure;
 use crate::noted::Noted;
 use crate::reading::{JournalText, ScriptText, journal_text, script_text, settings_text};
-use cell_audit::AuditError;
+use cell_audit::{AuditError, Audited, read_journal};
 use cell_explain::{explain_faults, explain_journal, explain_operator};
 use cell_output::{WatchedWriter, WriteFault, status};
 use cell_sim::PlannedFault;
@@ -29,6 +30,21 @@ fn about<'a, T>(path: &'a str, answer: io::Result<T>) -> Result<T, Failure<'a>>
             file: Some(path),
             error,
         }),
+    }
+}
+
+/// An answer of the system about the text on standard input. That it is too large names the input, of which no read
+/// failed.
+pub(crate) fn about_input<'a, T>(answer: io::Result<T>) -> Result<T, Failure<'a>>
+    ensures { IfOk result (λ value. answer ≡ Ok value) }
+{
+    match answer {
+        Ok(value) => Ok(value),
+        Err(error) if error.kind() == ErrorKind::FileTooLarge => Err(Failure {
+            file: Some("standard input"),
+            error,
+        }),
+        Err(error) => Err(Failure::from(error)),
     }
 }
 
@@ -54,6 +70,68 @@ pub fn script_in<'a, R: AllocGlobal + Files>(
     about(path, script_text(rt.alloc(), file))
 }
 
+/// A reader of the file of a path, which notes its errors. An error names that file.
+pub(crate) fn open_noted<'a, R: AllocGlobal + Files>(
+    rt: &R,
+    path: &'a str,
+) -> Result<Noted<R::File>, Failure<'a>>
+    ensures { IfErr result (λ failure. failure.file ≡ Some path.entry) }
+{
+    Ok(Noted::new(about(path, File::open(rt, path))?))
+}
+
+/// What was made of the text in a file, unless a read of it failed. An error names that file.
+pub(crate) fn unless_noted<'a, T: Drop>(
+    path: &'a str,
+    made: io::Result<T>,
+    noted: Option<io::Error>,
+) -> Result<T, Failure<'a>>
+    ensures made { IfOk result (λ value. made ≡ Ok value) }
+    ensures named { IfErr result (λ failure. failure.file ≡ Some path.entry) }
+{
+    match noted {
+        Some(error) => about(path, Err(error)),
+        None => about(path, made),
+    }
+}
+
+/// What was told, unless its status is that of memory that was refused, which is an error here.
+pub(crate) fn unless_wanting(told: Result<u8, WriteFault>) -> io::Result<Result<u8, WriteFault>>
+    ensures { IfOk result (λ same. same ≡ told) }
+{
+    if told == Ok(status::OUT_OF_MEMORY) {
+        Err(io::Error::from(ErrorKind::OutOfMemory))
+    } else {
+        Ok(told)
+    }
+}
+
+// The journal of a reader, in a book as far as it is judged. Where the reader fails or memory was refused, that is an
+// error.
+fn booked<R: Read + Drop>(alloc: Global, reader: R) -> io::Result<Audited>
+    ensures some { IfOk result (λ read. IsSomeReading read.answer read.book.entries) }
+    ensures before { IfOk result (λ read. IsBefore read.answer read.book.entries) }
+{
+    let read = read_journal(alloc, reader)?;
+    match read.answer {
+        Err(AuditError::OutOfMemory) => Err(io::Error::from(ErrorKind::OutOfMemory)),
+        Err(AuditError::ReadFault) => Err(io::Error::from(ErrorKind::Interrupted)),
+        _ => Ok(read),
+    }
+}
+
+/// The journal in a file, in a book as far as it is judged. No text of it is kept. An error names that file.
+pub fn book_in<'a, R: AllocGlobal + Files>(rt: &R, path: &'a str) -> Result<Audited, Failure<'a>>
+    // There is a text for which the answer is due, and of which these are the first entries.
+    ensures some { IfOk result (λ read. IsSomeReading read.answer read.book.entries) }
+    ensures before { IfOk result (λ read. IsBefore read.answer read.book.entries) }
+    ensures named { IfErr result (λ failure. failure.file ≡ Some path.entry) }
+{
+    let mut noted = open_noted(rt, path)?;
+    let read = booked(rt.alloc(), &mut noted);
+    unless_noted(path, read, noted.error)
+}
+
 // The journal of a reader, as far as it is judged. Where memory was refused, that is an error.
 fn judged<R: Read + Drop>(alloc: Global, reader: R) -> io::Result<JournalText> {
     let read = journal_text(alloc, reader)?;
@@ -70,12 +148,9 @@ pub fn journal_in<'a, R: AllocGlobal + Files>(
 ) -> Result<JournalText, Failure<'a>>
     ensures { IfErr result (λ failure. failure.file ≡ Some path.entry) }
 {
-    let mut noted = Noted::new(about(path, File::open(rt, path))?);
+    let mut noted = open_noted(rt, path)?;
     let read = judged(rt.alloc(), &mut noted);
-    match noted.error {
-        Some(error) => about(path, Err(error)),
-        None => about(path, read),
-    }
+    unless_noted(path, read, noted.error)
 }
 
 /// Writes that settings are longer than they may be, and gives the status.

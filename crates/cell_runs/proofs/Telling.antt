@@ -9,13 +9,15 @@ use Rattle.cell_audit.specs.Meaning.{Due, IsFault}
 use Rattle.cell_audit.specs.Reading.{IsBefore, SpellsFirst}
 use Rattle.cell_output.specs.Watched.{WritesPart}
 use Rattle.cell_audit.specs.declared.error.AuditError.{AuditError}
-use Rattle.cell_audit.specs.declared.error.AuditError.TheVariants as error
-use Rattle.cell_audit.specs.Lines.{IsAnswer, TellsAudit, TellsPart, WritesAnswer, lines_of}
+use Rattle.cell_audit.specs.Lines.{WritesAnswer, lines_of}
+use Rattle.cell_audit.specs.declared.read.Audited.{Audited}
+use Rattle.cell_audit.proofs.Possible.{answer-due}
+use Rattle.cell_output.specs.declared.watched.WriteFault.{WriteFault}
 use Rattle.operator_desk.specs.declared.line.Line.{Line}
 use Rattle.cell_runs.specs.Followed.{IsFollowed}
 use Rattle.cell_runs.specs.Runs.{kept, limits_of}
-use Rattle.cell_runs.specs.Told.{AreEntries, PartOfFollowed, PartOfRefused, PrintsOrLacks, TellsRefused, WritesFollowed}
-use Rattle.cell_runs.specs.Told.{end_of, followed_status, followed_text}
+use Rattle.cell_runs.specs.Told.{AreEntries, IsRead, PartOfFollowed, PartOfRefused, PrintsOrLacks, TellsRefused}
+use Rattle.cell_runs.specs.Told.{WritesFollowed, end_of, followed_status, followed_text}
 use Rattle.cell_runs.specs.declared.follow.Followed.{Followed}
 
 -- printing looks at the outcome alone, so by which plan and script it came about may be told afterwards
@@ -56,43 +58,33 @@ entries-read text answer told J is due before first =
     are_entries text told J (subst (λ (a : Result (ℕ × Totals) AuditError). IsFault a ⊎ Due (rows_of text) a) is due)
     (subst (λ (a : Result (ℕ × Totals) AuditError). IsBefore a J) is before) first
 
--- the answer to a text that was refused once is a refusal again
-abbrev IsRefusal : Result (ℕ × Totals) AuditError → Type 0
-IsRefusal answer = (e : AuditError) × (answer ≡ Err e)
+-- so they are where they were read with that answer
+pub read-entries : (reading : Audited) (text : List ℕ) (told : ℕ × Totals) → reading.answer ≡ Ok told
+    → IsRead reading text → AreEntries text reading.book.entries
+read-entries reading text told is ((due, first), before) =
+    entries-read text reading.answer told reading.book.entries is due before first
 
--- a second audit may fail on the reader or on memory instead, and then refuses the text too
-refusal : (answer : Result (ℕ × Totals) AuditError) (why : AuditError) → (answer ≡ Err why) ⊎ IsFault answer
-    → IsRefusal answer
-refusal answer why (inl h) = (why, h)
-refusal answer why (inr (inl h)) = (error.ReadFault, h)
-refusal answer why (inr (inr h)) = (error.OutOfMemory, h)
+-- the error of a text that is refused is due for it
+pub read-refused : (reading : Audited) (text : List ℕ) (why : AuditError) → reading.answer ≡ Err why
+    → IsRead reading text → IsFault (Err why) ⊎ Due (rows_of text) (Err why)
+read-refused reading text why is ((due, first), before) =
+    subst (λ (a : Result (ℕ × Totals) AuditError). IsFault a ⊎ Due (rows_of text) a) is due
 
--- an answer that is due, and no fault
-due_of : (text : List ℕ) (answer : Result (ℕ × Totals) AuditError) (why : AuditError) → answer ≡ Err why
-    → (IsFault (Err why) → ⊥) → IsFault answer ⊎ Due (rows_of text) answer → Due (rows_of text) (Err why)
-due_of text answer why is told (inl h) = absurd (told (subst IsFault is h))
-due_of text answer why is told (inr h) = subst (λ (a : Result (ℕ × Totals) AuditError). Due (rows_of text) a) is h
-
--- the text is audited again to print its line, and what was due the first time is due again
-pub refused-told : (text : List ℕ) (answer : Result (ℕ × Totals) AuditError) (why : AuditError)
-    (old new : Option (List ℕ)) (status : ℕ)
-    → answer ≡ Err why → (IsFault (Err why) → ⊥) → IsFault answer ⊎ Due (rows_of text) answer
-    → TellsAudit (Some text) old new status → TellsRefused text old new status
-refused-told text answer why old new status is told due (again, owed, writes) =
-    let (e, same) = refusal again why (owed.1 (Err why) (due_of text answer why is told due)) in (
-      e,
-      subst (λ (a : Result (ℕ × Totals) AuditError). IsAnswer text a) same owed,
-      subst (λ (a : Result (ℕ × Totals) AuditError). WritesAnswer old new a status) same writes,
-    )
+-- and its lines are those of an answer to the text
+pub refused-told : (text : List ℕ) (why : AuditError) (old new : Option (List ℕ)) (written : Result ℕ WriteFault)
+    → IsFault (Err why) ⊎ Due (rows_of text) (Err why) → IfOk written (WritesAnswer old new (Err why))
+    → IfOk written (TellsRefused text old new)
+refused-told text why old new (Ok status) due writes = (why, answer-due text (Err why) due, writes)
+refused-told text why old new (Err e) due writes = tt
 
 -- the same where a write was refused on the way
-pub refused-in-part : (text : List ℕ) (answer : Result (ℕ × Totals) AuditError) (why : AuditError)
-    (old new : Option (List ℕ))
-    → answer ≡ Err why → (IsFault (Err why) → ⊥) → IsFault answer ⊎ Due (rows_of text) answer
-    → TellsPart (Some text) old new → PartOfRefused text old new
-refused-in-part text answer why old new is told due (again, owed, part) =
-    let (e, same) = refusal again why (owed.1 (Err why) (due_of text answer why is told due)) in (
-      e,
-      subst (λ (a : Result (ℕ × Totals) AuditError). IsAnswer text a) same owed,
-      subst (λ (a : Result (ℕ × Totals) AuditError). WritesPart old new (lines_of a)) same part,
-    )
+pub refused-in-part : (text : List ℕ) (why : AuditError) (old new : Option (List ℕ))
+    → IsFault (Err why) ⊎ Due (rows_of text) (Err why) → WritesPart old new (lines_of (Err why))
+    → PartOfRefused text old new
+refused-in-part text why old new due part = (why, answer-due text (Err why) due, part)
+
+-- what holds of what one writer held and holds, holds of what another one did that held and holds the same
+pub as-held : (P : Option (List ℕ) → Option (List ℕ) → Type 0) (old new before after : Option (List ℕ)) → old ≡ before
+    → new ≡ after → P old new → P before after
+as-held P old new before after first last holds = subst (P before) last (subst (λ (o : Option (List ℕ)). P o new) first
+    holds)

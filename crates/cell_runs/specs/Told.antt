@@ -11,7 +11,8 @@ use Rattle.cell_workers.specs.declared.ends.End.{End}
 use Rattle.cell_workers.specs.declared.ends.End.TheVariants as end
 use Rattle.operator_desk.specs.declared.line.Line.{Line}
 use Rattle.cell_audit.specs.Meaning.{Due}
-use Rattle.cell_audit.specs.Reading.{SpellsFirst}
+use Rattle.cell_audit.specs.Reading.{IsBefore, IsReading, SpellsFirst}
+use Rattle.cell_audit.specs.declared.read.Audited.{Audited}
 use Rattle.cell_audit.specs.Text.{text_of}
 use Rattle.cell_output.specs.Watched.{WritesPart}
 use Rattle.cell_audit.specs.declared.error.AuditError.{AuditError}
@@ -84,6 +85,12 @@ abbrev pub PartOfFollowed : Bool → Plan → List Line → List Entry → Optio
 PartOfFollowed alone plan script journal old new =
     (how : Followed) × (J : List Entry) × IsFollowed (limits_of plan) plan script journal J how
     × WritesPart old new (followed_text alone how J)
+
+-- this was read of a text: the answer is due for it, and the entries in the book are its first, up to the place that
+-- the answer names
+abbrev pub IsRead : Audited → List ℕ → Type 0
+IsRead reading text = IsReading reading.answer reading.book.entries (rows_of text)
+    × IsBefore reading.answer reading.book.entries
 
 -- a text of a legal journal with these entries: its first records are theirs, and the answer that an audit owes it has
 -- their counts

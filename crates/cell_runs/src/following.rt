@@ -1,12 +1,11 @@
-//! A journal that is followed, by its text and those of its run.
-ghost use Rattle.std.specs.Prelude.{◌≡◌, ◌⊎◌, [], Err, IfOk, IsErr, Ok, false, true};
+//! A journal that is followed, by its text or by what was read of it, and by the texts of its run.
+ghost use Rattle.std.specs.Prelude.{◌≡◌, ◌⊎◌, ℕ, List, Err, IfOk, IsErr, Ok, true};
 ghost use Rattle.cell_rows.specs.Rows.{rows_of};
 ghost use Rattle.cell_audit.specs.Meaning.{Due, IsFault};
 ghost use Rattle.cell_output.specs.Watched.{IsSameWriter, bytes_held, has_refused};
-ghost use Rattle.cell_runs.specs.Inputs.{WritesError};
 ghost use Rattle.cell_runs.specs.Runs.{kept_of};
-ghost use Rattle.cell_runs.specs.Told.{FollowsInputs, KeepsFollowed, PartOfFollowed, PartOfInputs, PartOfRefused};
-ghost use Rattle.cell_runs.specs.Told.{TellsFollowed, TellsPartFollowed, TellsRefused, WritesFollowed};
+ghost use Rattle.cell_runs.specs.Told.{FollowsInputs, IsRead, KeepsFollowed, PartOfFollowed, PartOfInputs};
+ghost use Rattle.cell_runs.specs.Told.{PartOfRefused, TellsFollowed, TellsPartFollowed, TellsRefused, WritesFollowed};
 
 use crate::follow::Following;
 use crate::followed::{end_of, write_following};
@@ -14,12 +13,12 @@ use crate::inputs::{Inputs, read_inputs};
 use crate::refused::refuse_input;
 use crate::simulation::follow_journal;
 use crate::texts::{KeptRun, Left};
-use cell_audit::{AuditError, audit_lines_watched, read_journal};
+use cell_audit::{AuditError, Audited, read_journal, write_answer};
 use cell_journal::Journal;
 use cell_measures::Durations;
 use cell_output::{WatchedWriter, WriteFault, status};
 use cell_sim::{SimOperator, World};
-use std::alloc::{AllocError, Global};
+use std::alloc::AllocError;
 use std::io::Write;
 use std::sync::{Mutex, Wait};
 
@@ -58,38 +57,41 @@ fn write_followed<R: AllocGlobal + Wait, W: Write>(
     }
 }
 
-// Whether an error of an audit is one on the reader or on memory, and not on the text.
-fn is_fault(why: AuditError) -> bool
-    ensures { result ≡ false → IsFault (Err why) → ⊥ }
-{
-    match why {
-        AuditError::ReadFault | AuditError::OutOfMemory => true,
-        AuditError::Unreadable(_) | AuditError::Refused(_, _) => false,
-    }
-}
-
-// Tells that a journal's text is refused or can't be read, for which an audit gave this error, and gives the exit
-// status. The text is audited again, with the same answer unless memory is refused. A reader of bytes at hand doesn't
-// fail.
+// Tells that a journal is refused or can't be read, for which an audit gave this error, and gives the exit status.
 fn tell_refused<W: Write>(
-    alloc: Global,
-    text: &[u8],
     why: AuditError,
     writer: &mut WatchedWriter<'_, W>,
 ) -> Result<u8, WriteFault>
-    requires { IsFault (Err why) ⊎ Due (rows_of text.now) (Err why) }
     ensures writer { IsSameWriter writer.old writer.new }
-    ensures whole { IfOk result (λ status. TellsRefused text.now (bytes_held W.contents writer.old)
-        (bytes_held W.contents writer.new) status
-        ⊎ WritesError (bytes_held W.contents writer.old) (bytes_held W.contents writer.new) [] 4 status) }
-    ensures part { IsErr result → PartOfRefused text.now (bytes_held W.contents writer.old)
-        (bytes_held W.contents writer.new) }
+    ensures whole { (text : List ℕ) → IsFault (Err why) ⊎ Due (rows_of text) (Err why)
+        → IfOk result (TellsRefused text (bytes_held W.contents writer.old) (bytes_held W.contents writer.new)) }
+    ensures part { (text : List ℕ) → IsFault (Err why) ⊎ Due (rows_of text) (Err why) → IsErr result
+        → PartOfRefused text (bytes_held W.contents writer.old) (bytes_held W.contents writer.new) }
     ensures fault { IsErr result → has_refused writer.new ≡ true }
 {
-    if is_fault(why) {
-        return Ok(status::OUT_OF_MEMORY);
+    write_answer(writer, Err(why))
+}
+
+// Follows a journal that was read, or tells that it is refused or can't be read.
+fn follow_read<R: AllocGlobal + Wait, W: Write>(
+    rt: &R,
+    followed: &Audited,
+    inputs: Inputs,
+    journal: bool,
+    writer: &mut WatchedWriter<'_, W>,
+) -> Result<(u8, Left), WriteFault>
+    ensures writer { IsSameWriter writer.old writer.new }
+    ensures whole { (text : List ℕ) → IsRead followed.now text
+        → IfOk result (λ told. FollowsInputs text journal (bytes_held W.contents writer.old)
+        (bytes_held W.contents writer.new) told.0 (kept_of told.1) (Ok inputs)) }
+    ensures part { (text : List ℕ) → IsRead followed.now text → IsErr result
+        → PartOfInputs text journal (bytes_held W.contents writer.old) (bytes_held W.contents writer.new) (Ok inputs) }
+    ensures fault { IsErr result → has_refused writer.new ≡ true }
+{
+    match followed.answer {
+        Ok(_) => write_followed(rt, inputs, followed.book.journal(), journal, writer),
+        Err(why) => Ok((tell_refused(why, writer)?, Left::Nothing)),
     }
-    audit_lines_watched(alloc, text, writer)
 }
 
 // Reads a journal's text and follows it, or tells that it is refused or can't be read.
@@ -107,14 +109,75 @@ fn follow_text<R: AllocGlobal + Wait, W: Write>(
         (bytes_held W.contents writer.new) (Ok inputs) }
     ensures fault { IsErr result → has_refused writer.new ≡ true }
 {
-    let alloc = rt.alloc();
-    let Ok(reading) = read_journal(alloc, text) else {
+    let Ok(reading) = read_journal(rt.alloc(), text) else {
         return Ok((status::OUT_OF_MEMORY, Left::Nothing));
     };
-    match reading.answer {
-        Ok(_) => write_followed(rt, inputs, reading.book.journal(), journal, writer),
-        Err(why) => Ok((tell_refused(alloc, text, why, writer)?, Left::Nothing)),
+    follow_read(rt, &reading, inputs, journal, writer)
+}
+
+/// Follows a journal that was read by the texts of its run, as `follow_read_kept` does, and writes what comes of it to
+/// a writer that notes whether a write of it was refused.
+pub fn follow_read_kept_watched<R: AllocGlobal + Wait, W: Write>(
+    rt: &R,
+    followed: &Audited,
+    settings: &[u8],
+    faults: &[u8],
+    operator: &[u8],
+    durations: &Durations,
+    journal: bool,
+    writer: &mut WatchedWriter<'_, W>,
+) -> Result<(u8, Left), WriteFault>
+    ensures writer { IsSameWriter writer.old writer.new }
+    ensures whole { (text : List ℕ) → IsRead followed.now text
+        → IfOk result (λ told. KeepsFollowed text settings.now faults.now operator.now journal
+        (bytes_held W.contents writer.old) (bytes_held W.contents writer.new) told.0 (kept_of told.1)) }
+    ensures part { (text : List ℕ) → IsRead followed.now text → IsErr result
+        → TellsPartFollowed text settings.now faults.now operator.now journal (bytes_held W.contents writer.old)
+        (bytes_held W.contents writer.new) }
+    // It answers that the writer failed only where a write was refused.
+    ensures fault { IsErr result → has_refused writer.new ≡ true }
+{
+    match read_inputs(rt.alloc(), settings, faults, operator) {
+        Ok(mut inputs) => {
+            inputs.durations = *durations;
+            follow_read(rt, followed, inputs, journal, writer)
+        }
+        Err(refused) => Ok((refuse_input(writer, refused)?, Left::Nothing)),
     }
+}
+
+/// Follows a journal that was read into a book by the texts of its run, as `follow_texts_kept` does one by its text. A
+/// journal that is refused or can't be read is told by the answer that was read with the book.
+pub fn follow_read_kept<R: AllocGlobal + Wait, W: Write>(
+    rt: &R,
+    followed: &Audited,
+    settings: &[u8],
+    faults: &[u8],
+    operator: &[u8],
+    durations: &Durations,
+    journal: bool,
+    writer: &mut W,
+) -> Result<(u8, Left), WriteFault>
+    // What is written, and the journal, the end and the plan are those of each text of which this was read.
+    ensures whole { (text : List ℕ) → IsRead followed.now text
+        → IfOk result (λ told. KeepsFollowed text settings.now faults.now operator.now journal
+        (W.contents writer.old) (W.contents writer.new) told.0 (kept_of told.1)) }
+    // Where the writer failed, a first part of that was written.
+    ensures part { (text : List ℕ) → IsRead followed.now text → IsErr result
+        → TellsPartFollowed text settings.now faults.now operator.now journal (W.contents writer.old)
+        (W.contents writer.new) }
+{
+    let mut writer = WatchedWriter::new(writer);
+    follow_read_kept_watched(
+        rt,
+        followed,
+        settings,
+        faults,
+        operator,
+        durations,
+        journal,
+        &mut writer,
+    )
 }
 
 /// Follows a journal by its text and those of its run, as `follow_texts_kept` does, and writes what comes of it to a

@@ -15,7 +15,10 @@ mod simulation;
 mod texts;
 
 pub use follow::{Followed, Following};
-pub use following::{follow_texts, follow_texts_kept, follow_texts_kept_watched};
+pub use following::{
+    follow_read_kept, follow_read_kept_watched, follow_texts, follow_texts_kept,
+    follow_texts_kept_watched,
+};
 pub use inputs::{InputError, Inputs, read_inputs};
 pub use ports::sim_ports;
 pub use refused::refuse_input;

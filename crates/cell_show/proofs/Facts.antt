@@ -1,18 +1,20 @@
 -- An answer on memory, and the good entries of a text.
-use Rattle.std.proofs.Common.{◌≡◌, ◌≢◌, ◌<◌, ◌≤◌, ℕ, List, [], length, Option, Some, None, Result, Err, inl, inr, refl}
-use Rattle.std.proofs.Common.{ap, arith, ◌⊎◌}
-use Rattle.std.specs.Prelude.{IfSome, unwrap_or}
+use Rattle.std.proofs.Common.{◌≡◌, ◌≢◌, ◌<◌, ◌≤◌, ℕ, List, [], length, Option, Some, None, Result, Ok, Err, inl, inr}
+use Rattle.std.proofs.Common.{refl, ap, arith, ◌⊎◌}
+use Rattle.std.specs.Prelude.{IfOk, IfSome, unwrap_or}
 use Rattle.std.specs.Result.{result_err}
-use Rattle.cell_rows.specs.Rows.{Row}
+use Rattle.cell_rows.specs.Rows.{Row, rows_of}
 use Rattle.cell_types.specs.declared.words.Entry.{Entry}
 use Rattle.cell_types.specs.declared.words.Totals.{Totals}
 use Rattle.cell_audit.specs.Meaning.{Due, IsFault}
-use Rattle.cell_audit.specs.Reading.{IsBefore, SpellsFirst}
+use Rattle.cell_audit.specs.Migrated.{rows_in}
+use Rattle.cell_audit.specs.Reading.{IsBefore, IsSomeReading, SpellsFirst}
 use Rattle.cell_audit.specs.declared.error.AuditError.{AuditError}
 use Rattle.cell_audit.specs.declared.error.AuditError.TheVariants as error
 use Rattle.cell_audit.specs.Lines.{status_of}
 use Rattle.cell_show.specs.Beside.{WritesBeside}
-use Rattle.cell_show.specs.Shown.{AreGood, HasEntry, IsOther, IsPage, ShowsBeside, ShowsPage, TellsEntries}
+use Rattle.cell_show.specs.Shown.{AreGood, AsksPast, HasEntry, IsOther, IsPage, OfReader, ShowsBeside, ShowsPage}
+use Rattle.cell_show.specs.Shown.{ShownOf, ShowsSome, ShowsSomeBeside, TellsEntries, TellsStatus}
 use Rattle.cell_show.specs.declared.error.ShowError.{ShowError}
 use Rattle.cell_show.specs.declared.error.ShowError.TheVariants as shown
 use Rattle.cell_show.specs.declared.show.Form.{Form}
@@ -65,6 +67,12 @@ pub both_shown : (rows : Option (List Row)) (form : Form) (others : List Row) (o
 both_shown None form others old new first second page both other = tt
 both_shown (Some known) form others old new first second page both other = (first, second, both, page, other)
 
+-- what is told of an entry that isn't there
+pub none_there : (rows : Option (List Row)) (J : List Entry) (n : ℕ) → IfSome rows (AreGood J) → length J ≡ n
+    → IfSome rows (TellsEntries (shown.NoSuchEntry n))
+none_there None J n good size = tt
+none_there (Some known) J n good size = (J, good, size)
+
 -- what is told where nothing is drawn: too many entries, and never one that isn't there
 pub told_of : (rows : Option (List Row)) (J : List Entry) (why : ShowError) → IfSome rows (AreGood J)
     → ((n : ℕ) → why ≢ shown.NoSuchEntry n)
@@ -73,3 +81,153 @@ told_of None J why good there long = tt
 told_of (Some known) J (shown.NoSuchEntry n) good there long = absurd (there n refl)
 told_of (Some known) J shown.TooManyEntries good there long = (J, good, long refl)
 told_of (Some known) J shown.WriteFault good there long = tt
+
+-- want of memory may come with any text
+pub wants-some : (entry : Option ℕ) (form : Form) (old new : Option (List ℕ)) → ShowsSome form entry old new (Ok 4)
+wants-some entry form old new = (
+  [],
+  ((Err error.OutOfMemory, wants-memory (Some (rows_of [])), refl), λ low. absurd (omega (arith, low))),
+)
+
+-- an answer on the reader or on memory
+pub unread-some : (entry : Option ℕ) (form : Form) (answer : Result (ℕ × Totals) AuditError) (J : List Entry)
+    (status : ℕ) (old new : Option (List ℕ)) → IsSomeReading answer J → status ≡ status_of answer → 1 < status
+    → ShowsSome form entry old new (Ok status)
+unread-some entry form answer J status old new (text, (due, first)) is high =
+    (text, ((answer, due, is), λ low. absurd (omega (arith, low, high))))
+
+-- a text's good entries are shown
+pub shown-some : (entry : Option ℕ) (form : Form) (answer : Result (ℕ × Totals) AuditError) (J : List Entry)
+    (status n : ℕ) (old new : Option (List ℕ)) → IsSomeReading answer J → IsBefore answer J
+    → status ≡ status_of answer → status_of answer ≤ 1 → length J ≡ n → unwrap_or entry n ≤ n
+    → IsPage form J (result_err answer) old new → ShowsSome form entry old new (Ok status)
+shown-some entry form answer J status n old new (text, (due, first)) before is low size most page =
+    let are : AreGood J (rows_of text) = good (Some (rows_of text)) answer J due before first low in (
+      text,
+      (
+        (answer, due, is),
+        λ _. (
+          has (Some (rows_of text)) entry n J are size most,
+          paged (Some (rows_of text)) form answer J old new due before first low page,
+        ),
+      ),
+    )
+
+-- or it has no such entry
+pub none-some : (entry : Option ℕ) (form : Form) (answer : Result (ℕ × Totals) AuditError) (J : List Entry) (n : ℕ)
+    (old new : Option (List ℕ)) → IsSomeReading answer J → IsBefore answer J → status_of answer ≤ 1 → length J ≡ n
+    → ShowsSome form entry old new (Err (shown.NoSuchEntry n))
+none-some entry form answer J n old new (text, (due, first)) before low size =
+    let are : AreGood J (rows_of text) = good (Some (rows_of text)) answer J due before first low in
+    (text, none_there (Some (rows_of text)) J n are size)
+
+-- or too many for a page
+pub told-some : (entry : Option ℕ) (form : Form) (answer : Result (ℕ × Totals) AuditError) (J : List Entry)
+    (why : ShowError) (old new : Option (List ℕ)) → IsSomeReading answer J → IsBefore answer J
+    → status_of answer ≤ 1 → ((n : ℕ) → why ≢ shown.NoSuchEntry n)
+    → (why ≡ shown.TooManyEntries → 20000 < length J) → ShowsSome form entry old new (Err why)
+told-some entry form answer J why old new (text, (due, first)) before low there long =
+    let are : AreGood J (rows_of text) = good (Some (rows_of text)) answer J due before first low in
+    (text, told_of (Some (rows_of text)) J why are there long)
+
+-- what holds of a text where it is known, and of some text, holds of the text that a reader tells
+pub of-reader : (known : Option (List ℕ)) (P : List Row → Type 0) → IfSome (rows_in known) P
+    → ((text : List ℕ) × P (rows_of text)) → OfReader known (λ text. P (rows_of text))
+of-reader None P here (text, is) = (text, tt, is)
+of-reader (Some told) P here some = (told, refl, here)
+
+-- the page of another text, of the one that is told or of some
+pub other-shown : (known : Option (List ℕ)) (form : Form) (status : ℕ) (page : List ℕ)
+    → IfSome (rows_in known) (ShowsPage form (Some []) (Some page))
+    → ShowsSome form None (Some []) (Some page) (Ok status) → status ≤ 1
+    → OfReader known (λ text. IsOther form page (rows_of text))
+other-shown None form status page here (text, (due, there)) low = (text, tt, inl (there low).1)
+other-shown (Some told) form status page here some low = (told, refl, inl here)
+
+pub other-long : (known : Option (List ℕ)) (form : Form) (page : List ℕ) (old new : Option (List ℕ))
+    → IfSome (rows_in known) (TellsEntries shown.TooManyEntries)
+    → ShowsSome form None old new (Err shown.TooManyEntries)
+    → OfReader known (λ text. IsOther form page (rows_of text))
+other-long None form page old new here (text, is) = (text, tt, inr is)
+other-long (Some told) form page old new here some = (told, refl, inr here)
+
+-- what holds of all texts
+any-reader : (known : Option (List ℕ)) (P : List ℕ → Type 0) → ((text : List ℕ) → P text) → OfReader known P
+any-reader None P all = ([], tt, all [])
+any-reader (Some told) P all = (told, refl, all told)
+
+-- a status of the reader or of memory may come with any text
+pub faults-told : (rows : Option (List Row)) (status : ℕ) → (status ≡ 3) ⊎ (status ≡ 4) → TellsStatus rows status
+faults-told None status (inl is) = (Err error.ReadFault, tt, is)
+faults-told None status (inr is) = (Err error.OutOfMemory, tt, is)
+faults-told (Some known) status (inl is) = (Err error.ReadFault, inl (inl refl), is)
+faults-told (Some known) status (inr is) = (Err error.OutOfMemory, inl (inr refl), is)
+
+pub beside-fault : (entry : Option ℕ) (form : Form) (known old new : Option (List ℕ)) (status : ℕ)
+    → (status ≡ 3) ⊎ (status ≡ 4) → ShowsSomeBeside form entry known old new (Ok status)
+beside-fault entry form known old new status is = (
+  [],
+  any-reader known (λ others. ShownOf (rows_of []) entry (ShowsBeside form (rows_of others) old new) (Ok status))
+      (λ others. (faults-told (Some (rows_of [])) status is, λ low. absurd (high is low))),
+)
+  where
+    high : (status ≡ 3) ⊎ (status ≡ 4) → status ≤ 1 → ⊥
+    high (inl is) low = omega (arith, is, low)
+    high (inr is) low = omega (arith, is, low)
+
+-- the first text isn't shown
+pub beside-unread : (entry : Option ℕ) (form : Form) (known old new first : Option (List ℕ)) (status : ℕ)
+    → ShowsSome form entry (Some []) first (Ok status) → 1 < status
+    → ShowsSomeBeside form entry known old new (Ok status)
+beside-unread entry form known old new first status (text, (due, there)) high = (
+  text,
+  any-reader known (λ others. ShownOf (rows_of text) entry (ShowsBeside form (rows_of others) old new) (Ok status))
+      (λ others. (due, λ low. absurd (omega (arith, low, high)))),
+)
+
+pub beside-none : (entry : Option ℕ) (form : Form) (known old new first : Option (List ℕ)) (why : ShowError)
+    → ShowsSome form entry (Some []) first (Err why) → ShowsSomeBeside form entry known old new (Err why)
+beside-none entry form known old new first why (text, is) = (
+  text,
+  any-reader known (λ others. ShownOf (rows_of text) entry (ShowsBeside form (rows_of others) old new) (Err why))
+      (λ others. is),
+)
+
+-- a write failed
+pub beside-unwritten : (entry : Option ℕ) (form : Form) (known old new : Option (List ℕ))
+    → ShowsSomeBeside form entry known old new (Err shown.WriteFault)
+beside-unwritten entry form known old new = (
+  [],
+  any-reader known (λ others. ShownOf (rows_of []) entry (ShowsBeside form (rows_of others) old new)
+      (Err shown.WriteFault)) (λ others. tt),
+)
+
+-- both are shown
+pub beside-some : (entry : Option ℕ) (form : Form) (known old new : Option (List ℕ)) (first second : List ℕ)
+    (status : ℕ) → ShowsSome form entry (Some []) (Some first) (Ok status) → WritesBeside old new first second
+    → OfReader known (λ text. IsOther form second (rows_of text))
+    → ShowsSomeBeside form entry known old new (Ok status)
+beside-some entry form known old new first second status (text, (due, there)) both (others, same, other) = (
+  text,
+  (
+    others,
+    same,
+    (
+      due,
+      λ low. (
+        (there low).0,
+        both_shown (Some (rows_of text)) form (rows_of others) old new first second (there low).1 both other,
+      ),
+    ),
+  ),
+)
+
+-- where there is no such entry, more were asked for
+pub asks_past : (entry : Option ℕ) (n : ℕ) → n < unwrap_or entry n → AsksPast entry (shown.NoSuchEntry n)
+asks_past None n less = absurd (omega (arith, less))
+asks_past (Some k) n less = (k, refl, less)
+
+-- what holds of all values holds of one that is given
+pub all-ok : {X Y : Type 0} (r : Result X Y) (P : X → Type 0) → ((x : X) → P x) → IfOk r P
+all-ok (Ok x) P all = all x
+all-ok (Err e) P all = tt

@@ -1,9 +1,9 @@
 -- What is told of a journal's text beside the picture
-use Rattle.std.specs.Prelude.{◌≡◌, ◌==◌, ◌⊎◌, ◌<◌, ◌≤◌, ℕ, List, [], ◌++◌, length, Option, None, Some, Result, IfSome}
-use Rattle.std.specs.Prelude.{⊤, codes, decimal, if◌then◌else◌}
+use Rattle.std.specs.Prelude.{◌≡◌, ◌==◌, ◌⊎◌, ◌<◌, ◌≤◌, ℕ, List, [], ◌++◌, length, Option, None, Some, IfSome}
+use Rattle.std.specs.Prelude.{Result, Ok, Err, ⊤, codes, decimal, if◌then◌else◌}
 use Rattle.std.specs.Borrow.{Bor}
 use Rattle.std.specs.Result.{result_err}
-use Rattle.cell_rows.specs.Rows.{Row}
+use Rattle.cell_rows.specs.Rows.{Row, rows_of}
 use Rattle.cell_types.specs.declared.words.Entry.{Entry}
 use Rattle.cell_types.specs.declared.words.Totals.{Totals}
 use Rattle.cell_audit.specs.Meaning.{Due, IsFault}
@@ -90,6 +90,28 @@ abbrev pub ShowsBeside : Form → List Row → Option (List ℕ) → Option (Lis
 ShowsBeside form others old new rows =
     (first : List ℕ) × (second : List ℕ) × WritesBeside old new first second
     × ShowsPage form (Some []) (Some first) rows × IsOther form second others
+
+-- what holds of the text that a reader tells, or of some text where it tells none
+abbrev pub OfReader : Option (List ℕ) → (List ℕ → Type 0) → Type 0
+OfReader known P = (text : List ℕ) × IfSome known (λ told. told ≡ text) × P text
+
+-- what is answered where the cell is shown by the records of a text: the status that is due, and as many good entries
+-- as were asked for, of which something is written; or why nothing is
+abbrev pub ShownOf : List Row → Option ℕ → (List Row → Type 0) → Result ℕ ShowError → Type 0
+ShownOf rows entry Written (Ok status) = TellsStatus (Some rows) status
+    × (status ≤ 1 → HasEntry entry rows × Written rows)
+ShownOf rows entry Written (Err why) = TellsEntries why rows
+
+-- some text is shown
+abbrev pub ShowsSome : Form → Option ℕ → Option (List ℕ) → Option (List ℕ) → Result ℕ ShowError → Type 0
+ShowsSome form entry old new answer = (text : List ℕ) × ShownOf (rows_of text) entry (ShowsPage form old new) answer
+
+-- some text is shown beside another one
+abbrev pub ShowsSomeBeside : Form → Option ℕ → Option (List ℕ) → Option (List ℕ) → Option (List ℕ)
+    → Result ℕ ShowError → Type 0
+ShowsSomeBeside form entry other old new answer =
+    (text : List ℕ)
+    × OfReader other (λ others. ShownOf (rows_of text) entry (ShowsBeside form (rows_of others) old new) answer)
 
 -- a form that shows only so many entries
 abbrev pub HasBound : Form → Type 0

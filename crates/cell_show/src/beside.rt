@@ -1,8 +1,9 @@
 //! Two journals side by side in one page.
-ghost use Rattle.std.specs.Prelude.{◌≡◌, ◌≢◌, ◌≤◌, ◌<◌, IfErr, IfOk, IfSome, length};
+ghost use Rattle.std.specs.Prelude.{◌≡◌, ◌≢◌, ◌⊎◌, ◌≤◌, ◌<◌, IfErr, IfOk, IfSome, length};
 ghost use Rattle.cell_rows.specs.Rows.{rows_of};
 ghost use Rattle.cell_audit.specs.Migrated.{rows_in};
-ghost use Rattle.cell_show.specs.Shown.{AsksPast, HasBound, HasEntry, IsOther, ShowsBeside, TellsEntries, TellsStatus};
+ghost use Rattle.cell_show.specs.Shown.{AsksPast, HasBound, HasEntry, IsOther, OfReader, ShowsBeside, ShowsSomeBeside};
+ghost use Rattle.cell_show.specs.Shown.{TellsEntries, TellsStatus};
 
 use crate::ShowError;
 use crate::page::write_beside;
@@ -21,15 +22,18 @@ fn too_long_page(alloc: Global) -> Option<Vec<u8>> {
     Vec::from_slice(alloc, TOO_LONG.as_bytes()).ok()
 }
 
-// The page of the journal in a text, or the line in its place, if there was memory for it.
-fn other_page(alloc: Global, text: &[u8], form: Form) -> Option<Vec<u8>>
-    ensures { IfSome result (λ page. IsOther form page.items (rows_of text.now)) }
+// The page of another journal, or the line in its place; or the status where the reader failed or memory was refused.
+fn other_page<R: Read + Drop>(alloc: Global, reader: R, form: Form) -> Result<Vec<u8>, u8>
+    ensures page { IfOk result (λ page. OfReader (R.remaining reader)
+        (λ text. IsOther form page.items (rows_of text))) }
+    ensures status { IfErr result (λ status. (status ≡ 3) ⊎ (status ≡ 4)) }
 {
     let mut page = Vec::new(alloc);
-    match show_journal(alloc, text, form, None, &mut page) {
-        Ok(status) if status <= status::REFUSED => Some(page),
-        Err(ShowError::TooManyEntries) => too_long_page(alloc),
-        _ => None,
+    match show_journal(alloc, reader, form, None, &mut page) {
+        Ok(status) if status <= status::REFUSED => Ok(page),
+        Ok(status::DEVICE_FAULT) => Err(status::DEVICE_FAULT),
+        Err(ShowError::TooManyEntries) => too_long_page(alloc).ok_or(status::OUT_OF_MEMORY),
+        _ => Err(status::OUT_OF_MEMORY),
     }
 }
 
@@ -37,11 +41,11 @@ fn other_page(alloc: Global, text: &[u8], form: Form) -> Option<Vec<u8>>
 /// both are stepped, and gives the exit status, which is that of the first journal. The form is one of a page.
 ///
 /// Each journal is shown as by `show_journal`, the other one with all its entries. Where that has too many for a page
-/// its frame says so. Where memory is refused (status 4) nothing is written.
-pub fn show_beside<R: Read + Drop, W: Write>(
+/// its frame says so. Where one of the readers fails (status 3) or memory is refused (status 4) nothing is written.
+pub fn show_beside<R: Read + Drop, O: Read + Drop, W: Write>(
     alloc: Global,
     reader: R,
-    other: &[u8],
+    other: O,
     form: Form,
     entry: Option<u32>,
     writer: &mut W,
@@ -52,12 +56,15 @@ pub fn show_beside<R: Read + Drop, W: Write>(
     ensures there { IfOk result (λ status. status ≤ 1 → IfSome (rows_in (R.remaining reader)) (HasEntry entry)) }
     // Both pages stand in what was written.
     ensures pages { IfOk result (λ status. status ≤ 1
-        → IfSome (rows_in (R.remaining reader))
-        (ShowsBeside form (rows_of other.now) (W.contents writer.old) (W.contents writer.new))) }
+        → OfReader (O.remaining other) (λ others. IfSome (rows_in (R.remaining reader))
+        (ShowsBeside form (rows_of others) (W.contents writer.old) (W.contents writer.new)))) }
     ensures past { IfErr result (AsksPast entry) }
     ensures entries { IfErr result (λ why. IfSome (rows_in (R.remaining reader)) (TellsEntries why)) }
     ensures bound { result ≡ Err ShowError.TooManyEntries → HasBound form }
     ensures nothing { IfErr result (λ e. e ≢ ShowError.WriteFault → writer.new ≡ writer.old) }
+    // Where the first reader doesn't tell its bytes, all this is so of some text.
+    ensures some { ShowsSomeBeside form entry (O.remaining other) (W.contents writer.old) (W.contents writer.new)
+        result }
 {
     let mut first = Vec::new(alloc);
     let status = match show_journal(alloc, reader, form, entry, &mut first) {
@@ -67,8 +74,9 @@ pub fn show_beside<R: Read + Drop, W: Write>(
         Err(ShowError::WriteFault) => return Ok(status::OUT_OF_MEMORY),
         Err(why) => return Err(why),
     };
-    let Some(second) = other_page(alloc, other, form) else {
-        return Ok(status::OUT_OF_MEMORY);
+    let second = match other_page(alloc, other, form) {
+        Ok(page) => page,
+        Err(status) => return Ok(status),
     };
     write_beside(writer, first.as_slice(), second.as_slice())?;
     Ok(status)

@@ -5,7 +5,7 @@ ghost use Rattle.cell_types.specs.Records.{read_row};
 ghost use Rattle.cell_audit.specs.Migrated.{rows_in};
 ghost use Rattle.cell_audit.specs.Lines.{status_of};
 ghost use Rattle.cell_show.specs.Shown.{TellsStatus, AsksPast, TellsEntries, HasBound, HasEntry, IsPage, IsBarred};
-ghost use Rattle.cell_show.specs.Shown.{IsRefused, ShowsPage};
+ghost use Rattle.cell_show.specs.Shown.{IsRefused, ShowsPage, ShowsSome};
 
 use crate::ShowError;
 use crate::chart::{ChartError, draw_chart};
@@ -228,6 +228,8 @@ pub fn show_rows<R: TellsFault, W: Write>(
     ensures entries { IfErr result (λ why. IfSome (rows_left R.remaining rows.old) (TellsEntries why)) }
     ensures bound { result ≡ Err ShowError.TooManyEntries → HasBound form }
     ensures nothing { IfErr result (λ e. e ≢ ShowError.WriteFault → writer.new ≡ writer.old) }
+    // Whatever the records are, some text is shown.
+    ensures some { ShowsSome form entry (W.contents writer.old) (W.contents writer.new) result }
     // It gives the status of a reader that failed only where a failed read was noted.
     ensures fault { result ≡ Ok 3 → device_failed R.failed rows.new ≡ true }
 {
@@ -281,6 +283,8 @@ pub fn show_journal<R: Read + Drop, W: Write>(
     // Only a page or a chart has too many entries.
     ensures bound { result ≡ Err ShowError.TooManyEntries → HasBound form }
     ensures nothing { IfErr result (λ e. e ≢ ShowError.WriteFault → writer.new ≡ writer.old) }
+    // Where the reader doesn't tell its bytes, all this is so of some text.
+    ensures some { ShowsSome form entry (W.contents writer.old) (W.contents writer.new) result }
 {
     let mut rows = RowReader::new(alloc, Watched::new(reader));
     show_rows(alloc, &mut rows, form, entry, writer)

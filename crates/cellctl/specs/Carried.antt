@@ -2,12 +2,12 @@
 use Rattle.std.specs.Prelude.{◌≡◌, ◌≢◌, ◌⊎◌, ℕ, Bool, true, false, List, Option, Result, Ok, Err, IfOk, MatchResult}
 use Rattle.std.specs.Borrow.{Bor}
 use Rattle.std.specs.Io.KnownBytes.{Appends, Keeps}
-use Rattle.clap.specs.Words.{HasKind, Text as Word, fault_of, kind_of}
+use Rattle.clap.specs.Words.{HasKind, Text as Word, kind_of}
 use Rattle.clap.specs.declared.error.Error.{Error}
 use Rattle.clap.specs.declared.error.kind.ErrorKind.{ErrorKind}
 use Rattle.cell_output.specs.declared.watched.WriteFault.{WriteFault}
 use Rattle.cell_command.specs.Orders.{IsOrdered}
-use Rattle.cell_command.specs.Shape.{cellctl}
+use Rattle.cell_command.specs.Refusals.{refusals}
 use Rattle.cell_command.specs.declared.order.Running.{Running}
 use Rattle.cell_command.specs.declared.order.Sweeping.{Sweeping}
 use Rattle.cell_command.specs.declared.order.Order.{Order}
@@ -166,8 +166,9 @@ status_of_error kind.DisplayVersion = 0
 status_of_error kind.OutOfMemory = 4
 status_of_error _ = 2
 
--- the words are refused by the first fault that clap finds in them, or memory was refused
+-- the words are refused by the first fault that clap finds in them, or ask for the help of `help`, which answers them,
+-- or memory was refused
 pub record IsTurnedAway (words : List Word) (status : ℕ) : Type 0 where
   pub error : Error
-  pub fault : HasKind (fault_of cellctl words) error
+  pub fault : HasKind (refusals words) error
   pub ends : status ≡ status_of_error (kind_of error)

@@ -1,20 +1,22 @@
 //! What is done for an order, over any reader and writers.
 ghost use Rattle.std.specs.Prelude.{◌≡◌, ◌≢◌, ◌⊎◌, ℕ, List, IfErr, IfOk, Ok, OnOk};
 ghost use Rattle.std.specs.Io.KnownBytes.{Appends};
+ghost use Rattle.cell_runs.specs.Told.{IsRead};
 ghost use Rattle.cellctl.specs.Carried.{CarriesOut, DrivesFiles, FollowsFiles, FollowsTexts, MeasuresFiles};
 ghost use Rattle.cellctl.specs.Carried.{AddsMeasures, MeasuresRun, MeasuresTexts, RunsFiles, RunsTexts, TellsUnfit};
 
 use crate::least::tell_least;
 use crate::sweep::sweep_words;
+use cell_audit::Audited;
 use cell_command::{Driving, Order, Running};
 use cell_drive::{drive_texts, measure_texts};
 use cell_measures::Durations;
 use cell_orders::{
-    Failure, audit_file, check_file, durations_in, explain_words, explore_words, journal_in,
+    Failure, audit_file, book_in, check_file, durations_in, explain_words, explore_words,
     measure_words, migrate_file, script_in, settings_in, show_words, tell_times, tell_too_long,
 };
 use cell_output::{WriteFault, status};
-use cell_runs::{KeptRun, Left, follow_texts_kept, run_texts_kept};
+use cell_runs::{KeptRun, Left, follow_read_kept, run_texts_kept};
 use std::io::{Read, Write};
 use std::rt::Files;
 use std::sync::Wait;
@@ -267,17 +269,18 @@ fn measure_files<'a, R: AllocGlobal + Files + Threads + Wait + Sync, W: Write>(
     }
 }
 
-// Follows a journal by the texts of a run.
+// Follows a journal that was read by the texts of a run.
 fn follow_sources<R: AllocGlobal + Wait, W: Write>(
     rt: &R,
     output: &mut W,
-    followed: &[u8],
+    followed: &Audited,
     running: Running<'_>,
     sources: Sources,
 ) -> Carried
-    ensures { FollowsTexts running.entry.journal (W.contents output.old) (W.contents output.new) result.written }
+    ensures { (text : List ℕ) → IsRead followed.now text
+        → FollowsTexts running.entry.journal (W.contents output.old) (W.contents output.new) result.written }
 {
-    let told = follow_texts_kept(
+    let told = follow_read_kept(
         rt,
         followed,
         sources.settings.as_slice(),
@@ -303,8 +306,8 @@ fn follow_files<'a, R: AllocGlobal + Files + Wait, W: Write>(
         Ok(sources) => sources,
         Err(told) => return Ok(without_ending(told)),
     };
-    let followed = journal_in(rt, path)?.bytes;
-    Ok(follow_sources(rt, output, followed.as_slice(), running, sources))
+    let followed = book_in(rt, path)?;
+    Ok(follow_sources(rt, output, &followed, running, sources))
 }
 
 // Lets a method on the input drive the simulated cell by what the run's files say. They are all read before any is

@@ -17,7 +17,7 @@ const FAULTS: &str = "press_two,1,no_motion,\npress_one,99,no_motion,\n";
 const WAITING: &str = "\
 press 2 is failed since entry 132: an axis is still where it started
 plate 2 is at press 2; next is \"press 2: forges plate 2\", but press 2 is booked failed
-record 1 of the operator's script isn't done: it waits for 6 plates to be delivered, and 5 are
+line 1, record 1 of the operator's script isn't done: it waits for 6 plates to be delivered, and 5 are
 the fault in motion 99 of press 1 was never reached: it set out 15 times
 ";
 
@@ -25,7 +25,7 @@ the fault in motion 99 of press 1 was never reached: it set out 15 times
 const REFUSED: &str = "\
 press 2 is failed since entry 132: an axis is still where it started
 plate 2 is at press 2; next is \"press 2: forges plate 2\", but press 2 is booked failed
-record 1 of the operator's script isn't done: a plate is still at press 2
+line 1, record 1 of the operator's script isn't done: a plate is still at press 2
 the fault in motion 99 of press 1 was never reached: it set out 15 times
 ";
 
@@ -143,7 +143,7 @@ const TABLE_WAITS: &str = "\
 the table is failed since entry 5: the operator asked for the stop
 plate 1 is at the feed belt's end; next is \"feed belt: starts to go to the table\", but the table, the owner, is \
 booked failed
-record 2 of the operator's script isn't done: it waits for a plate at the table, and none is there
+line 2, record 2 of the operator's script isn't done: it waits for a plate at the table, and none is there
 ";
 
 // The faults, the operator's script, the status, the first line, and what is said.
@@ -158,10 +158,11 @@ const COUNTED: [(&str, &str, u8, &str, &str); 3] = [
     ("", WAITS, 1, "stalled\n…", TABLE_WAITS),
     (
         "",
-        "quarantined,1,stop,press1\n",
+        "\n\r\n\"quarantined\",1,stop,press1\n",
         0,
         "finished\n…",
-        "record 1 of the operator's script isn't done: it waits for 1 plate to be taken into quarantine, and 0 were\n",
+        "line 3, record 1 of the operator's script isn't done: it waits for 1 plate to be taken into quarantine, and 0 \
+         were\n",
     ),
 ];
 

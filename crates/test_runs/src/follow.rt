@@ -1,16 +1,17 @@
 //! Journals of runs that are followed, by their texts.
 use crate::rounds::{read_case, told};
-use cell_audit::audit;
+use cell_audit::{audit, read_journal};
+use cell_measures::Durations;
 use cell_output::WriteFault;
-use cell_runs::follow_texts;
+use cell_runs::{follow_read_kept, follow_texts};
 use std::process::Abort;
 use std::sync::Wait;
 use std::test::Fail;
 use std::thread::Threads;
 use test_samples::FailingWriter;
 
-// What is printed where a journal is followed by the three texts of its run, or what is booked then. It has to end with
-// this status.
+// What is printed where a journal is followed by the three texts of its run, or what is booked then: by its own text,
+// and by what was read of it. It has to end with this status.
 fn followed<R: AllocGlobal + Abort + Wait>(
     rt: &R,
     journal: &[u8],
@@ -22,6 +23,14 @@ fn followed<R: AllocGlobal + Abort + Wait>(
     let mut written = Vec::new(rt.alloc());
     let answer = follow_texts(rt, journal, settings, faults, operator, alone, &mut written);
     assert!(rt; answer == Ok(status), "{case}");
+    let reading = read_journal(rt.alloc(), journal).ok().expect(rt, "memory");
+    let mut again = Vec::new(rt.alloc());
+    let ones = &Durations::ONE;
+    let answer = follow_read_kept(
+        rt, &reading, settings, faults, operator, ones, alone, &mut again,
+    );
+    assert!(rt; answer.is_ok_and(|(ended, _)| ended == status), "{case}");
+    assert!(rt; again.as_slice() == written.as_slice(), "{case}");
     written
 }
 

@@ -284,6 +284,20 @@ fn shows_nothing_where_the_reader_fails(rt: HostRuntime) {
         let mut written = Vec::new(rt.alloc());
         let answer = show_journal(rt.alloc(), reader, Form::Text, None, &mut written);
         assert!(rt; answer == Ok(3) && written.is_empty(), "after {left} bytes");
+        let other = FailingReader::new(LEGAL.as_bytes(), left);
+        let page = Form::Page;
+        let answer = show_beside(
+            rt.alloc(),
+            REFUSED.as_bytes(),
+            other,
+            page,
+            None,
+            &mut written,
+        );
+        assert!(rt;
+            answer == Ok(3) && written.is_empty(),
+            "beside, after {left} bytes"
+        );
     }
 }
 

@@ -62,8 +62,8 @@ fn finish<T: Whole, R: Read + Drop>(
         refused,
         of: _,
     } = keeping;
-    if refused {
-        return Err(io::Error::from(ErrorKind::OutOfMemory));
+    if let Some(kind) = refused {
+        return Err(io::Error::from(kind));
     }
     let is_whole = is_told(&answer) && read_on(&mut source, &mut bytes, PIECE)?;
     Ok(JournalText {
@@ -90,8 +90,8 @@ fn judge<T: Whole, R: Read + Drop>(alloc: Global, reader: R) -> io::Result<Journ
 /// Reads a journal's text as far as it is judged, and 65,536 bytes more: to its end, or to a record that can't be read
 /// or an entry that isn't allowed.
 ///
-/// `OutOfMemory` is the kind of an error where memory was refused for what is kept, and only there or where the reader
-/// gave it.
+/// `OutOfMemory` is the kind of an error where memory was refused for what is kept, and `FileTooLarge` where
+/// 134,217,728 bytes are kept and the text isn't decided; each only there or where the reader gave it.
 pub fn journal_text<R: Read + Drop>(alloc: Global, reader: R) -> io::Result<JournalText>
     ensures first { IfOk result (λ read. IsFirstPart (R.remaining reader) read.bytes.items) }
     ensures whole { IfOk result (λ read. read.is_whole ≡ true → IsWhole (R.remaining reader) read.bytes.items) }

@@ -3,6 +3,7 @@ ghost use Rattle.std.specs.Prelude.{◌≡◌, ◌++◌, List, ℕ, Some, take, 
 ghost use Rattle.std.specs.Io.{ReadsAtMost};
 ghost use Rattle.std.specs.Io.KnownBytes.{ReadConsumes, prepend_known};
 
+use crate::reading::more::MOST_KEPT;
 use std::alloc::Global;
 use std::io;
 use std::io::{ErrorKind, Read};
@@ -27,8 +28,8 @@ impl Whole for Brand {
 pub(crate) struct Keeping<T: Whole, R: Read> {
     pub(crate) source: R,
     pub(crate) kept: Vec<u8>,
-    // Memory for the copy was refused, or for a read.
-    pub(crate) refused: bool,
+    // Why no more can be kept: memory for the copy was refused, or for a read, or the text is too large.
+    pub(crate) refused: Option<ErrorKind>,
     pub(crate) of: PhantomData<T>,
     ghost whole: { (text : List ℕ) → T.text ≡ Some text → prepend_known kept.items (R.remaining source) ≡ Some text },
 }
@@ -42,18 +43,19 @@ impl<T: Whole, R: Read> Keeping<T, R> {
         Keeping {
             source,
             kept: Vec::new(alloc),
-            refused: false,
+            refused: None,
             of: PhantomData,
         }
     }
 
-    // Notes an error, if it tells that memory was refused.
+    // Notes an error, if it tells that memory was refused, or that the text is too large.
     fn note(&mut self, error: io::Error) -> io::Error
         ensures kept { self.new.kept ≡ self.old.kept }
         ensures source { self.new.source ≡ self.old.source }
     {
-        if error.kind() == ErrorKind::OutOfMemory {
-            self.refused = true;
+        let kind = error.kind();
+        if matches!(kind, ErrorKind::OutOfMemory | ErrorKind::FileTooLarge) {
+            self.refused = Some(kind);
         }
         error
     }
@@ -69,6 +71,9 @@ impl<T: Whole, R: Read> Read for Keeping<T, R> {
         ensures kept { IfOk result (λ count. self.new.kept.items ≡ self.old.kept.items ++ take count buf.new) }
         ensures nothing { IsErr result → self.new.kept.items ≡ self.old.kept.items }
     {
+        if self.kept.len() >= MOST_KEPT {
+            return Err(self.note(io::Error::from(ErrorKind::FileTooLarge)));
+        }
         if let Err(e) = self.kept.reserve(buf.len()) {
             return Err(self.note(io::Error::from(e)));
         }

@@ -9,6 +9,10 @@ use std::io::{ErrorKind, Read};
 /// How many bytes of a text are read before it is looked at, and how many behind the place where it is decided.
 pub(crate) const PIECE: usize = 65536;
 
+/// A text of which so many bytes are kept and that isn't decided yet is too large. A legal journal has fewer, but for
+/// blank lines, whether its fields are quoted or not.
+pub(crate) const MOST_KEPT: usize = 134_217_728;
+
 // The most bytes of one read.
 const SIZE: usize = 16384;
 

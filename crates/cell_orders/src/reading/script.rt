@@ -7,7 +7,7 @@ ghost use Rattle.cell_orders.specs.Ends.{CutsLine};
 ghost use Rattle.cell_orders.specs.Parts.{IsFirstPart, IsWhole, ends_no_line};
 
 use crate::reading::ends::goes_on;
-use crate::reading::more::{PIECE, read_on};
+use crate::reading::more::{MOST_KEPT, PIECE, read_on};
 use cell_rows::{LineError, ScriptLine, read_script};
 use std::alloc::{AllocError, Global};
 use std::io;
@@ -77,7 +77,8 @@ fn count_in_lines(bytes: &[u8]) -> usize
 /// bytes but for line ends has a record that is no line, or 1,001 records, and the first of them begins among those
 /// bytes. The text is read to its end, or until it has more than 262,144 such bytes: 91,141 behind the last place at
 /// which that record may begin. It is no line as far as it was read either, since it has more than 171 bytes there, or
-/// has ended. So what is read decides as the whole text does. No clause says so, and `test_orders` looks at it.
+/// has ended. So what is read decides as the whole text does. No clause says so, and `test_orders` looks at it. A text
+/// of which 134,217,728 bytes don't decide is too large: most of it is blank lines.
 pub fn script_text<R: Read + Drop>(alloc: Global, mut reader: R) -> io::Result<ScriptText>
     ensures first { IfOk result (λ script. IsFirstPart (R.remaining reader) script.bytes.items) }
     ensures whole { IfOk result (λ script. script.is_whole ≡ true → IsWhole (R.remaining reader) script.bytes.items) }
@@ -86,7 +87,7 @@ pub fn script_text<R: Read + Drop>(alloc: Global, mut reader: R) -> io::Result<S
 {
     let mut bytes = Vec::new(alloc);
     let mut count = 0;
-    'pieces: for _ in 0..u64::MAX {
+    'pieces: for _ in 0..MOST_KEPT / PIECE {
         let start = bytes.len();
         if read_on(&mut reader, &mut bytes, PIECE)? {
             return Ok(ScriptText {
@@ -102,5 +103,5 @@ pub fn script_text<R: Read + Drop>(alloc: Global, mut reader: R) -> io::Result<S
             });
         }
     }
-    Err(io::Error::from(ErrorKind::OutOfMemory))
+    Err(io::Error::from(ErrorKind::FileTooLarge))
 }

@@ -17,7 +17,7 @@ const ORDERS: [&str; 7] = [
     "cellctl check settings.toml|Check(\"settings.toml\")",
 ];
 
-const REFUSED: [&str; 34] = [
+const REFUSED: [&str; 40] = [
     "cellctl brew|InvalidSubcommand",
     "cellctl run|MissingRequiredArgument",
     "cellctl sim|MissingRequiredArgument",
@@ -49,6 +49,12 @@ const REFUSED: [&str; 34] = [
     "cellctl explore --help|DisplayHelp",
     "cellctl --help|DisplayHelp",
     "cellctl audit --help|DisplayHelp",
+    "cellctl help|DisplayHelp",
+    "cellctl help help|DisplayHelp",
+    "cellctl help --help|DisplayHelp",
+    "cellctl help -h|DisplayHelp",
+    "cellctl help --version|InvalidSubcommand",
+    "cellctl help sim --help|InvalidSubcommand",
     "cellctl --version|DisplayVersion",
     "cellctl audit --version|UnknownArgument",
     "cellctl|DisplayHelpOnMissingArgumentOrSubcommand",
@@ -194,6 +200,28 @@ const COMMANDS: [&str; 11] = [
 // The first word of a line.
 fn first_word(line: &str) -> Option<&str> {
     line.split(' ').find(|word| !word.is_empty())
+}
+
+// What clap's error for words says.
+fn said(alloc: Global, words: &[&str]) -> Result<String, AllocError> {
+    match read_words(alloc, words) {
+        Ok(order) => format!(in alloc; "{order:?}"),
+        Err(error) => error.to_string(alloc),
+    }
+}
+
+#[test]
+fn tells_the_help_of_help_however_it_is_asked(rt: HostRuntime) -> Result<(), Fail> {
+    let due = said(rt.alloc(), &["cellctl", "help", "help"])?;
+    assert!(&rt;
+        due.as_str().contains("Usage: cellctl help [COMMAND]"),
+        "{due}"
+    );
+    for &wanted in &["--help", "-h"] {
+        let found = said(rt.alloc(), &["cellctl", "help", wanted])?;
+        assert!(&rt; found == due, "{wanted}: {found}");
+    }
+    Ok(())
 }
 
 #[test]

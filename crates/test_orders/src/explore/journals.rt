@@ -68,17 +68,22 @@ fn prints_the_counts(rt: HostRuntime) {
     assert!(rt; status == 0 && text.as_slice() == wanted, "{status}");
 }
 
-#[test]
-fn prints_that_there_are_more(rt: HostRuntime) {
-    let mut text = Vec::new(rt.alloc());
-    let mut errors = Vec::new(rt.alloc());
+// With a limit that is too low it's told that there are more states, with status 1.
+fn check_more(rt: &impl Abort, alloc: Global, limit: u32, wanted: &[u8]) {
+    let mut text = Vec::new(alloc);
+    let mut errors = Vec::new(alloc);
     let mut progress = ProgressLine::new(&mut errors, false);
-    let Ok(status) = explore_lines(rt.alloc(), &ONE_PLATE, 100, true, &mut text, &mut progress)
-    else {
+    let Ok(status) = explore_lines(alloc, &ONE_PLATE, limit, true, &mut text, &mut progress) else {
         panic!(rt; "a list takes all");
     };
-    let wanted = b"more than 100 states\n".as_slice();
     assert!(rt; status == 1 && text.as_slice() == wanted, "{status}");
+}
+
+#[test]
+fn prints_that_there_are_more(rt: HostRuntime) {
+    check_more(&rt, rt.alloc(), 100, b"more than 100 states\n".as_slice());
+    check_more(&rt, rt.alloc(), 1, b"more than 1 state\n".as_slice());
+    check_more(&rt, rt.alloc(), 0, b"more than 0 states\n".as_slice());
 }
 
 // What is on the errors after 20,000 of 30,000 states, and then after the line was taken away.

@@ -6,7 +6,7 @@ use cell_orders::journal_text;
 use plate_book::Refusal;
 use std::alloc::Global;
 use std::io;
-use std::io::Read;
+use std::io::{ErrorKind, Read};
 use std::process::Abort;
 use std::test::Fail;
 use test_samples::{FailingReader, Interrupted, Pieces, one_plate_text};
@@ -128,6 +128,14 @@ fn a_journal_without_an_end_is_read_until_it_is_refused(rt: HostRuntime) -> Resu
     let cut = journal_text(alloc, b"profile,1,,\n".as_slice().chain(io::repeat(b'a')))?;
     assert!(rt; cut.bytes.len() < 100_000 && cut.cuts_record(alloc)?);
     Ok(())
+}
+
+#[test]
+fn blank_lines_of_a_journal_without_an_end_are_too_large(rt: HostRuntime) {
+    let kind = journal_text(rt.alloc(), io::repeat(b'\n'))
+        .err()
+        .map(|e| e.kind());
+    assert!(rt; kind == Some(ErrorKind::FileTooLarge));
 }
 
 #[test]

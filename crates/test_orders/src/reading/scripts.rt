@@ -153,6 +153,14 @@ fn a_good_script_is_read_whole(rt: HostRuntime) -> Result<(), Fail> {
 }
 
 #[test]
+fn blank_lines_of_a_script_without_an_end_are_too_large(rt: HostRuntime) {
+    let kind = script_text(rt.alloc(), io::repeat(b'\n'))
+        .err()
+        .map(|e| e.kind());
+    assert!(rt; kind == Some(ErrorKind::FileTooLarge));
+}
+
+#[test]
 fn a_script_comes_from_any_reader(rt: HostRuntime) -> Result<(), Fail> {
     let alloc = rt.alloc();
     for &size in &[1, 7, 1000] {

@@ -90,6 +90,27 @@ fn times_are_refused(rt: HostRuntime) {
     );
 }
 
+#[test]
+fn hostile_keys_are_escaped(rt: HostRuntime) {
+    // Control characters beyond ASCII, and those that part lines or turn the direction of text.
+    is_refused(
+        &rt,
+        "\"\\u009B31m\\u202Eno\" = 1\n",
+        "times UnknownKey \\u009B31m\\u202Eno",
+    );
+    is_refused(
+        &rt,
+        "[time]\n\"\\u007F\\u0080\\u009F\\u061C\\u200E\\u200F\\u2028\\u202A\\u2066\\u2069\" = 1\n",
+        "times UnknownKey time.\\u007F\\u0080\\u009F\\u061C\\u200E\\u200F\\u2028\\u202A\\u2066\\u2069",
+    );
+    // The characters beside these stand as they are.
+    is_refused(
+        &rt,
+        "\"\u{a0}\u{61b}\u{61d}\u{200d}\u{2010}\u{2027}\u{202f}\u{2065}\u{206a}\u{1f600}\" = 1\n",
+        "times UnknownKey \u{a0}\u{61b}\u{61d}\u{200d}\u{2010}\u{2027}\u{202f}\u{2065}\u{206a}\u{1f600}",
+    );
+}
+
 // An unknown key is told before a number that is out of range.
 #[test]
 fn the_first_error_is_told(rt: HostRuntime) {

@@ -7,8 +7,8 @@ use Rattle.cell_orders.proofs.show.show_entry.Goals as goal
 
 pub returns-in_default : goal.returns-in_default
 returns-in_default g c =
-    shown-of c.show_text.result _ _ (λ s shows. inl (None, rw c.in_default.is refl, shows))
-    (c.show_text.ensures None refl)
+    shown-of c.show_files.result _ _ (λ s shows. inl (None, rw c.in_default.is refl, shows))
+    (c.show_files.ensures None refl)
 
 pub returns-in_default-read_count : goal.returns-in_default-read_count
 returns-in_default-read_count g c =
@@ -25,6 +25,6 @@ returns-in_default-read_count g c =
 
 pub returns : goal.returns
 returns g c =
-    shown-for c.show_text-2.result c.in-Some.word.now c.in-Some-read_count.count _ _ c.in-Some-read_count.ensures.number
-    c.show_text-2.ensures
+    shown-for c.show_files-2.result c.in-Some.word.now c.in-Some-read_count.count _ _
+    c.in-Some-read_count.ensures.number c.show_files-2.ensures
     (λ n s is shows. inl (Some n, rw c.in-Some.is (n, refl, is), shows))

@@ -4,7 +4,8 @@ use Rattle.std.specs.Prelude.{IfSome, unwrap_or}
 use Rattle.cell_audit.specs.declared.error.AuditError.TheVariants as error
 use Rattle.cell_rows.specs.Rows.{rows_left}
 use Rattle.cell_show.specs.Shown.{AreGood, IsPage}
-use Rattle.cell_show.proofs.Facts.{wants-memory, good, has, paged, told_of}
+use Rattle.cell_show.proofs.Facts.{wants-memory, good, has, none_there, paged, told_of, wants-some, unread-some}
+use Rattle.cell_show.proofs.Facts.{asks_past, shown-some, none-some, told-some}
 use Rattle.cell_show.proofs.show.show_rows.Goals as goal
 
 pub returns-in_default-clause-status : goal.returns-in_default-clause-status
@@ -45,6 +46,16 @@ returns-then-branch-clause-page g c = λ low.
     c.in-Ok.ensures.due c.in-Ok.ensures.before
     c.in-Ok.ensures.first (omega (arith, c.status_of-status.ensures, low)) page
 
+pub returns-then-shown-entries-clause-entries : goal.returns-then-shown-entries-clause-entries
+returns-then-shown-entries-clause-entries g c =
+    let book = c.in-Ok.reading.book.entries in
+    let are : IfSome (rows_left g.R.Read.remaining c.args.rows.now) (AreGood book) =
+    good (rows_left g.R.Read.remaining c.args.rows.now) c.in-Ok.reading.answer book c.in-Ok.ensures.due
+    c.in-Ok.ensures.before c.in-Ok.ensures.first
+    (omega (arith, c.status_of-status.ensures, c.if-status-gt-REFUSED.false)) in
+    let size : length book ≡ c.len-entries.result = search rules in
+    none_there (rows_left g.R.Read.remaining c.args.rows.now) book c.len-entries.result are size
+
 pub returns-in_err-draw-clause-entries : goal.returns-in_err-draw-clause-entries
 returns-in_err-draw-clause-entries g c =
     let book = c.in-Ok.reading.book.entries in
@@ -56,3 +67,50 @@ returns-in_err-draw-clause-entries g c =
     (omega (arith, c.status_of-status.ensures, c.if-status-gt-REFUSED.false)) in
     rw is (told_of _ book why are (λ n same. c.in_err-draw.ensures.entry n (ap Err same))
     (λ same. c.in_err-draw.ensures.long (ap Err same)))
+
+pub returns-in_default-clause-some : goal.returns-in_default-clause-some
+returns-in_default-clause-some g c = wants-some _ _ _ _
+
+pub returns-clause-some : goal.returns-clause-some
+returns-clause-some g c = wants-some _ _ _ _
+
+pub returns-then-status-gt-REFUSED-clause-some : goal.returns-then-status-gt-REFUSED-clause-some
+returns-then-status-gt-REFUSED-clause-some g c =
+    unread-some _ _ c.in-Ok.reading.answer c.in-Ok.reading.book.entries c.status_of-status.result _ _
+    c.in-Ok.ensures.some c.status_of-status.ensures c.if-status-gt-REFUSED.true
+
+pub returns-then-shown-entries-clause-some : goal.returns-then-shown-entries-clause-some
+returns-then-shown-entries-clause-some g c =
+    let size : length c.in-Ok.reading.book.entries ≡ c.len-entries.result = search rules in
+    none-some c.args.entry c.args.form c.in-Ok.reading.answer c.in-Ok.reading.book.entries c.len-entries.result
+    (g.W.Write.contents c.args.writer.now) (g.W.Write.contents c.args.writer.now) c.in-Ok.ensures.some
+    c.in-Ok.ensures.before (omega (arith, c.status_of-status.ensures, c.if-status-gt-REFUSED.false)) size
+
+pub returns-then-shown-entries-clause-past : goal.returns-then-shown-entries-clause-past
+returns-then-shown-entries-clause-past g c =
+    asks_past c.args.entry c.len-entries.result (omega (arith, c.unwrap_or-shown.ensures, c.if-shown-entries.true))
+
+pub returns-in_err-draw-clause-some : goal.returns-in_err-draw-clause-some
+returns-in_err-draw-clause-some g c =
+    let why = c.in_err-draw.field-0.0 in
+    let is : c.from_residual.result ≡ Err why = search rules in
+    rw is (told-some c.args.entry c.args.form c.in-Ok.reading.answer c.in-Ok.reading.book.entries why
+    (g.W.Write.contents c.args.writer.now) (g.W.Write.contents c.draw.new.writer) c.in-Ok.ensures.some
+    c.in-Ok.ensures.before (omega (arith, c.status_of-status.ensures, c.if-status-gt-REFUSED.false))
+    (λ n same. c.in_err-draw.ensures.entry n (ap Err same)) (λ same. c.in_err-draw.ensures.long (ap Err same)))
+
+pub returns-then-branch-clause-some : goal.returns-then-branch-clause-some
+returns-then-branch-clause-some g c =
+    let book = c.in-Ok.reading.book.entries in
+    let n = c.len-entries.result in
+    let old = g.W.Write.contents c.args.writer.now in
+    let new = g.W.Write.contents c.draw.new.writer in
+    let size : length book ≡ n = search rules in
+    let shown : c.unwrap_or-shown.result ≡ unwrap_or c.args.entry n = c.unwrap_or-shown.ensures in
+    let most : unwrap_or c.args.entry n ≤ n = omega (arith, shown, c.if-shown-entries.false) in
+    let drawn : c.draw.result ≡ Ok true = search rules in
+    let page = subst (λ why. IsPage c.args.form book why old new) c.err-answer.ensures.value (c.draw.ensures.page drawn)
+    in
+    shown-some c.args.entry c.args.form c.in-Ok.reading.answer book c.status_of-status.result n old new
+    c.in-Ok.ensures.some c.in-Ok.ensures.before c.status_of-status.ensures
+    (omega (arith, c.status_of-status.ensures, c.if-status-gt-REFUSED.false)) size most page

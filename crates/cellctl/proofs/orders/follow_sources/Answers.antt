@@ -6,22 +6,21 @@ use Rattle.cellctl.proofs.Written.{as-answered}
 use Rattle.cellctl.proofs.orders.follow_sources.Goals as goal
 
 pub returns : goal.returns
-returns g c =
-    let journal = c.args.followed.now in
+returns g c = λ text read.
     let settings = c.as_slice.result.now in
     let faults = c.as_slice-2.result.now in
     let operator = c.as_slice-3.result.now in
     let old = g.W.Write.contents c.args.output.now in
-    let new = g.W.Write.contents c.follow_texts_kept-told.new.writer in
+    let new = g.W.Write.contents c.follow_read_kept-told.new.writer in
     let alone = c.args.running.journal in (
-      journal,
+      text,
       settings,
       faults,
       operator,
-      as-answered c.follow_texts_kept-told.result c.with_ending.result.written
-          (TellsFollowed journal settings faults operator alone old new)
-          (TellsPartFollowed journal settings faults operator alone old new) c.with_ending.ensures.ok
+      as-answered c.follow_read_kept-told.result c.with_ending.result.written
+          (TellsFollowed text settings faults operator alone old new)
+          (TellsPartFollowed text settings faults operator alone old new) c.with_ending.ensures.ok
           c.with_ending.ensures.err
-          (IfOk-weaker c.follow_texts_kept-told.result _ _ (λ told keeps. (kept_of told.1, keeps))
-          c.follow_texts_kept-told.ensures.whole) c.follow_texts_kept-told.ensures.part,
+          (IfOk-weaker c.follow_read_kept-told.result _ _ (λ told keeps. (kept_of told.1, keeps))
+          (c.follow_read_kept-told.ensures.whole text read)) (c.follow_read_kept-told.ensures.part text read),
     )
