@@ -162,7 +162,7 @@ class Specs:
     """All definitions of specs/, by crate, module and name, and what each module imports."""
 
     def __init__(self):
-        self.modules, self.imports = {}, {}
+        self.modules, self.imports, self.constructors = {}, {}, {}
         for crate in sorted(os.listdir(CRATES)):
             folder = f"{CRATES}/{crate}/specs"
             for file in files_of(folder, ".antt"):
@@ -170,12 +170,20 @@ class Specs:
                 if module.rpartition(".")[2] != "Lib":
                     path = f"Rattle.{crate}.specs.{module}"
                     self.modules[path] = {it.name: it for it in split_definitions(crate, module, file)}
+                    self.constructors[path] = {
+                        made: it
+                        for it in self.modules[path].values()
+                        if it.text.startswith("pub data")
+                        for made in re.findall(r"^  (\w+) :", it.text, re.MULTILINE)
+                    }
                     self.imports[path] = imports_of(blanked(read(file), "--"), False)
 
     def resolve(self, path, name):
-        """The definition of a name in a module, through the imports that the module hands on."""
-        if name in self.modules.get(path, {}):
-            return self.modules[path][name]
+        """The definition of a name in a module, through the imports that the module hands on. Of a constructor it is that of its
+        type."""
+        for names in self.modules, self.constructors:
+            if name in names.get(path, {}):
+                return names[path][name]
         for new, source, old in self.imports.get(path, ()):
             if new == name and old:
                 return self.resolve(source, old)

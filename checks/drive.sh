@@ -55,7 +55,7 @@ if ! "$methods/compare.py" raw:"$methods/careful.py" raw:"$methods/hasty.py" "$m
 fi
 echo "drive: compare.py took $(($(date +%s) - start)) s"
 
-# The second method writes nothing, and is ended after five seconds.
+# The second method writes nothing, and is ended after fifteen seconds.
 printf '#!/bin/sh\nexec sleep 100\n' > "$work/mute"
 chmod 755 "$work/mute"
 cat > "$work/due" << 'EOF'
@@ -63,7 +63,7 @@ method,fault,end,delivered,lost,broken,rule,round,command,untrue,rounds
 hasty.py,,finished,0,6,12,ArmInPress,29,"on,press_one,top,",,272
 mute,,silent,,,,,,,,
 EOF
-timeout 60 examples/results.py --quick --csv --seconds 5 --only "raw:./$methods/hasty.py" --only "$work/mute" \
+timeout 60 examples/results.py --quick --csv --seconds 15 --only "raw:./$methods/hasty.py" --only "$work/mute" \
     > "$work/rows" 2> "$work/told"
 if ! diff "$work/due" "$work/rows"; then
     echo "  wanted: these rows (< due, > printed) of results.py --csv"

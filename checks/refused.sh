@@ -202,7 +202,7 @@ without_motions() {
 # where the run ended for want of memory, lines on that end.
 is_part_of_ending() {
     if [ "${output%%"$newline"*}" = memory ]; then
-        ! grep -v -q -e '^[a-z].* is failed since entry [0-9]*: ' -e "^record [0-9]* of the operator's script isn't done: " \
+        ! grep -v -q -e '^[a-z].* is failed since entry [0-9]*: ' -e "^line [0-9]*, record [0-9]* of the operator's script isn't done: " \
             -e '^plate [0-9]* is [a-z].*; next is ".*", ' -e '^the fault in motion [0-9]* of .* was never reached: ' \
             -e "^[0-9]* plates\{0,1\} w[a-z]*n't admitted$" -e '^[0-9]* plates\{0,1\} w[a-z]* laid back$' <<< "${1%"$newline"}"
     else

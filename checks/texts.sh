@@ -8,23 +8,32 @@ cellctl=${CELLCTL:-$here/crates/cellctl/out/cellctl}
 work=$(mktemp -d)
 trap 'rm -rf "$work"' EXIT
 cd "$work" || exit 1
-failed=0
 
-# Runs the program on standard input, with a limit of seconds, and tells what it printed, its status and its peak memory.
+# The names of the rows that are another.
+wrong=()
+
+# Notes that a row is another, and tells what is due.
+# differs NAME WANTED
+differs() {
+    echo "  wanted: $2"
+    wrong+=("$1")
+}
+
+# Runs the program on standard input, with a limit of seconds of a processor (and of 100 by the clock, since others may use the
+# machine too), and tells what it printed, its status and its peak memory.
 # measure NAME LINE STATUS MEGABYTES SECONDS WORDS...
 measure() {
     name=$1 line=$2 status=$3 megabytes=$4 seconds=$5
     shift 5
     start=$(date +%s%N)
-    timeout -k 1 "$seconds" /usr/bin/time -q -f %M -o peak "$cellctl" "$@" > said 2> told
+    (ulimit -S -t "$seconds" && exec timeout -k 1 100 /usr/bin/time -q -f %M -o peak "$cellctl" "$@" > said 2> told)
     got=$?
     took=$((($(date +%s%N) - start) / 1000000))
     peak=$(($(tail -n 1 peak) / 1024))
     first=$(head -n 1 said | cut -c 1-60)
     printf '%-44s %-28s status %s, %5d MB, %6d ms\n' "$name" "$first" "$got" "$peak" "$took"
     if [ "$first" != "$line" ] || [ "$got" != "$status" ] || [ "$peak" -gt "$megabytes" ]; then
-        echo "  wanted: $line, status $status, at most $megabytes MB; on standard error: $(head -n 1 told)"
-        failed=1
+        differs "$name" "$line, status $status, at most $megabytes MB; on standard error: $(head -n 1 told)"
     fi
 }
 
@@ -50,7 +59,7 @@ audit_texts() {
     measure 'a picture of 100 MB of letters' 'After 0 entries: the opening' 1 12 20 show < <(printf "$good"; bytes $((100 * mega)) a)
     measure 'an explanation of 50 MB of commas' 'line 2, entry 1: a record of more than 65536 bytes' 1 8 20 explain < <(printf "$good"; bytes $((50 * mega)) ,)
     measure 'an explanation of 60,000 commas' 'line 2, entry 1: 60001 fields, and not four' 1 8 20 explain < <(printf "$good"; bytes 60000 ,)
-    measure 'an explanation of 10 MB of random bytes' 'line 1: the first record is profile,1,, or profile,2,,' 1 32 20 explain < <(head -c $((10 * mega)) /dev/urandom)
+    measure 'an explanation of 10 MB of random bytes' 'line 1: the first record is profile,1,, or profile,2,,' 1 32 20 explain < <(printf x; head -c $((10 * mega)) /dev/urandom)
 }
 
 # Settings of a million bytes, and longer ones.
@@ -106,7 +115,8 @@ script_texts() {
     measure 'scripts of 50 MB of blank lines' 'finished' 0 200 20 run good blank blank
 }
 
-# Texts without an end, each of which is answered within a second and in little memory.
+# Texts without an end, and many blank lines, each of which is answered in little memory; where a text is kept, blank lines are
+# kept as far as one may be long.
 endless_texts() {
     printf 'profile,1,,\n' > first
     quoted() { yes '"a' | tr -d '\n'; }
@@ -121,9 +131,20 @@ endless_texts() {
     measure 'a migration of it' '' 1 8 1 migrate /dev/zero
     measure 'an explanation of it' 'line 1: the first record is profile,1,, or profile,2,,' 1 8 1 explain /dev/zero
     measure 'an audit of a named file of yes' 'unreadable 0' 1 8 1 audit <(yes)
-    measure 'an audit of a named journal without an end' 'refused 1000001 JournalFull' 1 64 5 audit <(cat first; yes $'claimed,robot,z3,\nyielded,robot,z3,')
+    measure 'an audit of a named journal without an end' 'refused 1000001 JournalFull' 1 8 5 audit <(cat first; yes $'claimed,robot,z3,\nyielded,robot,z3,')
+    measure 'an audit of a named file of blank lines' 'legal 0' 0 8 20 audit <(bytes $((50 * mega)) '\n'; cat first)
+    measure 'a migration of it' 'profile,2,,' 0 8 20 migrate <(bytes $((50 * mega)) '\n'; cat first)
+    measure 'a picture of it' 'After 0 entries: the opening' 0 8 20 show --file <(bytes $((50 * mega)) '\n'; cat first)
+    measure 'a page of it' '<!DOCTYPE html>' 0 8 20 show --html --file <(bytes $((50 * mega)) '\n'; cat first)
+    measure 'a page beside it' '<!DOCTYPE html>' 0 8 20 show --html --beside <(bytes $((50 * mega)) '\n'; cat first) --file first
+    measure 'a run that follows it' 'followed' 0 12 20 sim --follow <(bytes $((50 * mega)) '\n'; cat first) good none none
+    measure 'blank lines without an end, explained' '' 3 300 20 explain <(yes '')
+    measure 'explained on standard input' '' 3 300 20 explain < <(yes '')
+    measure 'as a script that is explained' '' 3 300 20 explain --operator <(yes '')
+    measure 'as a script that is run' '' 3 300 20 sim good none <(yes '')
+    measure 'measures of blank lines before a journal' 'journal entries                   0' 0 16 20 measure <(bytes $((50 * mega)) '\n'; cat first)
     measure 'measures of a named file of bytes 0' 'unreadable 0' 1 8 1 measure /dev/zero
-    measure 'measures of a journal without an end' 'refused 1000001 JournalFull' 1 128 10 measure <(cat first; yes $'claimed,robot,z3,\nyielded,robot,z3,')
+    measure 'measures of a journal without an end' 'refused 1000001 JournalFull' 1 16 10 measure <(cat first; yes $'claimed,robot,z3,\nyielded,robot,z3,')
     measure 'measures by times of bytes 0' 'times TooLong' 1 16 1 measure --times /dev/zero first
     for command in sim run; do
         measure "$command, settings of bytes 0" 'settings TooLong' 1 16 1 $command /dev/zero none none
@@ -167,7 +188,7 @@ small_stack() {
         (ulimit -S -s 512 && exec "$cellctl" $words < journal > said 2> told)
         got=$?
         printf '%-60s status %s\n' "cellctl $words, a stack of 512 KB" "$got"
-        [ "$got" = 0 ] || { echo '  wanted: status 0'; failed=1; }
+        [ "$got" = 0 ] || differs "cellctl $words, a stack of 512 KB" 'status 0'
     done
 }
 
@@ -176,8 +197,7 @@ small_stack() {
 ended() {
     printf '%-60s status %s, %s\n' "$1" "$2" "$(tail -n 1 told | cut -c 1-100)"
     if [ "$2" != "$3" ] || [ "$(cat told)" != "$4" ]; then
-        echo "  wanted: status $3, $4"
-        failed=1
+        differs "$1" "status $3, $4"
     fi
 }
 
@@ -225,7 +245,7 @@ files_that_fail() {
             "$cellctl" $words "$file" > said 2> told < /dev/null
             got=$?
             ended "cellctl $words ${file:0:20}" $got 3 $'read fault\ncellctl: '"$file: $reason"
-            [ ! -s said ] || { echo '  wanted: nothing on standard output'; failed=1; }
+            [ ! -s said ] || differs "cellctl $words ${file:0:20}" 'nothing on standard output'
         done << END
 missing no such file
 folder is a folder
@@ -245,7 +265,7 @@ END
         ended "cellctl $words, input open for writing" $? 3 $'read fault\ncellctl: standard input: not open for reading'
     done
     "$cellctl" audit missing > said 2>&-
-    [ $? = 3 ] || { echo 'a missing file, errors closed: wanted: status 3'; failed=1; }
+    [ $? = 3 ] || differs 'a missing file, errors closed' 'status 3'
 }
 
 # A file that is named gives what standard input gives.
@@ -261,7 +281,7 @@ named_files() {
             # shellcheck disable=SC2086
             "$cellctl" $words $named $file > said2 2> told2 < folder
             ended "cellctl $words $named $file" $? $got "$(cat told2)"
-            cmp -s said said2 && cmp -s told told2 || { echo '  wanted: what standard input gives'; failed=1; }
+            cmp -s said said2 && cmp -s told told2 || differs "cellctl $words $named $file" 'what standard input gives'
         done
     done
     bytes $((50 * mega)) , > commas
@@ -288,8 +308,7 @@ words_back() {
         got=$?
         printf '%-60s status %s\n' "$(printf 'cellctl %q' "$words")" "$got"
         if [ "$got" != 2 ] || LC_ALL=C grep -q $'[\x01-\x09\x0b-\x1f\x7f]\|\xc2[\x80-\x9f]' told; then
-            echo '  wanted: status 2, and no control characters but line feeds'
-            failed=1
+            differs "$(printf 'cellctl %q' "$words")" 'status 2, and no control characters but line feeds'
         fi
     done
 }
@@ -303,7 +322,7 @@ wrong_questions() {
         # shellcheck disable=SC2086
         "$cellctl" explore $words > said 2> told < /dev/null
         ended "cellctl explore $words" $? 2 "$why"
-        [ ! -s said ] || { echo '  wanted: nothing on standard output'; failed=1; }
+        [ ! -s said ] || differs "cellctl explore $words" 'nothing on standard output'
     done << END
 16|error: PLATES is a whole number from 0 to 15
 -- -1|error: PLATES is a whole number from 0 to 15
@@ -328,5 +347,9 @@ files_that_fail
 named_files
 words_back
 wrong_questions
-echo "hostile texts and outputs: $([ $failed = 0 ] && echo all as due || echo some are another)"
-exit $failed
+if [ ${#wrong[@]} = 0 ]; then
+    echo 'hostile texts and outputs: all as due'
+else
+    echo "hostile texts and outputs: ${#wrong[@]} are another: $(printf '%s; ' "${wrong[@]}")"
+    exit 1
+fi
