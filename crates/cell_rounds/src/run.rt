@@ -1,0 +1,166 @@
+//! A run in rounds over a cell.
+ghost use Rattle.std.specs.Prelude.{◌≡◌, ◌<◌, IfErr, IfSome, Some, true};
+ghost use Rattle.cell_types.specs.declared.words.Machine.{Machine as MachineValue};
+ghost use Rattle.cell_rules.specs.Legal.{legal};
+ghost use Rattle.cell_rules.specs.Safety.{IsSafe};
+ghost use Rattle.cell_ledger.specs.New.{AreBlank};
+ghost use Rattle.cell_turns.specs.Minds.{Mind, machine_of_watch};
+ghost use Rattle.cell_turns.specs.Schedules.{FitAll};
+ghost use Rattle.cell_turns.specs.declared.six.Six.{Six as SixValue};
+ghost use Rattle.cell_turns.specs.Six.{at};
+ghost use Rattle.cell_rounds.specs.Moves.{Controlled, Rests, RestsIf, Runs, halted, is_break};
+ghost use Rattle.cell_rounds.specs.Stands.{last_of};
+
+use crate::desk::{book_acts, serve};
+use crate::hands::operate;
+use crate::progress::{Halt, Progress};
+use crate::settle::{LastCommand, begin_looking};
+use crate::turning::{are_idle, take_turns};
+use cell_ledger::{Blanks, Kept, Run};
+use cell_plant::{Keeper, Plant};
+use cell_ports::Plan;
+use cell_turns::Watches;
+use cell_workers::{End, end_at_rest};
+use operator_desk::Script;
+use plate_book::Book;
+use std::alloc::Global;
+
+/// What a run left: its book, and how it halted.
+#[derive(Drop)]
+pub struct Outcome {
+    pub book: Book,
+    pub halt: Halt,
+}
+
+// What is done in a round: what was done at the cell is booked, each machine takes a turn, the script's next action is
+// done, and what is wanted at the cell gets its answers.
+fn act<C: Plant, K: Keeper, R: Run>(
+    plant: &mut C,
+    keeper: &mut K,
+    cell: &mut Progress<R>,
+    plan: &Plan,
+) -> Result<(), Halt>
+    requires { (m : MachineValue) → machine_of_watch (at cell.old.watches m) ≡ m }
+    ensures machines { (m : MachineValue) → machine_of_watch (at cell.new.watches m) ≡ m }
+    ensures limits { cell.new.kept.limits ≡ cell.old.kept.limits }
+    ensures led { Runs C.told K.keeps cell.old.kept.limits plan.now (halted result) plant.old keeper.old
+        cell.old.kept.entries cell.old.watches (last_of cell.old.pending) plant.new keeper.new cell.new.kept.entries
+        cell.new.watches (last_of cell.new.pending) }
+    ensures breaks { IfErr result (λ halt. is_break halt ≡ true) }
+{
+    book_acts(plant, keeper, cell)?;
+    take_turns(plant, keeper, cell, plan)?;
+    operate(plant, keeper, cell)?;
+    serve(plant, keeper, cell)
+}
+
+// The end that a round sets, which began with so many entries in the journal: one that booked nothing, after which all
+// machines are idle, sets one.
+fn end_after<R: Run>(before: u32, cell: &Progress<R>, plan: &Plan, waits: bool) -> Option<End>
+    ensures { IfSome result (λ end. (minds : SixValue Mind) → FitAll cell.now.watches minds
+        → Rests plan.now cell.now.kept.entries minds end) }
+{
+    let book = cell.book();
+    if book.journal().len() != before || cell.pending.is_some() {
+        return None;
+    }
+    if !are_idle(book, &cell.watches, plan) {
+        return None;
+    }
+    match end_at_rest(book, plan) {
+        End::Stalled if waits => None,
+        end => Some(end),
+    }
+}
+
+// A round.
+fn take_round<C: Plant, K: Keeper, R: Run>(
+    plant: &mut C,
+    keeper: &mut K,
+    cell: &mut Progress<R>,
+    plan: &Plan,
+    waits: bool,
+) -> Result<(), Halt>
+    requires { (m : MachineValue) → machine_of_watch (at cell.old.watches m) ≡ m }
+    ensures machines { (m : MachineValue) → machine_of_watch (at cell.new.watches m) ≡ m }
+    ensures limits { cell.new.kept.limits ≡ cell.old.kept.limits }
+    ensures led { Runs C.told K.keeps cell.old.kept.limits plan.now (halted result) plant.old keeper.old
+        cell.old.kept.entries cell.old.watches (last_of cell.old.pending) plant.new keeper.new cell.new.kept.entries
+        cell.new.watches (last_of cell.new.pending) }
+    ensures rests { IfErr result (λ halt. RestsIf plan.now cell.new.kept.entries cell.new.watches halt) }
+{
+    plant.begin_round()?;
+    let before = cell.book().journal().len();
+    act(plant, keeper, cell, plan)?;
+    if let Some(end) = end_after(before, cell, plan, waits) {
+        return Err(Halt::End(end));
+    }
+    plant.end_round()?;
+    Ok(())
+}
+
+// Rounds, until one ends the run.
+fn take_rounds<C: Plant, K: Keeper, R: Run>(
+    plant: &mut C,
+    keeper: &mut K,
+    cell: &mut Progress<R>,
+    plan: &Plan,
+    waits: bool,
+) -> Halt
+    requires { (m : MachineValue) → machine_of_watch (at cell.old.watches m) ≡ m }
+    ensures limits { cell.new.kept.limits ≡ cell.old.kept.limits }
+    ensures led { Runs C.told K.keeps cell.old.kept.limits plan.now (Some result) plant.old keeper.old
+        cell.old.kept.entries cell.old.watches (last_of cell.old.pending) plant.new keeper.new cell.new.kept.entries
+        cell.new.watches (last_of cell.new.pending) }
+    ensures rests { RestsIf plan.now cell.new.kept.entries cell.new.watches result }
+{
+    for _round in 0..plan.turns {
+        if let Err(halt) = take_round(plant, keeper, cell, plan, waits) {
+            return halt;
+        }
+    }
+    Halt::End(End::TurnLimit)
+}
+
+/// Controls a cell in rounds, from a book on: in each what was done at the cell is booked, each machine takes a turn at
+/// what it shows, the script's next action is done, and what is wanted at the cell is answered. Each entry is kept
+/// before its command goes out. A round that books nothing, and after which all machines are idle, ends the run; but
+/// not a stalled one that waits. `pending` is the last entry's command, if it isn't known whether it went out.
+pub fn control<C: Plant, K: Keeper, R: Run>(
+    alloc: Global,
+    plant: &mut C,
+    keeper: &mut K,
+    book: Book,
+    blanks: Blanks,
+    script: Script,
+    pending: Option<LastCommand>,
+    plan: &Plan,
+    waits: bool,
+) -> Outcome
+    requires parts { 0 < R.parts }
+    requires limits { book.limits ≡ R.limits }
+    requires ledgers { AreBlank R.Run blanks }
+    ensures limits { result.book.limits ≡ R.limits }
+    ensures legal { legal R.limits result.book.entries ≡ true }
+    ensures safe { IsSafe result.book.entries }
+    ensures controlled { Controlled C.told K.keeps R.limits plan.now result.halt plant.old keeper.old book.entries
+        pending plant.new keeper.new result.book.entries }
+{
+    let watches = Watches::start(&book);
+    let (kept, shares) = Kept::<R>::new(book, blanks);
+    let mut cell = Progress {
+        kept,
+        shares,
+        watches,
+        entries: Vec::new(alloc),
+        script,
+        lost: false,
+        pending: begin_looking(pending, plan),
+    };
+    let halt = take_rounds(plant, keeper, &mut cell, plan, waits);
+    cell.kept.is_lawful();
+    Outcome {
+        book: cell.kept.into_book(),
+        halt,
+    }
+}
