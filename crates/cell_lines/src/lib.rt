@@ -1,0 +1,15 @@
+//! A cell at the other end of two pipes: the lines that it writes, read with bounded memory, and those that are written
+//! to it.
+#![tactic(auto)]
+
+mod far_end;
+mod known;
+mod line;
+mod put;
+mod reading;
+mod said;
+mod split;
+mod unread;
+mod written;
+
+pub use far_end::{FarEnd, Loss, MAX_LINES};
