@@ -1,0 +1,10 @@
+//! This project's controller of a cell at the other end of two pipes, by the texts of a run.
+#![tactic(auto)]
+
+mod going_on;
+mod texts;
+mod told;
+
+pub use texts::{
+    ControlOptions, Finished, Orders, control_cell, empty_book, read_orders, refuse_orders,
+};
