@@ -1,1 +1,2 @@
 pub mod Drives
+pub mod Wishes

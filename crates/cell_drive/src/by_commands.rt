@@ -6,7 +6,7 @@ use crate::texts::{Told, status_of, write_told};
 use crate::unread::{UnreadLine, unread_command};
 use crate::wish::{Wish, wish_of};
 use cell_method::{DriveEnd, DriveError, LineReader, MAX_LINES, ReadingLine};
-use cell_ports::{OperatorPort, Plan, Port};
+use cell_ports::{Act, OperatorPort, Plan, Port};
 use cell_rows::{Four, TellsFault, read_script};
 use cell_runs::sim_ports;
 use cell_sim::{FaultScript, SimOperator, SimPort, World};
@@ -51,6 +51,8 @@ struct Run<'a, R: Wait> {
     done: usize,
     // How many commands came. At `u32::MAX` the count stays.
     commands: u32,
+    // Whether the method ends the run, and no plate does.
+    stays: bool,
     measures: Measures,
     // The first line that couldn't be read.
     unread: Option<UnreadLine>,
@@ -66,14 +68,17 @@ fn machine_of(command: Command) -> Machine {
     }
 }
 
-// Reads each machine in order, tells what it shows, and opens the round of a number.
+// Reads each machine in order, tells what it shows, opens the round of a number, and notes which plates the readings
+// laid in and took out.
 fn open<R: Wait, W: Write>(run: &mut Run<'_, R>, number: u32, writer: &mut W) -> io::Result<()> {
     for machine in MACHINES {
         let reading = run.ports.pick(machine).read();
         write!(writer, "{}", ReadingLine { machine, reading })?;
     }
     writeln!(writer, "round,{number},,")?;
-    writer.flush()
+    writer.flush()?;
+    run.measures.open(number, &run.world.lock(run.rt));
+    Ok(())
 }
 
 // Sends a command, and gives the answer.
@@ -83,6 +88,32 @@ fn send<R: Wait>(run: &mut Run<'_, R>, command: Command) -> &'static str {
         Ok(()) => "ok,,,\n",
         Err(_) => "failed,,,\n",
     }
+}
+
+// Does an act by hand, and gives the answer.
+fn do_by_hand<R: Wait>(run: &mut Run<'_, R>, act: Act) -> &'static str {
+    let done = match act {
+        Act::Remove(station) => run.hands.remove(station),
+        Act::Home(machine) => run.hands.home(machine),
+    };
+    match done {
+        Ok(()) => "ok,,,\n",
+        Err(_) => "failed,,,\n",
+    }
+}
+
+// The method ends the run from now on.
+fn stay<R: Wait>(run: &mut Run<'_, R>) -> &'static str {
+    run.stays = true;
+    "ok,,,\n"
+}
+
+// Tells the readings of now in the same round, after the number of the method's line.
+fn sync<R: Wait, W: Write>(run: &mut Run<'_, R>, number: u32, writer: &mut W) -> io::Result<()> {
+    run.stays = true;
+    writeln!(writer, "synced,{number},,")?;
+    let round = run.measures.rounds();
+    open(run, round, writer)
 }
 
 // Keeps why a line of the round can't be read, if it is the first of the run, and gives the answer.
@@ -111,6 +142,13 @@ fn take_lines<R: Wait, I: TellsFault, W: Write>(
             Wish::Done => return Ok(Close::Done),
             Wish::Quit => return Ok(Close::End(DriveEnd::Quit)),
             Wish::Send(command) => send(run, command),
+            Wish::Act(act) => do_by_hand(run, act),
+            Wish::Stay => stay(run),
+            Wish::Sync(number) => {
+                sync(run, number, writer)?;
+                continue;
+            }
+            Wish::Pass => continue,
             Wish::Nothing => keep_unread(run, count + 1, lines.four()),
         };
         write!(writer, "{answer}")?;
@@ -181,7 +219,6 @@ fn take_round<R: Wait, I: TellsFault, W: Write>(
     writer: &mut W,
 ) -> Result<Option<DriveEnd>, DriveError> {
     open(run, number, writer)?;
-    run.measures.open(number, &run.world.lock(run.rt));
     match take_lines(run, lines, writer)? {
         Close::Done => {}
         Close::End(end) => return Ok(Some(end)),
@@ -189,7 +226,7 @@ fn take_round<R: Wait, I: TellsFault, W: Write>(
     operate(run, writer)?;
     let mut world = run.world.lock(run.rt);
     world.end_round();
-    if is_finished(&world) {
+    if !run.stays && is_finished(&world) {
         Ok(Some(DriveEnd::Finished))
     } else {
         Ok(None)
@@ -234,6 +271,17 @@ fn told_of<R: Wait>(alloc: Global, run: &mut Run<'_, R>, end: DriveEnd) -> io::R
     Ok(text)
 }
 
+// The end of a run. One that the method was to end is finished where it left the cell so.
+fn end_of<R: Wait>(run: &Run<'_, R>, ended: DriveEnd) -> DriveEnd {
+    if run.measures.lacks_memory() {
+        return DriveEnd::Memory;
+    }
+    match ended {
+        DriveEnd::Quit if run.stays && is_finished(&run.world.lock(run.rt)) => DriveEnd::Finished,
+        end => end,
+    }
+}
+
 /// Lets a method drive the simulated cell by commands, with this script of the operator, tells what came of it, and
 /// gives the status.
 pub(crate) fn drive_commands<R: AllocGlobal + Wait, I: TellsFault, W: Write, E: Write>(
@@ -256,15 +304,12 @@ pub(crate) fn drive_commands<R: AllocGlobal + Wait, I: TellsFault, W: Write, E: 
         script,
         done: 0,
         commands: 0,
+        stays: false,
         measures: Measures::new(rt.alloc()),
         unread: None,
     };
     let ended = take_rounds(&mut run, plan, lines, writer)?;
-    let end = if run.measures.lacks_memory() {
-        DriveEnd::Memory
-    } else {
-        ended
-    };
+    let end = end_of(&run, ended);
     let Ok(text) = told_of(rt.alloc(), &mut run, end) else {
         return Err(DriveError::OutOfMemory);
     };

@@ -1,4 +1,5 @@
 //! Why a line of a method can't be read.
+use crate::wish::read_length;
 use cell_rows::Four;
 use cell_types::number::read_plate;
 use cell_types::texts::{read_axis, read_kind, read_machine, read_station};
@@ -21,6 +22,8 @@ pub(crate) enum Wanted {
     Pose,
     Cause,
     Station,
+    /// The length of a journal.
+    Length,
     Nothing,
 }
 
@@ -40,6 +43,7 @@ impl Wanted {
             Wanted::Pose => read_fields(&[b"started", b"feed_belt", field, b""]).is_some(),
             Wanted::Cause => read_fields(&[b"declared", b"feed", field, b""]).is_some(),
             Wanted::Station => read_station(field).is_some(),
+            Wanted::Length => read_length(field).is_some(),
             Wanted::Nothing => field.is_empty(),
         }
     }
@@ -51,7 +55,9 @@ impl Wanted {
                 "lamp, admitted, claimed, yielded, started, arrived, conveyed, forged, gripped, dropped, delivered, \
                     declared, reinstated, done or quit"
             }
-            Wanted::Command => "on, off, magnet_on, magnet_off, lamp, all_off, done or quit",
+            Wanted::Command => {
+                "on, off, magnet_on, magnet_off, lamp, all_off, remove, home, stay, sync, done or quit"
+            }
             Wanted::Machine => "feed, table, robot, press1, press2 or deposit",
             Wanted::Axis => {
                 "feed_belt, table_lift, table_turn, robot_turn, arm_one, arm_two, press_one, press_two or deposit_belt"
@@ -72,6 +78,7 @@ impl Wanted {
             Wanted::Station => {
                 "feed_in, feed_end, table, arm1, arm2, press1, press2, dep_in or dep_end"
             }
+            Wanted::Length => "a number from 0 to 1000006 with no 0 in front",
             Wanted::Nothing => "blank",
         }
     }
@@ -191,7 +198,10 @@ pub(crate) fn unread_command(four: Option<Four<'_>>) -> Unread {
         b"off" => first_of(four, [Wanted::Axis, second, third]),
         b"magnet_on" | b"magnet_off" => first_of(four, [Wanted::Arm, second, third]),
         b"lamp" => first_of(four, [Wanted::Belt, Wanted::Colour, third]),
-        b"all_off" => first_of(four, [Wanted::Machine, second, third]),
+        b"all_off" | b"home" => first_of(four, [Wanted::Machine, second, third]),
+        b"remove" => first_of(four, [Wanted::Station, second, third]),
+        b"sync" => first_of(four, [Wanted::Length, second, third]),
+        b"stay" => first_of(four, BLANK),
         word if is_end(word) => first_of(four, BLANK),
         _ => Unread::Field(1, Wanted::Command),
     }

@@ -86,8 +86,8 @@ pub(crate) fn has_line(text: &[u8], line: &str) -> bool {
     false
 }
 
-// Parts of a text, one after the other.
-fn joined<R: AllocGlobal>(rt: &R, parts: &[&str]) -> Result<Vec<u8>, Fail> {
+/// Parts of a text, one after the other.
+pub(crate) fn joined<R: AllocGlobal>(rt: &R, parts: &[&str]) -> Result<Vec<u8>, Fail> {
     let mut text = Vec::new(rt.alloc());
     for part in parts {
         text.extend_from_slice(part.as_bytes())?;
