@@ -5,10 +5,10 @@ use Rattle.clap.specs.Words.{all_of, is_simple, is_simple_and_free, matched_of, 
 use Rattle.clap.specs.declared.parser.matches.Found.{Found}
 use Rattle.clap.proofs.WalkLemmas.{raw_values-rows}
 use Rattle.cell_command.specs.Orders.{values_or_none}
-use Rattle.cell_command.specs.Shape.{accompanied, cellctl, checking, driving, explain, explore, exploring, file_rule}
-use Rattle.cell_command.specs.Shape.{flag_rule, flagged, journal_rule, judging, measure, measuring, optional_rule}
-use Rattle.cell_command.specs.Shape.{path_rule, pictured, reading, repeated_rule, scripted, several_rule, show, showing}
-use Rattle.cell_command.specs.Shape.{simulating, sweep, sweeping}
+use Rattle.cell_command.specs.Shape.{accompanied, cellctl, checking, control, controlling, driving, explain, explore}
+use Rattle.cell_command.specs.Shape.{exploring, file_rule, flag_rule, flagged, journal_rule, judging, measure}
+use Rattle.cell_command.specs.Shape.{measuring, optional_rule, path_rule, pictured, reading, repeated_rule, scripted}
+use Rattle.cell_command.specs.Shape.{several_rule, show, showing, simulating, sweep, sweeping}
 
 abbrev pub both : {X A B : Type 0} → (X → A) → (X → B) → X → A × B
 both f g x = (f x, g x)
@@ -41,13 +41,13 @@ any-values found id texts h = ap values_or_none (h ∙ raw_values-rows found id)
 
 -- the program's command line is one of which clap's definitions tell the matches and the faults
 pub cellctl-simple : is_simple cellctl ≡ true
-unfolding accompanied checking driving explain explore exploring file_rule flag_rule flagged journal_rule judging
-    measure measuring optional_rule path_rule pictured reading repeated_rule scripted several_rule show showing
-    simulating sweep sweeping
+unfolding accompanied checking control controlling driving explain explore exploring file_rule flag_rule flagged
+    journal_rule judging measure measuring optional_rule path_rule pictured reading repeated_rule scripted several_rule
+    show showing simulating sweep sweeping
 cellctl-simple = refl
 
 pub cellctl-free : is_simple_and_free cellctl ≡ true
-unfolding accompanied checking driving explain explore exploring file_rule flag_rule flagged journal_rule judging
-    measure measuring optional_rule path_rule pictured reading repeated_rule scripted several_rule show showing
-    simulating sweep sweeping
+unfolding accompanied checking control controlling driving explain explore exploring file_rule flag_rule flagged
+    journal_rule judging measure measuring optional_rule path_rule pictured reading repeated_rule scripted several_rule
+    show showing simulating sweep sweeping
 cellctl-free = refl

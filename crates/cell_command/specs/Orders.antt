@@ -3,6 +3,7 @@ use Rattle.std.specs.Prelude.{◌≡◌, ℕ, Bool, true, false, List, Option, S
 use Rattle.std.specs.Borrow.{Bor}
 use Rattle.clap.specs.Words.{Row, Text, all_of, first_of, one_of, subcommand_of}
 use Rattle.cell_command.specs.Shape.{cellctl}
+use Rattle.cell_command.specs.declared.order.Controlling.{Controlling}
 use Rattle.cell_command.specs.declared.order.Driving.{Driving}
 use Rattle.cell_command.specs.declared.order.Explaining.{Explaining}
 use Rattle.cell_command.specs.declared.order.Exploring.{Exploring}
@@ -54,6 +55,16 @@ IsRun rows r = HasFlag rows (codes "journal") r.journal × HasFlag rows (codes "
 -- the flag for bare machines, and the flags and files of a run
 abbrev pub IsDriven : List Row → Driving → Type 0
 IsDriven rows d = HasFlag rows (codes "raw") d.raw × IsRun rows d.running
+
+-- the journal's file, the flags and the two files of a run that controls a cell
+abbrev pub IsControlled : List Row → Controlling → Type 0
+IsControlled rows c = HasValue rows (codes "journal") c.journal
+    × HasFlag rows (codes "resume") c.resume
+    × HasFlag rows (codes "sync") c.sync
+    × HasFlag rows (codes "wait") c.wait
+    × HasFlag rows (codes "explain") c.explain
+    × HasPath rows (codes "settings") c.settings.now
+    × HasPath rows (codes "operator") c.operator.now
 
 -- the flags of a picture, the files of durations, of the journal beside and of the journal, and how many entries it
 -- takes
@@ -113,6 +124,7 @@ Fits name rows (order.Follow path running) = (name ≡ codes "sim") × HasValue 
 Fits name rows (order.Sweep sweeping) = (name ≡ codes "sweep") × IsSwept rows sweeping
 Fits name rows (order.Explore exploring) = (name ≡ codes "explore") × IsExplored rows exploring
 Fits name rows (order.Drive driving) = (name ≡ codes "drive") × IsDriven rows driving
+Fits name rows (order.Control controlling) = (name ≡ codes "control") × IsControlled rows controlling
 Fits name rows (order.Run running) = (name ≡ codes "run") × HasFlag rows (codes "measures") false × IsRun rows running
 Fits name rows (order.RunMeasured running) = (name ≡ codes "run") × HasFlag rows (codes "measures") true
     × IsRun rows running

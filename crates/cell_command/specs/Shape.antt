@@ -115,6 +115,15 @@ explore =
 abbrev pub drive : App
 drive = filed (flagged (with_rule (new_app (codes "drive")) (flag_rule (codes "raw"))))
 
+-- the command that controls a cell at the other end of two pipes: the option with the journal's file, the flags of
+-- going on, of the device, of waiting and of an explanation, and the paths of the settings and of the operator's script
+unfoldable pub control : App
+control =
+    let kept = with_rule (with_rule (with_rule (new_app (codes "control")) (file_rule (codes "journal")))
+    (flag_rule (codes "resume"))) (flag_rule (codes "sync")) in
+    let chosen = with_rule (with_rule kept (flag_rule (codes "wait"))) (flag_rule (codes "explain")) in
+    with_rule (with_rule chosen (path_rule (codes "settings"))) (path_rule (codes "operator"))
+
 -- the command that runs the cell on threads, with the flag for measures
 abbrev pub run : App
 run = filed (with_rule (flagged (new_app (codes "run"))) (flag_rule (codes "measures")))
@@ -139,24 +148,29 @@ measuring = with_subcommand reading measure.top
 unfoldable pub checking : App
 checking = with_subcommand measuring check.top
 
--- the program with all commands but those by which a method drives the cell and which sweep it or run it on threads
+-- the program with all commands but those which sweep the cell, look at every order of events, let a method drive it,
+-- control a cell or run it on threads
 unfoldable pub simulating : App
 simulating = with_subcommand checking sim.top
 
--- the program with all commands but those by which a method drives the cell and which look at every order of events or
--- run it on threads
+-- the program with all commands but those which look at every order of events, let a method drive the cell, control a
+-- cell or run it on threads
 unfoldable pub sweeping : App
 sweeping = with_subcommand simulating sweep.top
 
--- the program with all commands but those by which a method drives the cell and which run it on threads
+-- the program with all commands but those which let a method drive the cell, control a cell or run it on threads
 unfoldable pub exploring : App
 exploring = with_subcommand sweeping explore.top
 
--- the program with all commands but that which runs the cell on threads
+-- the program with all commands but those which control a cell or run it on threads
 unfoldable pub driving : App
 driving = with_subcommand exploring drive.top
 
+-- the program with all commands but that which runs the cell on threads
+unfoldable pub controlling : App
+controlling = with_subcommand driving control.top
+
 abbrev pub cellctl : App
 cellctl =
-    let whole = with_subcommand driving run.top in
+    let whole = with_subcommand controlling run.top in
     record whole { top = for_people whole.top }

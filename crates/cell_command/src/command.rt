@@ -2,24 +2,25 @@
 ghost use Rattle.std.specs.Prelude.{◌≡◌, IfOk, codes, true, false};
 ghost use Rattle.clap.specs.Words.{app_of, new_app, with_rule, with_subcommand};
 ghost use Rattle.clap.specs.declared.builder.command.Command.TheViews.{out-Command};
-ghost use Rattle.cell_command.specs.Shape.{accompanied, audit, cellctl, check, checking, drive, driving, explain};
-ghost use Rattle.cell_command.specs.Shape.{explore, exploring, file_rule, filed, flag_rule, flagged, for_people};
-ghost use Rattle.cell_command.specs.Shape.{journal_rule};
-ghost use Rattle.cell_command.specs.Shape.{judging, measure, measuring, migrate, optional_rule, path_rule, pictured};
-ghost use Rattle.cell_command.specs.Shape.{reading, repeated_rule, run, scripted, several_rule, show, showing, sim};
-ghost use Rattle.cell_command.specs.Shape.{simulating, sweep, sweeping, times_rule, with_input};
+ghost use Rattle.cell_command.specs.Shape.{accompanied, audit, cellctl, check, checking, control, controlling, drive};
+ghost use Rattle.cell_command.specs.Shape.{driving, explain, explore, exploring, file_rule, filed, flag_rule, flagged};
+ghost use Rattle.cell_command.specs.Shape.{for_people, journal_rule, judging, measure, measuring, migrate};
+ghost use Rattle.cell_command.specs.Shape.{optional_rule, path_rule, pictured, reading, repeated_rule, run, scripted};
+ghost use Rattle.cell_command.specs.Shape.{several_rule, show, showing, sim, simulating, sweep, sweeping, times_rule};
+ghost use Rattle.cell_command.specs.Shape.{with_input};
 
 use crate::help::{
-    ABOUT, AFTER, AUDIT_ABOUT, AUDIT_EXAMPLE, AUDIT_HELP, BESIDE_HELP, CHECK_ABOUT, CHECK_EXAMPLE,
-    CHECK_HELP, CSV_HELP, DRIVE_ABOUT, DRIVE_EXAMPLE, DRIVE_HELP, ENTRY_HELP, EXPLAIN_ABOUT,
-    EXPLAIN_EXAMPLE, EXPLAIN_HELP, EXPLAIN_USAGE, EXPLORE_ABOUT, EXPLORE_EXAMPLE, EXPLORE_HELP,
-    FAIL_HELP, FAULTS_HELP, FILE_HELP, FOLLOW_HELP, HTML_HELP, JOURNAL_HELP, JOURNALS_HELP,
-    KINDS_HELP, LEAST_HELP, LIMIT_HELP, MEASURE_ABOUT, MEASURE_EXAMPLE, MEASURE_HELP,
-    MEASURES_HELP, MIGRATE_ABOUT, MIGRATE_EXAMPLE, MIGRATE_HELP, MOTIONS_HELP, OPERATOR_HELP,
-    PLATES_HELP, RAW_HELP, REPAIR_HELP, RUN_ABOUT, RUN_EXAMPLE, RUN_HELP, RUNS_HELP, SERVICE_HELP,
+    ABOUT, AFTER, AHEAD_HELP, AUDIT_ABOUT, AUDIT_EXAMPLE, AUDIT_HELP, BESIDE_HELP, CHECK_ABOUT,
+    CHECK_EXAMPLE, CHECK_HELP, CONTROL_ABOUT, CONTROL_EXAMPLE, CONTROL_HELP, CONTROL_USAGE,
+    CSV_HELP, DRIVE_ABOUT, DRIVE_EXAMPLE, DRIVE_HELP, ENTRY_HELP, EXPLAIN_ABOUT, EXPLAIN_EXAMPLE,
+    EXPLAIN_HELP, EXPLAIN_USAGE, EXPLORE_ABOUT, EXPLORE_EXAMPLE, EXPLORE_HELP, FAIL_HELP,
+    FAULTS_HELP, FILE_HELP, FOLLOW_HELP, HTML_HELP, JOURNAL_HELP, JOURNALS_HELP, KINDS_HELP,
+    LEAST_HELP, LIMIT_HELP, MEASURE_ABOUT, MEASURE_EXAMPLE, MEASURE_HELP, MEASURES_HELP,
+    MIGRATE_ABOUT, MIGRATE_EXAMPLE, MIGRATE_HELP, MOTIONS_HELP, OPERATOR_HELP, PLATES_HELP,
+    RAW_HELP, REPAIR_HELP, RESUME_HELP, RUN_ABOUT, RUN_EXAMPLE, RUN_HELP, RUNS_HELP, SERVICE_HELP,
     SETTINGS_HELP, SHOW_ABOUT, SHOW_EXAMPLE, SHOW_HELP, SHOW_USAGE, SIM_ABOUT, SIM_EXAMPLE,
-    SIM_HELP, SVG_HELP, SWEEP_ABOUT, SWEEP_EXAMPLE, SWEEP_HELP, TIMES_HELP, UNICODE_HELP, VERSION,
-    WAY_HELP, WHY_HELP,
+    SIM_HELP, SVG_HELP, SWEEP_ABOUT, SWEEP_EXAMPLE, SWEEP_HELP, SYNC_HELP, TIMES_HELP,
+    UNICODE_HELP, VERSION, WAIT_HELP, WAY_HELP, WHY_HELP,
 };
 use clap::{Arg, ArgAction, Command};
 use std::alloc::{AllocError, Global};
@@ -387,6 +388,41 @@ fn drive_command<'a>(alloc: Global) -> Result<Command<'a>, AllocError>
     with_files(alloc, flagged)
 }
 
+// Adds the options and flags of a run that controls a cell.
+fn with_ways<'a>(alloc: Global, command: Command<'a>) -> Result<Command<'a>, AllocError>
+    requires local { (out-Command command).has_globals ≡ false }
+    ensures app { IfOk result (λ c. app_of c
+        ≡ with_rule (with_rule (with_rule (with_rule (with_rule (app_of command.entry) (file_rule (codes "journal")))
+        (flag_rule (codes "resume"))) (flag_rule (codes "sync"))) (flag_rule (codes "wait")))
+        (flag_rule (codes "explain"))) }
+    ensures local { IfOk result (λ c. (out-Command c).has_globals ≡ false) }
+{
+    let journal = with_file(alloc, command, "journal", "FILE", AHEAD_HELP)?;
+    let resume = with_flag(alloc, journal, "resume", RESUME_HELP)?;
+    let sync = with_flag(alloc, resume, "sync", SYNC_HELP)?;
+    let wait = with_flag(alloc, sync, "wait", WAIT_HELP)?;
+    with_flag(alloc, wait, "explain", WHY_HELP)
+}
+
+// The command that controls a cell at the other end of two pipes.
+#[tactic(auto, unfolding(crate::specs::Shape::control, crate::specs::Shape::path_rule))]
+fn control_command<'a>(alloc: Global) -> Result<Command<'a>, AllocError>
+    ensures app { IfOk result (λ c. app_of c ≡ control) }
+    ensures local { IfOk result (λ c. (out-Command c).has_globals ≡ false) }
+{
+    let command = described(
+        alloc,
+        "control",
+        CONTROL_ABOUT,
+        CONTROL_HELP,
+        CONTROL_EXAMPLE,
+    )
+    .override_usage(CONTROL_USAGE);
+    let chosen = with_ways(alloc, command)?;
+    let settings = with_path(alloc, chosen, "settings", "SETTINGS", SETTINGS_HELP)?;
+    with_path(alloc, settings, "operator", "OPERATOR", OPERATOR_HELP)
+}
+
 // The command that runs the cell on threads, with the flag for measures.
 fn run_command<'a>(alloc: Global) -> Result<Command<'a>, AllocError>
     ensures app { IfOk result (λ c. app_of c ≡ run) }
@@ -464,7 +500,8 @@ fn checking_commands<'a>(alloc: Global) -> Result<Command<'a>, AllocError>
     add(measuring, check)
 }
 
-// The program with all commands but those by which a method drives the cell and which sweep it or run it on threads.
+// The program with all commands but those which sweep the cell, look at every order of events, let a method drive it,
+// control a cell or run it on threads.
 #[tactic(auto, unfolding(crate::specs::Shape::simulating))]
 fn simulating_commands<'a>(alloc: Global) -> Result<Command<'a>, AllocError>
     ensures app { IfOk result (λ c. app_of c ≡ simulating) }
@@ -475,8 +512,8 @@ fn simulating_commands<'a>(alloc: Global) -> Result<Command<'a>, AllocError>
     add(checking, sim)
 }
 
-// The program with all commands but those by which a method drives the cell and which look at every order of events or
-// run it on threads.
+// The program with all commands but those which look at every order of events, let a method drive the cell, control a
+// cell or run it on threads.
 #[tactic(auto, unfolding(crate::specs::Shape::sweeping))]
 fn sweeping_commands<'a>(alloc: Global) -> Result<Command<'a>, AllocError>
     ensures app { IfOk result (λ c. app_of c ≡ sweeping) }
@@ -487,7 +524,7 @@ fn sweeping_commands<'a>(alloc: Global) -> Result<Command<'a>, AllocError>
     add(simulating, sweep)
 }
 
-// The program with all commands but those by which a method drives the cell and which run it on threads.
+// The program with all commands but those which let a method drive the cell, control a cell or run it on threads.
 #[tactic(auto, unfolding(crate::specs::Shape::exploring))]
 fn exploring_commands<'a>(alloc: Global) -> Result<Command<'a>, AllocError>
     ensures app { IfOk result (λ c. app_of c ≡ exploring) }
@@ -498,7 +535,7 @@ fn exploring_commands<'a>(alloc: Global) -> Result<Command<'a>, AllocError>
     add(sweeping, explore)
 }
 
-// The program with all commands but that which runs the cell on threads.
+// The program with all commands but those which control a cell or run it on threads.
 #[tactic(auto, unfolding(crate::specs::Shape::driving))]
 fn driving_commands<'a>(alloc: Global) -> Result<Command<'a>, AllocError>
     ensures app { IfOk result (λ c. app_of c ≡ driving) }
@@ -509,14 +546,25 @@ fn driving_commands<'a>(alloc: Global) -> Result<Command<'a>, AllocError>
     add(exploring, drive)
 }
 
-// The program with all commands.
-fn all_commands<'a>(alloc: Global) -> Result<Command<'a>, AllocError>
-    ensures app { IfOk result (λ c. app_of c ≡ with_subcommand driving run.top) }
+// The program with all commands but that which runs the cell on threads.
+#[tactic(auto, unfolding(crate::specs::Shape::controlling))]
+fn controlling_commands<'a>(alloc: Global) -> Result<Command<'a>, AllocError>
+    ensures app { IfOk result (λ c. app_of c ≡ controlling) }
     ensures local { IfOk result (λ c. (out-Command c).has_globals ≡ false) }
 {
     let driving = driving_commands(alloc)?;
+    let control = control_command(alloc)?;
+    add(driving, control)
+}
+
+// The program with all commands.
+fn all_commands<'a>(alloc: Global) -> Result<Command<'a>, AllocError>
+    ensures app { IfOk result (λ c. app_of c ≡ with_subcommand controlling run.top) }
+    ensures local { IfOk result (λ c. (out-Command c).has_globals ≡ false) }
+{
+    let controlling = controlling_commands(alloc)?;
     let run = run_command(alloc)?;
-    add(driving, run)
+    add(controlling, run)
 }
 
 // A command with what is printed of it: its line, its version, and what stands behind its help.

@@ -259,6 +259,65 @@ Example: cellctl drive examples/cell.toml /dev/null /dev/null";
 
 pub(crate) const RAW_HELP: &str = "Take commands to the bare machines, and no entries";
 
+pub(crate) const CONTROL_ABOUT: &str = "Control a cell over the standard streams";
+
+pub(crate) const CONTROL_USAGE: &str = "\
+cellctl control [--journal FILE [--resume] [--sync]]
+           [--wait] [--explain] <SETTINGS> <OPERATOR>";
+
+pub(crate) const CONTROL_HELP: &str = "\
+Controls a cell, one's own or that of drive --raw, in rounds: it reads the
+cell's lines on standard input and writes its commands to standard output.
+SETTINGS and OPERATOR are the files of the command sim. docs/DRIVING.md has the
+whole protocol, of which this is the other end:
+  mkfifo lines
+  cellctl drive --raw SETTINGS FAULTS /dev/null < lines |
+      cellctl control SETTINGS OPERATOR > lines
+
+The cell writes drive,1,PLATES, and then in each round what its machines show,
+and round,R,,. Each machine takes a turn, and its command is answered by ok,,,
+or failed,,, or unreadable,,,. Then the operator does his next record by
+  remove,STATION,,       home,MACHINE,,
+and done,,, ends the round. Between rounds someone at the cell may write
+  operator,ACTION,ARGUMENT,
+with an action of the operator's script: it is done where it is allowed, and
+answered by booked,N,, or refused,NAME,WORD,. A reading that can't be read
+counts as missing. At the end all_off,MACHINE,, is written for each machine,
+and quit,,,.
+
+With --journal FILE each entry's record is written to FILE, which has to be
+new, before its command goes out; with --sync it is on the device by then. With
+--resume the run of the journal in FILE goes on, with the same cell, which was
+not ended: give the same words again. A last record without its end is cut off.
+--resume and --sync go with --journal.
+
+Standard error has at the end the lines of the command sim, with --explain why
+the run ended so, and in place of its end maybe
+  cell gone              the cell's lines have ended
+  cell ended             the cell said end,WHY,,
+  too many lines         the cell wrote 10000 lines and no round
+  no cell                the first line isn't drive,1,PLATES,
+  another version        it is that of another version
+  journal can't be written
+  read of the cell failed
+  write to the cell failed
+A stalled run ends, unless --wait lets it wait for what the cell's desk wants.
+
+Exit status: 0 finished, 1 another end, or a text or a journal refused, 2 wrong
+arguments, 3 a read or a write failed, 4 out of memory.";
+
+pub(crate) const CONTROL_EXAMPLE: &str = "\
+Example: cellctl control --journal run.journal examples/press_fails.toml \\
+           examples/press_fails.operator < from_cell > to_cell";
+
+pub(crate) const AHEAD_HELP: &str = "The file to which the journal is written ahead";
+
+pub(crate) const RESUME_HELP: &str = "Go on from the journal in the file of --journal";
+
+pub(crate) const SYNC_HELP: &str = "Have each record on the device before its command";
+
+pub(crate) const WAIT_HELP: &str = "Let a stalled run wait for the cell's desk";
+
 pub(crate) const RUN_ABOUT: &str = "Run the simulated cell on threads";
 
 pub(crate) const RUN_HELP: &str = "\

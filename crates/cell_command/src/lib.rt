@@ -13,5 +13,6 @@ pub use count::{Count, read_count};
 pub use escaped::Escaped;
 pub use failure::{Resource, tell_failure};
 pub use order::{
-    Driving, Explaining, Exploring, Measuring, Order, Paths, Running, Showing, Sweeping, read_words,
+    Controlling, Driving, Explaining, Exploring, Measuring, Order, Paths, Running, Showing,
+    Sweeping, read_words,
 };

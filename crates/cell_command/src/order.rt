@@ -4,8 +4,8 @@ ghost use Rattle.clap.specs.Kinds.{FailsBy, HasKind};
 ghost use Rattle.clap.specs.Words.{fault_of, found_of, rows_of};
 ghost use Rattle.cell_command.specs.Shape.{cellctl};
 ghost use Rattle.cell_command.specs.Orders.{Fits, HasAnyValues, HasFlag, HasPath, HasPaths, HasValue, HasValues};
-ghost use Rattle.cell_command.specs.Orders.{IsDriven, IsExplained, IsExplored, IsMeasured, IsOrdered, IsRun, IsShown};
-ghost use Rattle.cell_command.specs.Orders.{IsSwept};
+ghost use Rattle.cell_command.specs.Orders.{IsControlled, IsDriven, IsExplained, IsExplored, IsMeasured, IsOrdered};
+ghost use Rattle.cell_command.specs.Orders.{IsRun, IsShown, IsSwept};
 ghost use Rattle.cell_command.specs.Refusals.{refusals, wants_own_help};
 
 use crate::command::command;
@@ -37,6 +37,20 @@ pub struct Running<'a> {
 pub struct Driving<'a> {
     pub raw: bool,
     pub running: Running<'a>,
+}
+
+/// How a cell at the other end of two pipes is to be controlled: the file to which the journal is written ahead, if
+/// there is one, whether the run goes on from it and whether each record is handed to the device, whether a stalled run
+/// waits, whether its end is explained, and where its files are.
+#[derive(Clone, Copy, Debug, PartialEq, Eq)]
+pub struct Controlling<'a> {
+    pub journal: Option<&'a str>,
+    pub resume: bool,
+    pub sync: bool,
+    pub wait: bool,
+    pub explain: bool,
+    pub settings: &'a str,
+    pub operator: &'a str,
 }
 
 /// How a journal is to be shown: which flags are given, the file with the durations of motions, if there is one, that
@@ -122,6 +136,8 @@ pub enum Order<'a> {
     Explore(Exploring<'a>),
     /// Let a method drive the simulated cell over the standard streams.
     Drive(Driving<'a>),
+    /// Control a cell over the standard streams.
+    Control(Controlling<'a>),
     /// Run the simulated cell by workers on threads.
     Run(Running<'a>),
     /// Run the simulated cell by workers on threads, and tell the run's measures.
@@ -193,6 +209,23 @@ fn drive_words<'a>(matches: &ArgMatches<'a>) -> Option<Driving<'a>>
     Some(Driving {
         raw: flag(matches, "raw"),
         running: run_words(matches)?,
+    })
+}
+
+// How a cell is to be controlled.
+fn control_words<'a>(matches: &ArgMatches<'a>) -> Option<Controlling<'a>>
+    ensures { IfSome result (IsControlled (rows_of (found_of matches.now))) }
+{
+    let settings = path(matches, "settings")?;
+    let operator = path(matches, "operator")?;
+    Some(Controlling {
+        journal: value(matches, "journal"),
+        resume: flag(matches, "resume"),
+        sync: flag(matches, "sync"),
+        wait: flag(matches, "wait"),
+        explain: flag(matches, "explain"),
+        settings,
+        operator,
     })
 }
 
@@ -319,6 +352,7 @@ fn order_of<'a>(alloc: Global, name: &str, matches: &ArgMatches<'a>) -> Option<O
         "sweep" => Some(Order::Sweep(sweep_words(matches)?)),
         "explore" => Some(Order::Explore(explore_words(alloc, matches)?)),
         "drive" => Some(Order::Drive(drive_words(matches)?)),
+        "control" => Some(Order::Control(control_words(matches)?)),
         "run" => threads_words(matches),
         _ => None,
     }

@@ -1,5 +1,6 @@
 -- What is written for the words of a command line, and the status with which the program ends
 use Rattle.std.specs.Prelude.{◌≡◌, ◌≢◌, ◌⊎◌, ℕ, Bool, true, false, List, Option, Result, Ok, Err, IfOk, MatchResult}
+use Rattle.std.specs.Prelude.{⊤}
 use Rattle.std.specs.Borrow.{Bor}
 use Rattle.std.specs.Io.KnownBytes.{Appends, Keeps}
 use Rattle.clap.specs.Words.{HasKind, Text as Word, kind_of}
@@ -111,7 +112,7 @@ SweepsFiles sweeping old new old_errors new_errors written =
     ⊎ IsMistaken sweeping old new old_errors new_errors written
 
 -- what is written for an order, with what `input` has to read: to the output, which had `old`, and to the errors. A
--- file that is named may have any text.
+-- file that is named may have any text. Of a cell that is controlled nothing is said here.
 abbrev pub CarriesOut : Order → Option (List ℕ) → Option (List ℕ) → Option (List ℕ) → Option (List ℕ) → Option (List ℕ)
     → Result ℕ WriteFault → Type 0
 CarriesOut (order.Audit file) input old new old_errors new_errors written =
@@ -136,6 +137,7 @@ CarriesOut (order.Sweep sweeping) input old new old_errors new_errors written =
 CarriesOut (order.Explore exploring) input old new old_errors new_errors written =
     ExploresWords exploring old new old_errors new_errors written
 CarriesOut (order.Drive driving) input old new old_errors new_errors written = DrivesFiles driving input old new written
+CarriesOut (order.Control controlling) input old new old_errors new_errors written = ⊤
 CarriesOut (order.Run running) input old new old_errors new_errors written = RunsFiles true running old new written
     × (new_errors ≡ old_errors)
 CarriesOut (order.RunMeasured running) input old new old_errors new_errors written =

@@ -2,6 +2,7 @@
 //! run's settings, and the runs of the simulated cell.
 #![tactic(auto)]
 
+mod control;
 mod end;
 mod fault;
 mod least;
@@ -87,12 +88,15 @@ fn finish<W: Write, E: Write>(
     let Carried {
         written,
         ending,
+        is_out,
         ..
     } = carried;
     let Ok(status) = written else {
         return Ok(status::DEVICE_FAULT);
     };
-    output.flush()?;
+    if !is_out {
+        output.flush()?;
+    }
     if let Some(ending) = ending {
         write_ending(
             alloc,

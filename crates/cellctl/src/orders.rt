@@ -5,6 +5,7 @@ ghost use Rattle.cell_runs.specs.Told.{IsRead};
 ghost use Rattle.cellctl.specs.Carried.{CarriesOut, DrivesFiles, FollowsFiles, FollowsTexts, MeasuresFiles};
 ghost use Rattle.cellctl.specs.Carried.{AddsMeasures, MeasuresRun, MeasuresTexts, RunsFiles, RunsTexts, TellsUnfit};
 
+use crate::control::control_words;
 use crate::least::tell_least;
 use crate::sweep::sweep_words;
 use cell_audit::Audited;
@@ -31,6 +32,8 @@ pub(crate) struct Carried {
     pub(crate) ending: Option<Ending>,
     /// Whether there is no run, since no thread could be started.
     pub(crate) lacks_thread: bool,
+    /// Whether all that was written is written out, as far as anyone reads it.
+    pub(crate) is_out: bool,
 }
 
 /// What is kept of a run, and its scripts.
@@ -58,6 +61,17 @@ fn without_ending(written: Result<u8, WriteFault>) -> Carried
         written,
         ending: None,
         lacks_thread: false,
+        is_out: false,
+    }
+}
+
+// What was written is written out.
+fn written_out(written: Result<u8, WriteFault>) -> Carried
+    ensures { result.written ≡ written }
+{
+    Carried {
+        is_out: true,
+        ..without_ending(written)
     }
 }
 
@@ -117,6 +131,7 @@ fn with_ending(
         written: Ok(status),
         ending,
         lacks_thread,
+        is_out: false,
     }
 }
 
@@ -386,6 +401,9 @@ pub(crate) fn carry_out<
         Order::Drive(driving) => Ok(without_ending(drive_files(
             rt, input, output, errors, driving,
         )?)),
+        Order::Control(controlling) => {
+            Ok(written_out(control_words(rt, input, output, errors, controlling)?))
+        }
         Order::Run(running) => run_files(rt, output, true, running),
         Order::RunMeasured(running) => measure_files(rt, output, true, running),
     }
