@@ -260,6 +260,19 @@ driving_is_right() {
     is_first_part "$output" "$due_output" || [[ $newline$output == *"${newline}end,memory,,$newline"* ]]
 }
 
+# The lines that stop all machines and end the run of a cell that is controlled.
+stops=$(printf 'all_off,%s,,\n' feed table robot press1 press2 deposit)$newline
+# The same of a cell that is controlled, of which all is told on standard error: `out of memory` comes last, or the lines of a run
+# that ended for want of memory; what is written is a first part of what is due, and maybe that all machines stop.
+controlling_is_right() {
+    answer_is_right && return 0
+    [ "$refused" != 0 ] && [ "$status" = 4 ] || return 1
+    is_end_for_want "$errors" || [ "${errors%"out of memory$newline"}" != "$errors" ] || return 1
+    wanted=1
+    local sent=${output%"quit,,,$newline"}
+    is_first_part "${sent%"$stops"}" "$due_output"
+}
+
 # Refuses memory to the program on the words of a line of `program_lines`, after a run with ample memory, and notes how many runs
 # that took and how many were wrong. The totals of the run on threads with its journal are those of its plate.
 refuse_line() {
@@ -286,8 +299,11 @@ write_files() {
     echo '"press_two",1,no_motion,' > "$shared/short.faults"
     printf '%s\n' admitted,1,stop,feed failed,feed,clear,feed_in '"failed",feed,repair,feed' > "$shared/short.operator"
     printf '%s\n' lamp,feed,green, done,,, lamp,feed,red, done,,, quit,,, > "$shared/method"
+    printf '%s\n' drive,1,1, operator,stop,press1, reading,feed,, reading,table,low/belt, reading,robot,table1/in/in, \
+        reading,press1,middle, reading,press2,middle, reading,deposit,, round,1,, ok,,, ok,,, end,quit,, > "$shared/cell"
     cp "$examples/whole.journal" "$examples/refused.journal" "$shared"
     "$cellctl" sim --journal "$shared/short.toml" "$shared/short.faults" "$shared/short.operator" > "$shared/short.journal"
+    cp "$shared/short.journal" "$shared/kept.journal"
     sed '3,$s/^\([a-z_]*\),/"\1",/' "$shared/short.journal" > "$shared/quoted.journal"
     sed '1s/^profile,2/profile,1/' "$shared/quoted.journal" > "$shared/old.journal"
 }
@@ -342,6 +358,8 @@ run_lines() {
     $line driving_is_right 1 method drive "${short[@]}"
     $line driving_is_right 1 method drive --journal --explain --times "$times" "${short[@]}"
     $line driving_is_right 1 method drive --raw --explain "${short[@]}"
+    $line controlling_is_right 1 cell control --explain --wait "${short[0]}" "${short[2]}"
+    $line controlling_is_right 1 nothing control --journal "$shared/kept.journal" --resume --sync "${short[0]}" "${short[2]}"
     $line answer_is_right 1 nothing sweep --kinds no_motion --motions 1 "${short[0]}" "${short[2]}"
     # (some 14,000 allocations)
     $line answer_is_right 7 nothing sweep --csv --service --kinds lose_plate --motions 1 "${short[0]}" "${short[2]}"
