@@ -4,11 +4,11 @@ _cellctl() {
     local word=${COMP_WORDS[COMP_CWORD]} before=${COMP_WORDS[COMP_CWORD - 1]} words=
     COMPREPLY=()
     if [ "$COMP_CWORD" = 1 ]; then
-        words='audit migrate show explain measure check sim sweep explore drive run help --help --version'
+        words='audit migrate show explain measure check sim sweep explore drive control run help --help --version'
     else
         case "${COMP_WORDS[1]} $before" in
             'explore --fail') mapfile -t COMPREPLY < <(compgen -W 'feed table robot press1 press2 deposit' -- "$word"); return ;;
-            'show --times' | 'show --beside' | 'show --file' | 'show -f' | 'explain --settings' | 'explain --faults' | 'explain --operator' | 'measure --times' | 'sim --times' | 'sim --follow' | 'sweep --kinds' | 'sweep --motions' | 'explore --limit' | 'drive --times' | 'run --times') return ;;
+            'show --times' | 'show --beside' | 'show --file' | 'show -f' | 'explain --settings' | 'explain --faults' | 'explain --operator' | 'measure --times' | 'sim --times' | 'sim --follow' | 'sweep --kinds' | 'sweep --motions' | 'explore --limit' | 'drive --times' | 'control --journal' | 'run --times') return ;;
         esac
         case ${COMP_WORDS[1]} in
             audit) words='--help' ;;
@@ -21,8 +21,9 @@ _cellctl() {
             sweep) words='--kinds --motions --service --csv --help' ;;
             explore) words='--fail --repair --limit --journal --help' ;;
             drive) words='--raw --journal --explain --times --help' ;;
+            control) words='--journal --resume --sync --wait --explain --help' ;;
             run) words='--journal --explain --times --measures --help' ;;
-            help) words='audit migrate show explain measure check sim sweep explore drive run' ;;
+            help) words='audit migrate show explain measure check sim sweep explore drive control run' ;;
         esac
         # Elsewhere a file may stand, which bash completes itself.
         [[ ${COMP_WORDS[1]} = help || $word = -* ]] || return
