@@ -3,7 +3,7 @@
 
     checks/control.py [--long] [--jobs N] [PART..]
 
-The parts, all of them with --long where none is named, and all but kills without it:
+The parts, all of them where none is named:
   runs     over `drive --raw`: no fault, a press that fails with an operator and without, a stalled run that waits
   faults   over `drive --raw` with single faults: the end and the totals have to be those of `sweep`, nothing broken
   kills    the controller is killed at random moments and goes on by --resume over the same living cell
@@ -99,6 +99,14 @@ class Cell:
 
     def control(self, words, errors):
         return subprocess.Popen([CELLCTL, "control", *map(str, words)], stdin=self.back_read, stdout=self.to_write, stderr=errors)
+
+    def has_ended(self):
+        """Whether the process ends within a moment."""
+        try:
+            self.process.wait(0.05)
+            return True
+        except subprocess.TimeoutExpired:
+            return False
 
     def rest(self):
         """What the cell wrote, once it has ended; and its status."""
@@ -270,6 +278,10 @@ def killed_run(seed, took):
     cell = drive(folder, SETTINGS, NONE, helper)
     killed = 0
     for _ in range(20):
+        if killed and cell.has_ended():
+            # It was killed behind its last line, so that nothing is told: what its journal has is looked at.
+            told = "finished\n" + audit(folder / "journal")[1].split("\n", 1)[1]
+            return seed, folder, killed, helper.helps, 0, told, cell.rest()[0]
         resume = ["--resume"] if (folder / "journal").exists() else []
         with open(folder / "errors", "wb") as errors:
             control = cell.control([*resume, "--wait", "--journal", folder / "journal", SETTINGS, NONE], errors)
@@ -597,7 +609,7 @@ def main():
     with tempfile.TemporaryDirectory() as folder:
         work = pathlib.Path(folder)
         for name, part in parts.items():
-            if name not in names if names else name == "kills" and not is_long:
+            if names and name not in names:
                 continue
             start = time.time()
             before, seen = len(failed), looked
