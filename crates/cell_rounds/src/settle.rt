@@ -105,16 +105,13 @@ fn sight_where(went_out: bool, otherwise: Sight) -> Sight {
     if went_out { Sight::WentOut } else { otherwise }
 }
 
-// Whether a command is looked for before it is sent again: a magnet's, a belt's or a press's, since one of these does
-// harm where it comes twice.
+// Whether a command is looked for before it is sent again: a magnet's or one that starts a motion, since one of these
+// does harm if it comes twice.
 fn is_looked_for(last: LastCommand) -> bool {
-    match last.command {
-        Command::MagnetOn(_) | Command::MagnetOff(_) => true,
-        Command::On(axis, to) => {
-            motion_named(axis, to).is_some() || press_of(last.machine).is_some()
-        }
-        _ => false,
-    }
+    matches!(
+        last.command,
+        Command::MagnetOn(_) | Command::MagnetOff(_) | Command::On(_, _)
+    )
 }
 
 // Whether a command went out. One that does no harm where it comes twice isn't looked for.
