@@ -3,7 +3,7 @@
 
     checks/control.py [--long] [--jobs N] [PART..]
 
-The parts, all of them with --long where none is named, and all but kills without it:
+The parts, all of them where none is named:
   runs     over `drive --raw`: no fault, a press that fails with an operator and without, a stalled run that waits
   faults   over `drive --raw` with single faults: the end and the totals have to be those of `sweep`, nothing broken
   kills    the controller is killed at random moments and goes on by --resume over the same living cell
@@ -609,7 +609,7 @@ def main():
     with tempfile.TemporaryDirectory() as folder:
         work = pathlib.Path(folder)
         for name, part in parts.items():
-            if name not in names if names else name == "kills" and not is_long:
+            if names and name not in names:
                 continue
             start = time.time()
             before, seen = len(failed), looked
