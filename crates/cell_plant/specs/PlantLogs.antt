@@ -1,5 +1,5 @@
 -- What ports and hands as one cell tell that they were asked
-use Rattle.std.specs.Prelude.{◌≡◌, ◌&&◌, Bool, true, Option, Some, Ok, Err}
+use Rattle.std.specs.Prelude.{◌≡◌, ◌&&◌, Bool, true, false, Option, Some, Ok, Err}
 use Rattle.cell_types.specs.declared.words.Command.{Command}
 use Rattle.cell_types.specs.declared.words.Machine.{Machine}
 use Rattle.cell_diagnosis.specs.declared.reading.Reading.{Reading}
@@ -7,7 +7,7 @@ use Rattle.cell_ports.specs.Logs.{ActLog, Log, after_act, after_command, after_r
 use Rattle.cell_ports.specs.declared.port.Act.{Act}
 use Rattle.cell_turns.specs.Six.{at, put}
 use Rattle.cell_turns.specs.declared.six.Six.{Six}
-use Rattle.cell_plant.specs.Asked.{Acted, Asked, Handed, Ordered, Shown, Wished}
+use Rattle.cell_plant.specs.Asked.{Acted, Asked, Closed, Handed, Opened, Ordered, Replied, Shown, Wished}
 
 -- what each machine answered to its reads and was sent, and what was done by hand
 pub record PlantLog : Type 0 where
@@ -26,20 +26,28 @@ after_order log m c ok = record log { machines = put log.machines m (after_comma
 abbrev pub after_hands : PlantLog → Act → Bool → PlantLog
 after_hands log a ok = record log { hands = after_act log.hands a ok }
 
--- what was asked led from one log to the other; the cell is always reached, and nobody does or wants anything there
+-- the cell is always reached, and nobody does or wants anything there
+abbrev pub is_ported : Asked → Bool
+is_ported (Opened ok) = ok
+is_ported (Ordered m c (Err e)) = false
+is_ported (Handed a (Err e)) = false
+is_ported (Acted (Some task)) = false
+is_ported (Wished (Some wish)) = false
+is_ported (Replied reply ok) = ok
+is_ported (Closed ok) = ok
+is_ported _ = true
+
+-- what was asked led from one log to the other
 abbrev pub Logs : PlantLog → PlantLog → Asked → Type 0
 Logs old new (Shown m r) = new ≡ after_reading old m r
 Logs old new (Ordered m c (Ok ok)) = new ≡ after_order old m c ok
-Logs old new (Ordered m c (Err e)) = ⊥
 Logs old new (Handed a (Ok ok)) = new ≡ after_hands old a ok
-Logs old new (Handed a (Err e)) = ⊥
-Logs old new (Acted (Some task)) = ⊥
-Logs old new (Wished (Some wish)) = ⊥
 Logs old new asked = new ≡ old
 
--- the same, if all tell; what ceased to tell doesn't begin again
+-- so ports and hands answer as one cell, and tell so if all of them tell; what ceased to tell doesn't begin again
 abbrev pub Tells : Bool → Bool → PlantLog → PlantLog → Asked → Type 0
-Tells tells tells' old new asked = tells' ≡ true → (tells ≡ true) × Logs old new asked
+Tells tells tells' old new asked =
+    (is_ported asked ≡ true) × (tells' ≡ true → (tells ≡ true) × Logs old new asked)
 
 -- all six tell
 abbrev pub all_tell : {P : Type 0} → (P → Bool) → Six P → Bool
