@@ -1,2 +1,6 @@
 pub mod Moving
 pub mod Scripts
+pub mod Turns
+pub mod Operating
+pub mod Hearing
+pub mod Mapping

@@ -1,38 +1,25 @@
 -- Moves follow one another, and what a call did is one of them
-use Rattle.std.proofs.Common.{◌≡◌, List, Bool, true, false, refl, sym, ap, subst, ◌∙◌, inl, inr, Option}
-use Rattle.std.specs.Result.{IsErrAnd}
-use Rattle.std.specs.Prelude.{IfErr, Some, None, Result, Ok, Err}
-use Rattle.std.specs.Option.{option_and_then}
-use Rattle.cell_types.specs.Entries.{actor_of, command_of}
-use Rattle.cell_types.specs.declared.words.Actor.TheVariants as actor
-use Rattle.cell_types.specs.declared.words.Command.{Command}
+use Rattle.std.proofs.Common.{◌≡◌, List, ℕ, Bool, false, refl, sym, ap, subst, Option}
+use Rattle.std.specs.Result.{IsErr, IsErrAnd}
+use Rattle.std.specs.Prelude.{Some, None, Result, Ok, Err}
 use Rattle.cell_types.specs.declared.words.Entry.{Entry}
 use Rattle.cell_types.specs.declared.words.Machine.{Machine}
 use Rattle.cell_types.specs.declared.words.Machine.TheVariants as machine
-use Rattle.cell_rules.specs.History.{History}
 use Rattle.cell_rules.specs.declared.limits.BookLimits.{BookLimits}
-use Rattle.cell_diagnosis.specs.declared.reading.Reading.{Reading}
 use Rattle.cell_ports.specs.declared.plan.Plan.{Plan}
-use Rattle.cell_turns.specs.Minds.{FitsMind, Mind, first_mind, machine_of_watch, with_failure}
-use Rattle.cell_turns.specs.Schedules.{FitAll, mind_sent, now}
+use Rattle.cell_turns.specs.Minds.{FitsMind, Mind, first_mind, machine_of_watch}
+use Rattle.cell_turns.specs.Schedules.{FitAll, now}
 use Rattle.cell_turns.specs.Six.{at, each, put}
-use Rattle.cell_turns.specs.Turns.{mind_after}
 use Rattle.cell_turns.specs.declared.six.Six.{Six}
 use Rattle.cell_turns.specs.declared.watch.Watch.{Watch}
-use Rattle.cell_turns.proofs.Sixes.{all_put, put_at}
-use Rattle.cell_workers.specs.declared.ends.End.TheVariants as end
-use Rattle.cell_plant.specs.Asked.{Asked, Ordered, Shown}
-use Rattle.cell_plant.specs.declared.gone.Gone.{Gone}
-use Rattle.cell_rounds.specs.Stands.{Stand, stand}
-use Rattle.cell_rounds.specs.Moves.{Keeps, Leads, Led, LedTo, Move, Runs, Sent, Settles, Turned}
-use Rattle.cell_rules.specs.Legal.{first_of}
-use Rattle.cell_ports.specs.declared.port.Act.{Act}
-use Rattle.cell_turns.specs.Acts.{act_of}
-use Rattle.cell_rounds.specs.Moves.{Hands, IsKept, Misses, does, fails, goes, stays}
-use Rattle.cell_rounds.specs.Moves.{asks, turns, notes, repeats, stops, is_lost, halted}
-use Rattle.cell_rounds.specs.Moves.{Controlled, RestsIf, is_break, finds, looks, moves_nothing, passes, sends}
+use Rattle.cell_turns.proofs.Sixes.{all_put}
+use Rattle.operator_desk.specs.declared.line.Line.{Line}
+use Rattle.cell_plant.specs.Asked.{Asked}
+use Rattle.cell_rounds.specs.Calls.{halted}
+use Rattle.cell_rounds.specs.Moves.{Leads, Move, Terms, goes, stays, terms}
+use Rattle.cell_rounds.specs.Runs.{Controlled, Goes, Halts, Reaches, Runs, breaks, fills, lacks, rests, tires}
+use Rattle.cell_rounds.specs.Stands.{Between, Over, Place, Point, Stand, State, desk, place, stand}
 use Rattle.cell_rounds.specs.declared.progress.Halt.{Halt}
-use Rattle.cell_rounds.specs.declared.progress.Halt.TheVariants as halt
 use Rattle.cell_rounds.specs.declared.settle.LastCommand.{LastCommand}
 
 pub at_put : {T : Type 0} (s : Six T) (m : Machine) (x : T) → at (put s m x) m ≡ x
@@ -64,388 +51,143 @@ fits_put ws minds m w s all fit = record {
   each = all_put (λ n (a : Watch) (b : Mind) (c : Mind). FitsMind a b) m ws minds minds w s s all.each fit;
 }
 
-pub lost_of : (r : Result Bool Gone) (b : Bool) → r ≡ Ok b → b ≡ false → is_lost r ≡ true
-lost_of r b is lost = rw (is, lost) refl
-
-pub kept_of : (r : Result Bool Gone) (b : Bool) → r ≡ Ok b → b ≡ true → is_lost r ≡ false
-kept_of r b is kept = rw (is, kept) refl
-
 -- a call that fails for what another failed for halts as that
-pub halted_by : {T U : Type 0} (r : Result T Halt) (s : Result U Halt) (h : Halt) → IsErrAnd r (λ x. x ≡ h) → s ≡ Err h
+pub halted_by : {A B : Type 0} (r : Result A Halt) (s : Result B Halt) (h : Halt) → IsErrAnd r (λ x. x ≡ h) → s ≡ Err h
     → halted s ≡ halted r
 halted_by (Ok x) s h is was = absurd is
 halted_by (Err x) s h is was = rw (was, is) refl
 
--- what breaks a run off leaves nothing to say of rest
-rests_of : (p : Plan) (J : List Entry) (ws : Six Watch) (h : Halt) → is_break h ≡ true → RestsIf p J ws h
-rests_of p J ws (halt.End end.Finished) is = cc
-rests_of p J ws (halt.End end.Stalled) is = cc
-rests_of p J ws (halt.End end.TurnLimit) is = tt
-rests_of p J ws (halt.End end.Memory) is = tt
-rests_of p J ws (halt.End end.Full) is = tt
-rests_of p J ws halt.Gone is = tt
-rests_of p J ws halt.Unkept is = tt
+-- one that fails isn't done
+pub not_done : {A : Type 0} (r : Result A Halt) (a : A) → IsErr r → r ≡ Ok a → ⊥
+not_done (Ok x) a is same = cc
+not_done (Err x) a is same = cc
 
-pub rests_not : {T : Type 0} (p : Plan) (J : List Entry) (ws : Six Watch) (r : Result T Halt) (h : Halt)
-    → IsErrAnd r (λ x. x ≡ h) → is_break h ≡ true → IfErr r (λ x. RestsIf p J ws x)
-rests_not p J ws (Ok x) h is breaks = absurd is
-rests_not p J ws (Err x) h is breaks = subst (λ y. RestsIf p J ws y) (sym is) (rests_of p J ws h breaks)
+-- one that fails for this
+pub halted_is : {A : Type 0} (r : Result A Halt) (h : Halt) → IsErrAnd r (λ x. x ≡ h) → halted r ≡ Some h
+halted_is (Ok x) h is = absurd is
+halted_is (Err x) h is = ap (λ (y : Halt). Some y) is
 
--- no command, so that the watches are as they were
-pub sent_nothing : {C : Type 0} (told : C → C → Asked → Type 0) (m : Machine) (x : Option Command) (c : C)
-    (ws : Six Watch)
-    → x ≡ None → Sent told m x c c ws ws
-sent_nothing told m x c ws is = rw is (record {
-  lost = false;
-  orders = (refl, refl);
-  commanded = λ lost. cc;
-  fits = λ minds fits. subst (λ (s : Six Mind). FitAll ws s) (sym (put_at minds m)) fits;
-})
-
--- a command and its answer, with the watch of its machine as that tells
-pub sent_kept : {C : Type 0} (told : C → C → Asked → Type 0) (m : Machine) (x : Option Command) (y : Command)
-    (r : Result Bool Gone) (c c' : C) (ws : Six Watch) → x ≡ Some y → told c c' (Ordered m y r) → is_lost r ≡ false
-    → Sent told m x c c' ws ws
-sent_kept told m x y r c c' ws is did kept = rw is (record {
-  lost = false;
-  orders = (r, did, sym kept);
-  commanded = λ lost. refl;
-  fits = λ minds fits. subst (λ (s : Six Mind). FitAll ws s) (sym (put_at minds m)) fits;
-})
-
-pub sent_lost : {C : Type 0} (told : C → C → Asked → Type 0) (m : Machine) (x : Option Command) (y : Command)
-    (r : Result Bool Gone) (c c' : C) (ws : Six Watch) (w : Watch) → x ≡ Some y → told c c' (Ordered m y r)
-    → is_lost r ≡ true → ((s : Mind) → FitsMind (at ws m) s → FitsMind w (with_failure s))
-    → Sent told m x c c' ws (put ws m w)
-sent_lost told m x y r c c' ws w is did lost fit = rw is (record {
-  lost = true;
-  orders = (r, did, sym lost);
-  commanded = λ was. refl;
-  fits = λ minds fits. fits_put ws minds m w (with_failure (at minds m)) fits (fit (at minds m) (fits.each m));
-})
-
-module _ {C K : Type 0} (told : C → C → Asked → Type 0) (keeps : K → K → Entry → Bool → Type 0) (l : BookLimits)
-    (p : Plan) where
-  pub leads_more : (s t u : Stand C K) → Leads told keeps l p s t → Leads told keeps l p t u → Leads told keeps l p s u
+module _ {C K : Type 0} (told : C → C → Asked → Type 0) (keeps : K → K → Entry → Bool → Type 0) (T : Terms) where
+  pub leads_more : (s t u : Stand C K) → Leads told keeps T s t → Leads told keeps T t u → Leads told keeps T s u
   leads_more s t _ first stays = first
   leads_more s t u first (goes {t = mid} then move) = goes (leads_more s t mid first then) move
 
-  -- where a run leads, it may have halted there for any reason
-  pub halted_led : (h : Option Halt) (s : Stand C K) (c : C) (k : K) (J : List Entry) (ws : Six Watch)
-      (pending : Option LastCommand) → Led told keeps l p s c k J ws pending
-      → LedTo told keeps l p s h c k J ws pending
-  halted_led None s c k J ws pending led = led
-  halted_led (Some halt.Gone) s c k J ws pending led = led
-  halted_led (Some halt.Unkept) s c k J ws pending led = led
-  halted_led (Some (halt.End end.Memory)) s c k J ws pending led = (c, led, inl refl)
-  halted_led (Some (halt.End end.Finished)) s c k J ws pending led = led
-  halted_led (Some (halt.End end.Stalled)) s c k J ws pending led = led
-  halted_led (Some (halt.End end.TurnLimit)) s c k J ws pending led = led
-  halted_led (Some (halt.End end.Full)) s c k J ws pending led = led
+  -- moves, and then how the run halts
+  pub halts_after : (s t : Stand C K) (h : Halt) (c : C) (k : K) (J : List Entry) → Leads told keeps T s t
+      → Halts told keeps T t h c k J → Halts told keeps T s h c k J
+  halts_after s t h c k J first (breaks u then over has) = breaks u (leads_more s t u first then) over has
+  halts_after s t h c k J first (lacks u then is left has) = lacks u (leads_more s t u first then) is left has
+  halts_after s t h c k J first (fills u then is away has) = fills u (leads_more s t u first then) is away has
+  halts_after s t h c k J first (rests u e then is at_rest has) = rests u e (leads_more s t u first then) is at_rest has
+  halts_after s t h c k J first (tires u then is here all has) = tires u (leads_more s t u first then) is here all has
 
-  -- moves after moves
-  pub led_led : (s t : Stand C K) (c : C) (k : K) (J : List Entry) (ws : Six Watch) (pending : Option LastCommand)
-      → Leads told keeps l p s t → Led told keeps l p t c k J ws pending → Led told keeps l p s c k J ws pending
-  led_led s t c k J ws pending first led = record {
+  pub reaches_after : (h : Option Halt) (s t : Stand C K) (b : Place) (y : State C K) → Leads told keeps T s t
+      → Reaches told keeps T t h b y → Reaches told keeps T s h b y
+  reaches_after None s t b y first led = record {
     minds = led.minds;
-    leads = leads_more s t (stand c k J led.minds pending) first led.leads;
+    leads = leads_more s t (stand y led.minds b) first led.leads;
     fits = led.fits;
   }
-
-  pub led_to : (h : Option Halt) (s t : Stand C K) (c : C) (k : K) (J : List Entry) (ws : Six Watch)
-      (pending : Option LastCommand) → Leads told keeps l p s t → LedTo told keeps l p t h c k J ws pending
-      → LedTo told keeps l p s h c k J ws pending
-  led_to None s t c k J ws pending first led = led_led s t c k J ws pending first led
-  led_to (Some halt.Gone) s t c k J ws pending first led = led_led s t c k J ws pending first led
-  led_to (Some halt.Unkept) s t c k J ws pending first led = led_led s t c k J ws pending first led
-  led_to (Some (halt.End end.Memory)) s t c k J ws pending first led =
-      (led.0, led_led s t led.0 k J ws pending first led.1, led.2)
-  led_to (Some (halt.End end.Finished)) s t c k J ws pending first led = led_led s t c k J ws pending first led
-  led_to (Some (halt.End end.Stalled)) s t c k J ws pending first led = led_led s t c k J ws pending first led
-  led_to (Some (halt.End end.TurnLimit)) s t c k J ws pending first led = led_led s t c k J ws pending first led
-  led_to (Some (halt.End end.Full)) s t c k J ws pending first led = led_led s t c k J ws pending first led
+  reaches_after (Some h) s t b y first halts = halts_after s t h y.cell y.keeper y.journal first halts
 
   -- nothing was done
-  pub runs_nothing : (c : C) (k : K) (J : List Entry) (ws : Six Watch) (pending : Option LastCommand)
-      → Runs told keeps l p None c k J ws pending c k J ws pending
-  runs_nothing c k J ws pending = λ minds fits. record { minds = minds; leads = stays; fits = fits }
+  pub runs_nothing : (a : Place) (x : State C K) → Runs told keeps T None a a x x
+  runs_nothing a x = λ minds fits. record { minds = minds; leads = stays; fits = fits }
 
-  -- one run of calls and then another
-  pub runs_then : (h : Option Halt) (c c' c'' : C) (k k' k'' : K) (J J' J'' : List Entry) (ws ws' ws'' : Six Watch)
-      (o o' o'' : Option LastCommand) → Runs told keeps l p None c k J ws o c' k' J' ws' o'
-      → Runs told keeps l p h c' k' J' ws' o' c'' k'' J'' ws'' o''
-      → Runs told keeps l p h c k J ws o c'' k'' J'' ws'' o''
-  runs_then h c c' c'' k k' k'' J J' J'' ws ws' ws'' o o' o'' first then = λ minds fits.
+  -- one call and then another
+  pub runs_then : (h : Option Halt) (a b c : Place) (x y z : State C K) → Runs told keeps T None a b x y
+      → Runs told keeps T h b c y z → Runs told keeps T h a c x z
+  runs_then h a b c x y z first then = λ minds fits.
       let led = first minds fits in
-      led_to h (stand c k J minds o) (stand c' k' J' led.minds o') c'' k'' J'' ws'' o'' led.leads
-      (then led.minds led.fits)
-
-  -- a run of calls halts as its last did
-  pub runs_halted : (h : Option Halt) (c c' : C) (k k' : K) (J J' : List Entry) (ws ws' : Six Watch)
-      (o o' : Option LastCommand) → Runs told keeps l p None c k J ws o c' k' J' ws' o'
-      → Runs told keeps l p h c k J ws o c' k' J' ws' o'
-  runs_halted h c c' k k' J J' ws ws' o o' first = λ minds fits.
-      halted_led h (stand c k J minds o) c' k' J' ws' o' (first minds fits)
+      reaches_after h (stand x minds a) (stand y led.minds b) c z led.leads (then led.minds led.fits)
 
   -- one move
-  pub runs_move : (c c' : C) (k k' : K) (J J' : List Entry) (ws ws' : Six Watch) (o o' : Option LastCommand)
-      → ((minds : Six Mind) → FitAll ws minds → (minds' : Six Mind) × FitAll ws' minds'
-      × Move told keeps l p (stand c k J minds o) (stand c' k' J' minds' o'))
-      → Runs told keeps l p None c k J ws o c' k' J' ws' o'
-  runs_move c c' k k' J J' ws ws' o o' move = λ minds fits.
+  pub runs_move : (a b : Place) (x y : State C K)
+      → ((minds : Six Mind) → FitAll x.watches minds → (minds' : Six Mind) × FitAll y.watches minds'
+      × Move told keeps T (stand x minds a) (stand y minds' b))
+      → Runs told keeps T None a b x y
+  runs_move a b x y move = λ minds fits.
       let made = move minds fits in record { minds = made.0; leads = goes stays made.2; fits = made.1 }
 
-  -- a machine's turn by which an entry was booked or none: it was kept, and its command was sent
-  pub runs_turn : (m : Machine) (r : Option Reading) (booked : Option Entry) (c seen c' : C) (k k' : K)
-      (J J' : List Entry)
-      (ws ws' ws'' : Six Watch) (o : Option LastCommand) → told c seen (Shown m r) → Turned l p m r booked J ws J' ws'
-      → Keeps keeps booked true k k' → Sent told m (option_and_then command_of booked) seen c' ws' ws''
-      → Runs told keeps l p None c k J ws o c' k' J' ws'' o
-  runs_turn m r booked c seen c' k k' J J' ws ws' ws'' o shown turned kept sent =
-      runs_move c c' k k' J J' ws ws'' o o (λ minds fits.
-      let did = turned minds fits in
-      let after = mind_after J m p (at minds m) r booked in
-      let between = put minds m after in (
-        put between m (mind_sent sent.lost (at between m)),
-        sent.fits between did.3,
-        turns m (record {
-          reading = r;
-          seen = seen;
-          shown = shown;
-          turned = record {
-            booked = booked;
-            lost = sent.lost;
-            decided = did.0;
-            allowed = did.1;
-            commanded = sent.commanded;
-            journal = did.2;
-            minds = put_put minds m after (mind_sent sent.lost (at between m))
-                ∙ ap (λ (s : Mind). put minds m (mind_sent sent.lost s)) (at_put minds m after);
-          };
-          kept = true;
-          keeping = kept;
-          orders = sent.orders;
-          pending = refl;
-        }),
-      ))
+  -- a call that led to where nothing more is done has halted the run
+  pub runs_over : (h : Halt) (a b c : Place) (x y : State C K) → b.point ≡ Over h → Runs told keeps T None a b x y
+      → Runs told keeps T (Some h) a c x y
+  runs_over h a b c x y over runs = λ minds fits.
+      let led = runs minds fits in breaks (stand y led.minds b) led.leads over (refl, refl, refl)
 
-  -- a machine's turn by which an entry was booked that couldn't be kept: no command is sent
-  pub runs_unkept : (m : Machine) (r : Option Reading) (e : Entry) (c c' : C) (k k' : K) (J J' : List Entry)
-      (ws ws' : Six Watch) (o : Option LastCommand) → told c c' (Shown m r) → Turned l p m r (Some e) J ws J' ws'
-      → keeps k k' e false → Runs told keeps l p None c k J ws o c' k' J' ws' o
-  runs_unkept m r e c c' k k' J J' ws ws' o shown turned kept =
-      runs_move c c' k k' J J' ws ws' o o (λ minds fits.
-      let did = turned minds fits in
-      let after = mind_after J m p (at minds m) r (Some e) in (
-        put minds m after,
-        did.3,
-        turns m (record {
-          reading = r;
-          seen = c';
-          shown = shown;
-          turned = record {
-            booked = Some e;
-            lost = false;
-            decided = did.0;
-            allowed = did.1;
-            commanded = λ lost. cc;
-            journal = did.2;
-            minds = refl;
-          };
-          kept = false;
-          keeping = kept;
-          orders = (refl, refl);
-          pending = refl;
-        }),
-      ))
+  -- a run halted where a call failed for what another failed for, wherever it would have gone
+  pub runs_halted : (A B : Type 0) (r : Result A Halt) (s : Result B Halt) (h : Halt) (a b b' : Place)
+      (x y : State C K) → IsErrAnd s (λ q. q ≡ h) → r ≡ Err h → Runs told keeps T (halted r) a b x y
+      → Runs told keeps T (halted s) a b' x y
+  runs_halted A B r (Ok q) h a b b' x y is was runs = absurd is
+  runs_halted A B r (Err q) h a b b' x y is was runs =
+      let so : Runs told keeps T (Some h) a b x y =
+      subst (λ (o : Option Halt). Runs told keeps T o a b x y) (ap halted was) runs in
+      subst (λ (o : Option Halt). Runs told keeps T o a b' x y) (ap (λ (z : Halt). Some z) (sym is)) so
 
-  -- the cell is asked what moves nothing in it
-  pub runs_asked : (a : Asked) (c c' : C) (k : K) (J : List Entry) (ws : Six Watch) (o : Option LastCommand)
-      → moves_nothing a ≡ true → told c c' a → Runs told keeps l p None c k J ws o c' k J ws o
-  runs_asked a c c' k J ws o still did = runs_move c c' k k J J ws ws o o (λ minds fits. (
-    minds,
-    fits,
-    asks a still did refl,
-  ))
+module _ {C K : Type 0} (told : C → C → Asked → Type 0) (keeps : K → K → Entry → Bool → Type 0) (l : BookLimits)
+    (p : Plan) where
+  pub goes_nothing : (f : Point) (x : State C K) → Goes told keeps l p None f f x x
+  goes_nothing f x = λ waits n J. runs_nothing told keeps (terms l p waits) (place n J f) x
 
-  -- a command that may not have gone out is looked for, or sent again
-  pub runs_settled : (m : Machine) (c c' : C) (k : K) (J : List Entry) (ws ws' : Six Watch) (o o' : Option LastCommand)
-      → Settles told m o c c' ws ws' o' → Runs told keeps l p None c k J ws o c' k J ws' o'
-  runs_settled m c _ k J ws _ o _ passes = runs_nothing c k J ws o
-  runs_settled m c c' k J ws _ o _ (looks r shown) = runs_asked (Shown m r) c c' k J ws o refl shown
-  runs_settled m c c' k J ws _ _ _ (finds {last} r shown) =
-      runs_then None c c' c' k k k J J J ws ws ws (Some last) (Some last) None
-      (runs_asked (Shown m r) c c' k J ws (Some last) refl shown)
-      (runs_move c' c' k k J J ws ws (Some last) None (λ minds fits. (minds, fits, stops last refl (inl refl) refl)))
-  runs_settled m c c' k J ws ws' _ _ (sends {last} {seen} r shown (inl none)) =
-      runs_then None c seen c' k k k J J J ws ws ws' (Some last) (Some last) None
-      (runs_asked (Shown m r) c seen k J ws (Some last) refl shown)
-      (runs_move seen c' k k J J ws ws' (Some last) None (λ minds fits. (
-        minds,
-        subst (λ (w : Six Watch). FitAll w minds) (sym none.1) fits,
-        stops last refl none.0 refl,
-      )))
-  runs_settled m c c' k J ws ws' _ _ (sends {last} {seen} r shown (inr sent)) =
-      runs_then None c seen c' k k k J J J ws ws ws' (Some last) (Some last) None
-      (runs_asked (Shown m r) c seen k J ws (Some last) refl shown)
-      (runs_move seen c' k k J J ws ws' (Some last) None (λ minds fits. (
-        put minds last.machine (mind_sent (is_lost sent.2.0) (at minds last.machine)),
-        sent.2.2 minds fits,
-        repeats last (record {
-          was = refl;
-          stopped = sent.0;
-          stops = sent.1;
-          answer = sent.2.0;
-          orders = sent.2.1;
-          same = refl;
-        }),
-      )))
+  -- one call and then another, whose book has the same limits
+  pub goes_then : (l' : BookLimits) (h : Option Halt) (f g i : Point) (x y z : State C K) → l' ≡ l
+      → Goes told keeps l p None f g x y → Goes told keeps l' p h g i y z → Goes told keeps l p h f i x z
+  goes_then l' h f g i x y z same first then = λ waits n J.
+      runs_then told keeps (terms l p waits) h (place n J f) (place n J g) (place n J i) x y z (first waits n J)
+      (subst (λ (q : BookLimits). Goes told keeps q p h g i y z) same then waits n J)
 
-  -- what is booked is booked, whether it is kept or not
-  pub runs_noted : (T : Type 0) (e : Entry) (r : Result T Halt) (c : C) (k k' : K) (h h' : History) (ws : Six Watch)
-      (o : Option LastCommand) → h.limits ≡ l → actor_of e ≡ actor.Operator → IsKept keeps e r k k' h h'
-      → Runs told keeps l p (halted r) c k h.entries ws o c k' h'.entries ws o
-  runs_noted T e (Ok x) c k k' h h' ws o is his did =
-      runs_move c c k k' h.entries h'.entries ws ws o o (λ minds fits. (
-        minds,
-        fits,
-        notes e (record {
-          his = record { actor = his; allowed = rw (← is) did.0 };
-          now = ap (λ (g : History). now g.entries minds) did.1;
-          kept = true;
-          keeping = did.2;
-          cell = refl;
-          pending = refl;
-        }),
-      ))
-  runs_noted T e (Err halt.Unkept) c k k' h h' ws o is his did =
-      runs_move c c k k' h.entries h'.entries ws ws o o (λ minds fits. (
-        minds,
-        fits,
-        notes e (record {
-          his = record { actor = his; allowed = rw (← is) did.0 };
-          now = ap (λ (g : History). now g.entries minds) did.1;
-          kept = false;
-          keeping = did.2;
-          cell = refl;
-          pending = refl;
-        }),
-      ))
-  runs_noted T e (Err (halt.End end.Memory)) c k k' h h' ws o is his did = rw (did.0, did.1)
-      (runs_halted (Some (halt.End end.Memory)) c c k k h.entries h.entries ws ws o o (runs_nothing c k h.entries ws o))
-  runs_noted T e (Err (halt.End end.Finished)) c k k' h h' ws o is his did = elim did [ ]
-  runs_noted T e (Err (halt.End end.Stalled)) c k k' h h' ws o is his did = elim did [ ]
-  runs_noted T e (Err (halt.End end.TurnLimit)) c k k' h h' ws o is his did = elim did [ ]
-  runs_noted T e (Err (halt.End end.Full)) c k k' h h' ws o is his did = elim did [ ]
-  runs_noted T e (Err halt.Gone) c k k' h h' ws o is his did = elim did [ ]
+  -- one move
+  pub goes_move : (f g : Point) (x y : State C K)
+      → ((waits : Bool) (n : ℕ) (J : List Entry) (minds : Six Mind) → FitAll x.watches minds
+      → (minds' : Six Mind) × FitAll y.watches minds'
+      × Move told keeps (terms l p waits) (stand x minds (place n J f)) (stand y minds' (place n J g)))
+      → Goes told keeps l p None f g x y
+  goes_move f g x y move = λ waits n J.
+      runs_move told keeps (terms l p waits) (place n J f) (place n J g) x y (move waits n J)
 
-  -- the act of an entry is done, and then it is booked, whether it is kept or not
-  pub runs_done : (T : Type 0) (e : Entry) (r : Result T Halt) (c c' : C) (k k' : K) (h h' : History) (ws : Six Watch)
-      (o : Option LastCommand) → h.limits ≡ l → actor_of e ≡ actor.Operator → first_of h.limits h.entries e ≡ None
-      → Hands told (act_of e) c c' → IsKept keeps e r k k' h h'
-      → Runs told keeps l p (halted r) c k h.entries ws o c' k' h'.entries ws o
-  runs_done T e (Ok x) c c' k k' h h' ws o is his free hands did =
-      runs_move c c' k k' h.entries h'.entries ws ws o o (λ minds fits. (
-        minds,
-        fits,
-        does e (record {
-          acted = c';
-          hands = hands;
-          books = record {
-            his = record { actor = his; allowed = rw (← is) did.0 };
-            now = ap (λ (g : History). now g.entries minds) did.1;
-            kept = true;
-            keeping = did.2;
-            cell = refl;
-            pending = refl;
-          };
-        }),
-      ))
-  runs_done T e (Err halt.Unkept) c c' k k' h h' ws o is his free hands did =
-      runs_move c c' k k' h.entries h'.entries ws ws o o (λ minds fits. (
-        minds,
-        fits,
-        does e (record {
-          acted = c';
-          hands = hands;
-          books = record {
-            his = record { actor = his; allowed = rw (← is) did.0 };
-            now = ap (λ (g : History). now g.entries minds) did.1;
-            kept = false;
-            keeping = did.2;
-            cell = refl;
-            pending = refl;
-          };
-        }),
-      ))
-  runs_done T e (Err (halt.End end.Memory)) c c' k k' h h' ws o is his free hands did = rw (did.0, did.1)
-      (λ minds fits. (
-        c,
-        record { minds = minds; leads = stays; fits = fits },
-        inr (e, record { actor = his; allowed = rw (← is) free }, hands),
-      ))
-  runs_done T e (Err (halt.End end.Finished)) c c' k k' h h' ws o is his free hands did = elim did [ ]
-  runs_done T e (Err (halt.End end.Stalled)) c c' k k' h h' ws o is his free hands did = elim did [ ]
-  runs_done T e (Err (halt.End end.TurnLimit)) c c' k k' h h' ws o is his free hands did = elim did [ ]
-  runs_done T e (Err (halt.End end.Full)) c c' k k' h h' ws o is his free hands did = elim did [ ]
-  runs_done T e (Err halt.Gone) c c' k k' h h' ws o is his free hands did = elim did [ ]
+  -- what led to where nothing more is done has halted the run
+  pub goes_over : (h : Halt) (f g : Point) (x y : State C K) → Goes told keeps l p None f (Over h) x y
+      → Goes told keeps l p (Some h) f g x y
+  goes_over h f g x y over = λ waits n J.
+      runs_over told keeps (terms l p waits) h (place n J f) (place n J (Over h)) (place n J g) x y refl
+      (over waits n J)
 
-  -- the act of an entry that is allowed isn't done
-  pub runs_missed : (e : Entry) (wanted : Option Act) (c c' : C) (k : K) (J : List Entry) (ws : Six Watch)
-      (o : Option LastCommand) → actor_of e ≡ actor.Operator → first_of l J e ≡ None → act_of e ≡ wanted
-      → Misses told wanted c c' → Runs told keeps l p None c k J ws o c' k J ws o
-  runs_missed e None c c' k J ws o his free is none = elim none [ ]
-  runs_missed e (Some a) c c' k J ws o his free is missed = runs_move c c' k k J J ws ws o o (λ minds fits. (
-    minds,
-    fits,
-    fails e (record {
-      his = record { actor = his; allowed = free };
-      act = a;
-      wanted = is;
-      answer = missed.0;
-      not_done = missed.1;
-      hands = missed.2;
-      same = refl;
-    }),
-  ))
+  -- the run halted where a call failed for what another failed for, wherever it would have gone
+  pub goes_halted : (A B : Type 0) (r : Result A Halt) (s : Result B Halt) (h : Halt) (f g g' : Point)
+      (x y : State C K) → IsErrAnd s (λ q. q ≡ h) → r ≡ Err h → Goes told keeps l p (halted r) f g x y
+      → Goes told keeps l p (halted s) f g' x y
+  goes_halted A B r s h f g g' x y is was runs = λ waits n J.
+      runs_halted told keeps (terms l p waits) A B r s h (place n J f) (place n J g) (place n J g') x y is was
+      (runs waits n J)
 
   -- the same halt by another name
-  pub runs_as : (h h' : Option Halt) (c c' : C) (k k' : K) (J J' : List Entry) (ws ws' : Six Watch)
-      (o o' : Option LastCommand) → h ≡ h' → Runs told keeps l p h c k J ws o c' k' J' ws' o'
-      → Runs told keeps l p h' c k J ws o c' k' J' ws' o'
-  runs_as h h' c c' k k' J J' ws ws' o o' is runs =
-      subst (λ (x : Option Halt). Runs told keeps l p x c k J ws o c' k' J' ws' o') is runs
+  pub goes_as : (h h' : Option Halt) (f g : Point) (x y : State C K) → h ≡ h' → Goes told keeps l p h f g x y
+      → Goes told keeps l p h' f g x y
+  goes_as h h' f g x y is runs = subst (λ (o : Option Halt). Goes told keeps l p o f g x y) is runs
 
-  -- one run of calls and then another, whose book has the same limits
-  pub runs_after : (l' : BookLimits) (h : Option Halt) (c c' c'' : C) (k k' k'' : K) (J J' J'' : List Entry)
-      (ws ws' ws'' : Six Watch) (o o' o'' : Option LastCommand) → l' ≡ l
-      → Runs told keeps l p None c k J ws o c' k' J' ws' o'
-      → Runs told keeps l' p h c' k' J' ws' o' c'' k'' J'' ws'' o''
-      → Runs told keeps l p h c k J ws o c'' k'' J'' ws'' o''
-  runs_after l' h c c' c'' k k' k'' J J' J'' ws ws' ws'' o o' o'' same first then =
-      runs_then h c c' c'' k k' k'' J J' J'' ws ws' ws'' o o' o'' first
-      (subst (λ (x : BookLimits). Runs told keeps x p h c' k' J' ws' o' c'' k'' J'' ws'' o'') same then)
-
-  -- the rounds of a run from a book's journal on
-  pub controlled_by : (h : Halt) (c c' : C) (k k' : K) (J J' : List Entry) (ws' : Six Watch)
-      (last left : Option LastCommand)
-      (minds : Six Mind) → LedTo told keeps l p (stand c k J minds last) (Some h) c' k' J' ws' left
-      → RestsIf p J' ws' h → minds ≡ each (λ m. first_mind J m)
-      → Controlled told keeps l p h c k J last c' k' J'
-  controlled_by h c c' k k' J J' ws' last left minds led rests first = record {
-    watches = ws';
-    left = left;
-    led = subst (λ (s : Six Mind). LedTo told keeps l p (stand c k J s last) (Some h) c' k' J' ws' left) first led;
-    rests = rests;
-  }
-
-  -- the same where the book, the command and the limits have other names
-  pub controlled_as : (l' : BookLimits) (h : Halt) (c c' : C) (k k' : K) (J J0 J' J'' : List Entry)
-      (last o : Option LastCommand)
-      → l ≡ l' → J0 ≡ J → J' ≡ J'' → o ≡ last → Controlled told keeps l p h c k J0 o c' k' J'
-      → Controlled told keeps l' p h c k J last c' k' J''
-  controlled_as l' h c c' k k' J J0 J' J'' last o limits first then same made =
-      subst (λ (x : BookLimits). Controlled told keeps x p h c k J last c' k' J'') limits
-      (subst (λ (K : List Entry). Controlled told keeps l p h c k K last c' k' J'') first
-      (subst (λ (K : List Entry). Controlled told keeps l p h c k J0 last c' k' K) then
-      (subst (λ (x : Option LastCommand). Controlled told keeps l p h c k J0 x c' k' J') same made)))
+-- a run from a book's journal on, where the book, the command and the limits have other names
+pub controlled_as : {C K : Type 0} (told : C → C → Asked → Type 0) (keeps : K → K → Entry → Bool → Type 0) (p : Plan)
+    (waits : Bool) (l l' : BookLimits) (h : Halt) (c c' : C) (k k' : K) (J J0 J' J'' : List Entry) (lines : List Line)
+    (o last : Option LastCommand) → l ≡ l' → J ≡ J0 → J' ≡ J'' → o ≡ last
+    → Halts told keeps (terms l p waits) (record {
+      cell = c;
+      keeper = k;
+      now = now J (each (λ m. first_mind J0 m));
+      pending = o;
+      desk = desk lines false;
+      place = place 0 J0 Between;
+    }) h c' k' J'
+    → Controlled told keeps (terms l' p waits) h c k J0 lines last c' k' J''
+controlled_as told keeps p waits l l' h c c' k k' J J0 J' J'' lines o last limits first then same halts =
+    subst (λ (x : BookLimits). Controlled told keeps (terms x p waits) h c k J0 lines last c' k' J'') limits
+    (subst (λ (x : List Entry). Controlled told keeps (terms l p waits) h c k J0 lines last c' k' x) then
+    (subst (λ (x : Option LastCommand). Controlled told keeps (terms l p waits) h c k J0 lines x c' k' J') same
+    (subst (λ (x : List Entry). Halts told keeps (terms l p waits) (record {
+      cell = c;
+      keeper = k;
+      now = now x (each (λ m. first_mind J0 m));
+      pending = o;
+      desk = desk lines false;
+      place = place 0 J0 Between;
+    }) h c' k' J') first halts)))

@@ -1,2 +1,5 @@
 pub mod Stands
+pub mod Rest
 pub mod Moves
+pub mod Calls
+pub mod Runs

@@ -1,13 +1,16 @@
 //! What someone at the cell did and wants.
-ghost use Rattle.std.specs.Prelude.{◌≡◌, IfErr, IfSome, true};
-ghost use Rattle.cell_types.specs.Entries.{actor_of};
-ghost use Rattle.cell_types.specs.declared.words.Actor.TheVariants as actors;
+ghost use Rattle.std.specs.Prelude.{◌≡◌, ◌+◌, ℕ, Some};
+ghost use Rattle.cell_types.specs.Texts.{all_machine};
 ghost use Rattle.cell_types.specs.declared.words.Machine.{Machine as MachineValue};
+ghost use Rattle.cell_plant.specs.declared.desk.Wish.TheVariants as wishes;
+ghost use Rattle.operator_desk.specs.declared.line.Task.TheVariants as tasks;
 ghost use Rattle.cell_ports.specs.declared.plan.Plan.{Plan as PlanValue};
 ghost use Rattle.cell_turns.specs.Minds.{machine_of_watch};
 ghost use Rattle.cell_turns.specs.Six.{at};
-ghost use Rattle.cell_rounds.specs.Moves.{Runs, halted, is_break};
-ghost use Rattle.cell_rounds.specs.Stands.{last_of};
+ghost use Rattle.cell_rounds.specs.Calls.{halted};
+ghost use Rattle.cell_rounds.specs.Moves.{entry_wanted};
+ghost use Rattle.cell_rounds.specs.Runs.{Goes, answering};
+ghost use Rattle.cell_rounds.specs.Stands.{Closing, Noted, Noting, Serving, Turning, Wanted, state};
 
 use crate::hands::{book_his, do_by_hand};
 use crate::progress::{Halt, Progress};
@@ -17,13 +20,13 @@ use cell_types::{Entry, PlateId, Station};
 use operator_desk::Task;
 use plate_book::Book;
 
-// The most acts that are booked, and the most wishes that are answered, in a round.
+// The most of what was done at the cell that is heard in a round, and the most wishes.
 const MOST_IN_A_ROUND: u32 = 10_064;
 
 // The entry of taking out what stands at a station: of the plate that the book has there, or of the first plate where
 // it has none.
 fn clearing(book: &Book, src: Station) -> Option<Entry>
-    ensures { IfSome result (λ e. actor_of e ≡ actors.Operator) }
+    ensures { result ≡ Some (entry_wanted book.now.entries (tasks.Clear src)) }
 {
     let plate = match book.plate_at(src) {
         Some(plate) => plate,
@@ -32,9 +35,9 @@ fn clearing(book: &Book, src: Station) -> Option<Entry>
     Some(Entry::Quarantined { plate, src })
 }
 
-// The entry by which a task is booked.
+// The entry by which a task is booked. There always is one.
 fn entry_of_task(book: &Book, task: Task) -> Option<Entry>
-    ensures { IfSome result (λ e. actor_of e ≡ actors.Operator) }
+    ensures { result ≡ Some (entry_wanted book.now.entries task) }
 {
     match task {
         Task::Stop(machine) => Some(Entry::StopAsked { machine }),
@@ -54,10 +57,11 @@ fn book_act<C: Plant, K: Keeper, R: Run>(
     requires { (m : MachineValue) → machine_of_watch (at cell.old.watches m) ≡ m }
     ensures machines { (m : MachineValue) → machine_of_watch (at cell.new.watches m) ≡ m }
     ensures limits { cell.new.kept.limits ≡ cell.old.kept.limits }
-    ensures led { (p : PlanValue) → Runs C.told K.keeps cell.old.kept.limits p (halted result) plant.old keeper.old
-        cell.old.kept.entries cell.old.watches (last_of cell.old.pending) plant.new keeper.new cell.new.kept.entries
-        cell.new.watches (last_of cell.new.pending) }
-    ensures breaks { IfErr result (λ halt. is_break halt ≡ true) }
+    ensures led { (p : PlanValue) (n : ℕ) → Goes C.told K.keeps cell.old.kept.limits p (halted result) (Noted n task)
+        (Noting (n + 1)) (state plant.old keeper.old
+        cell.old.kept.entries cell.old.watches cell.old.pending cell.old.script cell.old.lost)
+        (state plant.new keeper.new
+        cell.new.kept.entries cell.new.watches cell.new.pending cell.new.script cell.new.lost) }
 {
     let done = task;
     let Some(entry) = entry_of_task(cell.book(), task) else {
@@ -80,10 +84,11 @@ pub(crate) fn book_acts<C: Plant, K: Keeper, R: Run>(
     requires { (m : MachineValue) → machine_of_watch (at cell.old.watches m) ≡ m }
     ensures machines { (m : MachineValue) → machine_of_watch (at cell.new.watches m) ≡ m }
     ensures limits { cell.new.kept.limits ≡ cell.old.kept.limits }
-    ensures led { (p : PlanValue) → Runs C.told K.keeps cell.old.kept.limits p (halted result) plant.old keeper.old
-        cell.old.kept.entries cell.old.watches (last_of cell.old.pending) plant.new keeper.new cell.new.kept.entries
-        cell.new.watches (last_of cell.new.pending) }
-    ensures breaks { IfErr result (λ halt. is_break halt ≡ true) }
+    ensures led { (p : PlanValue) → Goes C.told K.keeps cell.old.kept.limits p (halted result) (Noting 0)
+        (Turning all_machine) (state plant.old keeper.old
+        cell.old.kept.entries cell.old.watches cell.old.pending cell.old.script cell.old.lost)
+        (state plant.new keeper.new
+        cell.new.kept.entries cell.new.watches cell.new.pending cell.new.script cell.new.lost) }
 {
     for _count in 0..MOST_IN_A_ROUND {
         let Some(task) = plant.act_done() else {
@@ -104,10 +109,12 @@ fn grant<C: Plant, K: Keeper, R: Run>(
     requires { (m : MachineValue) → machine_of_watch (at cell.old.watches m) ≡ m }
     ensures machines { (m : MachineValue) → machine_of_watch (at cell.new.watches m) ≡ m }
     ensures limits { cell.new.kept.limits ≡ cell.old.kept.limits }
-    ensures led { (p : PlanValue) → Runs C.told K.keeps cell.old.kept.limits p (halted result) plant.old keeper.old
-        cell.old.kept.entries cell.old.watches (last_of cell.old.pending) plant.new keeper.new cell.new.kept.entries
-        cell.new.watches (last_of cell.new.pending) }
-    ensures breaks { IfErr result (λ halt. is_break halt ≡ true) }
+    ensures led { (p : PlanValue) (n : ℕ) → Goes C.told K.keeps cell.old.kept.limits p (halted result) (Wanted n
+        (wishes.For task))
+        (answering n result) (state plant.old keeper.old
+        cell.old.kept.entries cell.old.watches cell.old.pending cell.old.script cell.old.lost)
+        (state plant.new keeper.new
+        cell.new.kept.entries cell.new.watches cell.new.pending cell.new.script cell.new.lost) }
 {
     let Some(entry) = entry_of_task(cell.book(), task) else {
         return Ok(Reply::Denied(Denial::Unreadable));
@@ -133,10 +140,11 @@ fn reply_to<C: Plant, K: Keeper, R: Run>(
     requires { (m : MachineValue) → machine_of_watch (at cell.old.watches m) ≡ m }
     ensures machines { (m : MachineValue) → machine_of_watch (at cell.new.watches m) ≡ m }
     ensures limits { cell.new.kept.limits ≡ cell.old.kept.limits }
-    ensures led { (p : PlanValue) → Runs C.told K.keeps cell.old.kept.limits p (halted result) plant.old keeper.old
-        cell.old.kept.entries cell.old.watches (last_of cell.old.pending) plant.new keeper.new cell.new.kept.entries
-        cell.new.watches (last_of cell.new.pending) }
-    ensures breaks { IfErr result (λ halt. is_break halt ≡ true) }
+    ensures led { (p : PlanValue) (n : ℕ) → Goes C.told K.keeps cell.old.kept.limits p (halted result) (Wanted n wish)
+        (answering n result) (state plant.old keeper.old
+        cell.old.kept.entries cell.old.watches cell.old.pending cell.old.script cell.old.lost)
+        (state plant.new keeper.new
+        cell.new.kept.entries cell.new.watches cell.new.pending cell.new.script cell.new.lost) }
 {
     match wish {
         Wish::For(task) => grant(task, plant, keeper, cell),
@@ -155,10 +163,11 @@ fn answer<C: Plant, K: Keeper, R: Run>(
     requires { (m : MachineValue) → machine_of_watch (at cell.old.watches m) ≡ m }
     ensures machines { (m : MachineValue) → machine_of_watch (at cell.new.watches m) ≡ m }
     ensures limits { cell.new.kept.limits ≡ cell.old.kept.limits }
-    ensures led { (p : PlanValue) → Runs C.told K.keeps cell.old.kept.limits p (halted result) plant.old keeper.old
-        cell.old.kept.entries cell.old.watches (last_of cell.old.pending) plant.new keeper.new cell.new.kept.entries
-        cell.new.watches (last_of cell.new.pending) }
-    ensures breaks { IfErr result (λ halt. is_break halt ≡ true) }
+    ensures led { (p : PlanValue) (n : ℕ) → Goes C.told K.keeps cell.old.kept.limits p (halted result) (Wanted n wish)
+        (Serving (n + 1)) (state plant.old keeper.old
+        cell.old.kept.entries cell.old.watches cell.old.pending cell.old.script cell.old.lost)
+        (state plant.new keeper.new
+        cell.new.kept.entries cell.new.watches cell.new.pending cell.new.script cell.new.lost) }
 {
     let reply = reply_to(wish, plant, keeper, cell)?;
     plant.reply(reply)?;
@@ -174,10 +183,11 @@ pub(crate) fn serve<C: Plant, K: Keeper, R: Run>(
     requires { (m : MachineValue) → machine_of_watch (at cell.old.watches m) ≡ m }
     ensures machines { (m : MachineValue) → machine_of_watch (at cell.new.watches m) ≡ m }
     ensures limits { cell.new.kept.limits ≡ cell.old.kept.limits }
-    ensures led { (p : PlanValue) → Runs C.told K.keeps cell.old.kept.limits p (halted result) plant.old keeper.old
-        cell.old.kept.entries cell.old.watches (last_of cell.old.pending) plant.new keeper.new cell.new.kept.entries
-        cell.new.watches (last_of cell.new.pending) }
-    ensures breaks { IfErr result (λ halt. is_break halt ≡ true) }
+    ensures led { (p : PlanValue) → Goes C.told K.keeps cell.old.kept.limits p (halted result) (Serving 0)
+        Closing (state plant.old keeper.old
+        cell.old.kept.entries cell.old.watches cell.old.pending cell.old.script cell.old.lost)
+        (state plant.new keeper.new
+        cell.new.kept.entries cell.new.watches cell.new.pending cell.new.script cell.new.lost) }
 {
     for _count in 0..MOST_IN_A_ROUND {
         let Some(wish) = plant.wish() else {

@@ -1,5 +1,6 @@
 //! A run in rounds over a cell.
-ghost use Rattle.std.specs.Prelude.{◌≡◌, ◌<◌, IfErr, IfSome, Some, true};
+ghost use Rattle.std.specs.Prelude.{◌≡◌, ◌<◌, ◌+◌, ℕ, IfSome, List, None, Some, length, true};
+ghost use Rattle.cell_types.specs.declared.words.Entry.{Entry as EntryValue};
 ghost use Rattle.cell_types.specs.declared.words.Machine.{Machine as MachineValue};
 ghost use Rattle.cell_rules.specs.Legal.{legal};
 ghost use Rattle.cell_rules.specs.Safety.{IsSafe};
@@ -8,8 +9,11 @@ ghost use Rattle.cell_turns.specs.Minds.{Mind, machine_of_watch};
 ghost use Rattle.cell_turns.specs.Schedules.{FitAll};
 ghost use Rattle.cell_turns.specs.declared.six.Six.{Six as SixValue};
 ghost use Rattle.cell_turns.specs.Six.{at};
-ghost use Rattle.cell_rounds.specs.Moves.{Controlled, Rests, RestsIf, Runs, halted, is_break};
-ghost use Rattle.cell_rounds.specs.Stands.{last_of};
+ghost use Rattle.cell_rounds.specs.Calls.{halted};
+ghost use Rattle.cell_rounds.specs.Moves.{terms};
+ghost use Rattle.cell_rounds.specs.Rest.{IsAtRest, KeepsOn};
+ghost use Rattle.cell_rounds.specs.Runs.{Controlled, Goes, Runs};
+ghost use Rattle.cell_rounds.specs.Stands.{Between, Closing, Noting, last_of, place, state};
 
 use crate::desk::{book_acts, serve};
 use crate::hands::operate;
@@ -43,10 +47,11 @@ fn act<C: Plant, K: Keeper, R: Run>(
     requires { (m : MachineValue) → machine_of_watch (at cell.old.watches m) ≡ m }
     ensures machines { (m : MachineValue) → machine_of_watch (at cell.new.watches m) ≡ m }
     ensures limits { cell.new.kept.limits ≡ cell.old.kept.limits }
-    ensures led { Runs C.told K.keeps cell.old.kept.limits plan.now (halted result) plant.old keeper.old
-        cell.old.kept.entries cell.old.watches (last_of cell.old.pending) plant.new keeper.new cell.new.kept.entries
-        cell.new.watches (last_of cell.new.pending) }
-    ensures breaks { IfErr result (λ halt. is_break halt ≡ true) }
+    ensures led { Goes C.told K.keeps cell.old.kept.limits plan.now (halted result) (Noting 0) Closing
+        (state plant.old keeper.old
+        cell.old.kept.entries cell.old.watches cell.old.pending cell.old.script cell.old.lost)
+        (state plant.new keeper.new
+        cell.new.kept.entries cell.new.watches cell.new.pending cell.new.script cell.new.lost) }
 {
     book_acts(plant, keeper, cell)?;
     take_turns(plant, keeper, cell, plan)?;
@@ -57,8 +62,12 @@ fn act<C: Plant, K: Keeper, R: Run>(
 // The end that a round sets, which began with so many entries in the journal: one that booked nothing, after which all
 // machines are idle, sets one.
 fn end_after<R: Run>(before: u32, cell: &Progress<R>, plan: &Plan, waits: bool) -> Option<End>
-    ensures { IfSome result (λ end. (minds : SixValue Mind) → FitAll cell.now.watches minds
-        → Rests plan.now cell.now.kept.entries minds end) }
+    ensures ends { IfSome result (λ end. (length cell.now.kept.entries ≡ before) × (last_of cell.now.pending ≡ None)
+        × ((minds : SixValue Mind) → FitAll cell.now.watches minds
+        → IsAtRest plan.now waits cell.now.kept.entries minds end)) }
+    ensures goes_on { result ≡ None → length cell.now.kept.entries ≡ before → last_of cell.now.pending ≡ None
+        → (minds : SixValue Mind) → FitAll cell.now.watches minds
+        → KeepsOn plan.now waits cell.now.kept.entries minds }
 {
     let book = cell.book();
     if book.journal().len() != before || cell.pending.is_some() {
@@ -84,10 +93,12 @@ fn take_round<C: Plant, K: Keeper, R: Run>(
     requires { (m : MachineValue) → machine_of_watch (at cell.old.watches m) ≡ m }
     ensures machines { (m : MachineValue) → machine_of_watch (at cell.new.watches m) ≡ m }
     ensures limits { cell.new.kept.limits ≡ cell.old.kept.limits }
-    ensures led { Runs C.told K.keeps cell.old.kept.limits plan.now (halted result) plant.old keeper.old
-        cell.old.kept.entries cell.old.watches (last_of cell.old.pending) plant.new keeper.new cell.new.kept.entries
-        cell.new.watches (last_of cell.new.pending) }
-    ensures rests { IfErr result (λ halt. RestsIf plan.now cell.new.kept.entries cell.new.watches halt) }
+    ensures led { (rounds : ℕ) (J : List EntryValue) → Runs C.told K.keeps (terms cell.old.kept.limits plan.now waits)
+        (halted result) (place rounds J Between) (place (rounds + 1) cell.old.kept.entries Between)
+        (state plant.old keeper.old
+        cell.old.kept.entries cell.old.watches cell.old.pending cell.old.script cell.old.lost)
+        (state plant.new keeper.new
+        cell.new.kept.entries cell.new.watches cell.new.pending cell.new.script cell.new.lost) }
 {
     plant.begin_round()?;
     let before = cell.book().journal().len();
@@ -109,10 +120,11 @@ fn take_rounds<C: Plant, K: Keeper, R: Run>(
 ) -> Halt
     requires { (m : MachineValue) → machine_of_watch (at cell.old.watches m) ≡ m }
     ensures limits { cell.new.kept.limits ≡ cell.old.kept.limits }
-    ensures led { Runs C.told K.keeps cell.old.kept.limits plan.now (Some result) plant.old keeper.old
-        cell.old.kept.entries cell.old.watches (last_of cell.old.pending) plant.new keeper.new cell.new.kept.entries
-        cell.new.watches (last_of cell.new.pending) }
-    ensures rests { RestsIf plan.now cell.new.kept.entries cell.new.watches result }
+    ensures led { (J : List EntryValue) → Runs C.told K.keeps (terms cell.old.kept.limits plan.now waits)
+        (Some result) (place 0 J Between) (place 0 J Between) (state plant.old keeper.old
+        cell.old.kept.entries cell.old.watches cell.old.pending cell.old.script cell.old.lost)
+        (state plant.new keeper.new
+        cell.new.kept.entries cell.new.watches cell.new.pending cell.new.script cell.new.lost) }
 {
     for _round in 0..plan.turns {
         if let Err(halt) = take_round(plant, keeper, cell, plan, waits) {
@@ -143,8 +155,8 @@ pub fn control<C: Plant, K: Keeper, R: Run>(
     ensures limits { result.book.limits ≡ R.limits }
     ensures legal { legal R.limits result.book.entries ≡ true }
     ensures safe { IsSafe result.book.entries }
-    ensures controlled { Controlled C.told K.keeps R.limits plan.now result.halt plant.old keeper.old book.entries
-        pending plant.new keeper.new result.book.entries }
+    ensures controlled { Controlled C.told K.keeps (terms R.limits plan.now waits) result.halt plant.old keeper.old
+        book.entries script pending plant.new keeper.new result.book.entries }
 {
     let watches = Watches::start(&book);
     let (kept, shares) = Kept::<R>::new(book, blanks);

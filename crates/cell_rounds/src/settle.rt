@@ -1,9 +1,10 @@
 //! The last command of a journal that a run goes on from, which may not have gone out.
-ghost use Rattle.std.specs.Prelude.{◌≡◌, IfErr, None};
+ghost use Rattle.std.specs.Prelude.{◌≡◌, IfErr, None, is_ok};
 ghost use Rattle.cell_types.specs.declared.words.Machine.{Machine as MachineValue};
 ghost use Rattle.cell_turns.specs.Minds.{machine_of_watch};
 ghost use Rattle.cell_turns.specs.Six.{at};
-ghost use Rattle.cell_rounds.specs.Moves.{Resends, Settles, Stops};
+ghost use Rattle.cell_rounds.specs.Calls.{Resends, Settles, halted};
+ghost use Rattle.cell_rounds.specs.Moves.{Stops};
 ghost use Rattle.cell_rounds.specs.Stands.{command_by, last_command, last_of};
 
 use crate::progress::{Halt, Progress};
@@ -151,7 +152,7 @@ pub(crate) fn begin_looking(last: Option<LastCommand>, plan: &Plan) -> Option<Pe
 
 // Stops a press before it is sent anywhere, as one has to be that hasn't left its pose.
 fn stop_press<C: Plant>(machine: Machine, plant: &mut C) -> Result<(), Halt>
-    ensures stops { Stops C.told machine plant.old plant.new }
+    ensures stops { Stops C.told machine (is_ok result) plant.old plant.new }
     ensures gone { IfErr result (λ halt. halt ≡ Halt.Gone) }
 {
     if press_of(machine).is_some() {
@@ -171,8 +172,7 @@ fn send_again<C: Plant, R: Run>(
     ensures same { (cell.new.kept ≡ cell.old.kept) × (cell.new.script ≡ cell.old.script)
         × (cell.new.lost ≡ cell.old.lost) }
     ensures pending { last_of cell.new.pending ≡ None }
-    ensures sends { Resends C.told last plant.old plant.new cell.old.watches cell.new.watches }
-    ensures gone { IfErr result (λ halt. halt ≡ Halt.Gone) }
+    ensures sends { Resends C.told last (halted result) plant.old plant.new cell.old.watches cell.new.watches }
 {
     cell.pending = None;
     stop_press(last.machine, plant)?;
@@ -193,9 +193,8 @@ pub(crate) fn is_settled<C: Plant, R: Run>(
     ensures machines { (m : MachineValue) → machine_of_watch (at cell.new.watches m) ≡ m }
     ensures same { (cell.new.kept ≡ cell.old.kept) × (cell.new.script ≡ cell.old.script)
         × (cell.new.lost ≡ cell.old.lost) }
-    ensures settles { Settles C.told machine (last_of cell.old.pending) plant.old plant.new cell.old.watches
+    ensures settles { Settles C.told machine result (last_of cell.old.pending) plant.old plant.new cell.old.watches
         cell.new.watches (last_of cell.new.pending) }
-    ensures gone { IfErr result (λ halt. halt ≡ Halt.Gone) }
 {
     let Some(pending) = cell.pending else {
         return Ok(true);

@@ -1,14 +1,16 @@
 //! The machines' part of a round.
-ghost use Rattle.std.specs.Prelude.{◌≡◌, IfErr, IfOk, OnErr, true};
+ghost use Rattle.std.specs.Prelude.{◌≡◌, ◌∷◌, [], IfErr, IfOk, List, OnErr};
 ghost use Rattle.cell_types.specs.declared.words.Machine.{Machine as MachineValue};
 ghost use Rattle.cell_types.specs.Entries.{command_of};
+ghost use Rattle.cell_types.specs.Texts.{all_machine};
 ghost use Rattle.cell_turns.specs.Minds.{Mind, machine_of_watch};
 ghost use Rattle.cell_turns.specs.Schedules.{FitAll};
 ghost use Rattle.cell_turns.specs.declared.six.Six.{Six as SixValue};
-ghost use Rattle.cell_workers.specs.Ends.{is_idle};
 ghost use Rattle.cell_turns.specs.Six.{at};
-ghost use Rattle.cell_rounds.specs.Moves.{Runs, Sent, Turned, halted, is_break};
-ghost use Rattle.cell_rounds.specs.Stands.{last_of};
+ghost use Rattle.cell_rounds.specs.Calls.{Sent, TurnHalts, Turned, halted};
+ghost use Rattle.cell_rounds.specs.Rest.{are_idle};
+ghost use Rattle.cell_rounds.specs.Runs.{Goes};
+ghost use Rattle.cell_rounds.specs.Stands.{Turning, state};
 
 use crate::progress::{Halt, Progress};
 use crate::settle::is_settled;
@@ -37,7 +39,8 @@ fn turn<R: Run>(
     ensures turned { IfOk result (λ booked. Turned cell.old.kept.limits plan.now machine reading booked
         cell.old.kept.entries cell.old.watches cell.new.kept.entries cell.new.watches) }
     ensures unchanged { OnErr result ((cell.new.kept ≡ cell.old.kept) × (cell.new.watches ≡ cell.old.watches)) }
-    ensures breaks { IfErr result (λ halt. is_break halt ≡ true) }
+    ensures halts { IfErr result (TurnHalts cell.old.kept.limits plan.now machine reading cell.old.kept.entries
+        cell.old.watches) }
 {
     cell.entries.clear();
     let booked = book_turn(
@@ -69,8 +72,8 @@ fn send<C: Plant, R: Run>(
     ensures same { (cell.new.kept ≡ cell.old.kept) × (cell.new.script ≡ cell.old.script)
         × (cell.new.lost ≡ cell.old.lost)
         × (cell.new.pending ≡ cell.old.pending) }
-    ensures sent { Sent C.told machine (command_of entry) plant.old plant.new cell.old.watches cell.new.watches }
-    ensures gone { IfErr result (λ halt. halt ≡ Halt.Gone) }
+    ensures sent { Sent C.told machine (command_of entry) (halted result) plant.old plant.new cell.old.watches
+        cell.new.watches }
 {
     let Some(command) = command_of(entry) else {
         return Ok(());
@@ -92,10 +95,12 @@ fn take_turn<C: Plant, K: Keeper, R: Run>(
     requires { (m : MachineValue) → machine_of_watch (at cell.old.watches m) ≡ m }
     ensures machines { (m : MachineValue) → machine_of_watch (at cell.new.watches m) ≡ m }
     ensures limits { cell.new.kept.limits ≡ cell.old.kept.limits }
-    ensures led { Runs C.told K.keeps cell.old.kept.limits plan.now (halted result) plant.old keeper.old
-        cell.old.kept.entries cell.old.watches (last_of cell.old.pending) plant.new keeper.new cell.new.kept.entries
-        cell.new.watches (last_of cell.new.pending) }
-    ensures breaks { IfErr result (λ halt. is_break halt ≡ true) }
+    ensures led { (rest : List MachineValue) → Goes C.told K.keeps cell.old.kept.limits plan.now (halted result)
+        (Turning (machine ∷ rest)) (Turning rest)
+        (state plant.old keeper.old
+        cell.old.kept.entries cell.old.watches cell.old.pending cell.old.script cell.old.lost)
+        (state plant.new keeper.new
+        cell.new.kept.entries cell.new.watches cell.new.pending cell.new.script cell.new.lost) }
 {
     let reading = plant.read(machine);
     let Some(entry) = turn(machine, reading, cell, plan)? else {
@@ -117,10 +122,12 @@ fn take_part<C: Plant, K: Keeper, R: Run>(
     requires { (m : MachineValue) → machine_of_watch (at cell.old.watches m) ≡ m }
     ensures machines { (m : MachineValue) → machine_of_watch (at cell.new.watches m) ≡ m }
     ensures limits { cell.new.kept.limits ≡ cell.old.kept.limits }
-    ensures led { Runs C.told K.keeps cell.old.kept.limits plan.now (halted result) plant.old keeper.old
-        cell.old.kept.entries cell.old.watches (last_of cell.old.pending) plant.new keeper.new cell.new.kept.entries
-        cell.new.watches (last_of cell.new.pending) }
-    ensures breaks { IfErr result (λ halt. is_break halt ≡ true) }
+    ensures led { (rest : List MachineValue) → Goes C.told K.keeps cell.old.kept.limits plan.now (halted result)
+        (Turning (machine ∷ rest)) (Turning rest)
+        (state plant.old keeper.old
+        cell.old.kept.entries cell.old.watches cell.old.pending cell.old.script cell.old.lost)
+        (state plant.new keeper.new
+        cell.new.kept.entries cell.new.watches cell.new.pending cell.new.script cell.new.lost) }
 {
     if !is_settled(machine, plant, cell)? {
         return Ok(());
@@ -138,10 +145,11 @@ pub(crate) fn take_turns<C: Plant, K: Keeper, R: Run>(
     requires { (m : MachineValue) → machine_of_watch (at cell.old.watches m) ≡ m }
     ensures machines { (m : MachineValue) → machine_of_watch (at cell.new.watches m) ≡ m }
     ensures limits { cell.new.kept.limits ≡ cell.old.kept.limits }
-    ensures led { Runs C.told K.keeps cell.old.kept.limits plan.now (halted result) plant.old keeper.old
-        cell.old.kept.entries cell.old.watches (last_of cell.old.pending) plant.new keeper.new cell.new.kept.entries
-        cell.new.watches (last_of cell.new.pending) }
-    ensures breaks { IfErr result (λ halt. is_break halt ≡ true) }
+    ensures led { Goes C.told K.keeps cell.old.kept.limits plan.now (halted result) (Turning all_machine) (Turning [])
+        (state plant.old keeper.old
+        cell.old.kept.entries cell.old.watches cell.old.pending cell.old.script cell.old.lost)
+        (state plant.new keeper.new
+        cell.new.kept.entries cell.new.watches cell.new.pending cell.new.script cell.new.lost) }
 {
     for machine in MACHINES {
         take_part(machine, plant, keeper, cell, plan)?;
@@ -151,8 +159,7 @@ pub(crate) fn take_turns<C: Plant, K: Keeper, R: Run>(
 
 /// Whether all machines are idle after a round that booked nothing.
 pub(crate) fn are_idle(book: &Book, watches: &Watches, plan: &Plan) -> bool
-    ensures { result ≡ true → (minds : SixValue Mind) → FitAll watches.now minds → (m : MachineValue)
-        → is_idle book.now.entries m plan.now (at minds m) ≡ true }
+    ensures { (minds : SixValue Mind) → FitAll watches.now minds → result ≡ are_idle book.now.entries plan.now minds }
 {
     is_idle(Machine::Feed, book, &watches.feed, plan)
         && (is_idle(Machine::Table, book, &watches.table, plan)

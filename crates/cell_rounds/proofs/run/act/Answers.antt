@@ -1,10 +1,27 @@
 -- The parts of a round follow one another
-use Rattle.std.proofs.Common.{◌∙◌, ap}
+use Rattle.std.proofs.Common.{◌∙◌, [], ap}
 use Rattle.std.specs.Prelude.{None}
-use Rattle.cell_rounds.specs.Moves.{halted}
-use Rattle.cell_rounds.specs.Stands.{last_of}
-use Rattle.cell_rounds.proofs.Moving.{halted_by, runs_after, runs_as}
+use Rattle.cell_types.specs.Texts.{all_machine}
+use Rattle.cell_rounds.specs.Calls.{halted}
+use Rattle.cell_rounds.specs.Stands.{Closing, Noting, Serving, Turning, state}
+use Rattle.cell_rounds.proofs.Moving.{goes_as, goes_halted, goes_then}
 use Rattle.cell_rounds.proofs.run.act.Goals as goal
+
+pub returns-in_err-book_acts-clause-led : goal.returns-in_err-book_acts-clause-led
+returns-in_err-book_acts-clause-led g c =
+    let told = g.C.Plant.told in
+    let keeps = g.K.Keeper.keeps in
+    let p = c.args.plan.now in
+    let was = c.args.cell.now in
+    let l = was.kept.limits in
+    let x = state c.args.plant.now c.args.keeper.now was.kept.entries was.watches was.pending was.script was.lost in
+    let one = c.book_acts.new.cell in
+    let ones = state c.book_acts.new.plant c.book_acts.new.keeper one.kept.entries one.watches one.pending one.script
+    one.lost in
+    goes_halted told keeps l p _ _ c.book_acts.result _ c.in_err-book_acts.field-0.0 (Noting 0)
+    (Turning all_machine) Closing x ones
+    c.from_residual.ensures.1 c.in_err-book_acts.was
+    (c.book_acts.ensures.led p)
 
 pub returns-in_err-take_turns-clause-led : goal.returns-in_err-take_turns-clause-led
 returns-in_err-take_turns-clause-led g c =
@@ -12,18 +29,21 @@ returns-in_err-take_turns-clause-led g c =
     let keeps = g.K.Keeper.keeps in
     let p = c.args.plan.now in
     let was = c.args.cell.now in
-    let one = c.book_acts.new.cell in
-    let two = c.take_turns.new.cell in
     let l = was.kept.limits in
-    let acts = runs_as told keeps l p _ None _ _ _ _ _ _ _ _ _ _ (ap halted c.in_ok-book_acts.was)
-    (c.book_acts.ensures.led p) in
-    runs_as told keeps l p _ _ _ _ _ _ _ _ _ _ _ _
-    (halted_by _ c.take_turns.result c.in_err-take_turns.field-0.0 c.from_residual-in_err-take_turns.ensures.1
-    c.in_err-take_turns.was)
-    (runs_after told keeps l p one.kept.limits (halted c.take_turns.result) c.args.plant.now c.book_acts.new.plant
-    c.take_turns.new.plant c.args.keeper.now c.book_acts.new.keeper c.take_turns.new.keeper was.kept.entries
-    one.kept.entries two.kept.entries was.watches one.watches two.watches (last_of was.pending) (last_of one.pending)
-    (last_of two.pending) c.book_acts.ensures.limits acts c.take_turns.ensures.led)
+    let x = state c.args.plant.now c.args.keeper.now was.kept.entries was.watches was.pending was.script was.lost in
+    let one = c.book_acts.new.cell in
+    let ones = state c.book_acts.new.plant c.book_acts.new.keeper one.kept.entries one.watches one.pending one.script
+    one.lost in
+    let two = c.take_turns.new.cell in
+    let twos = state c.take_turns.new.plant c.take_turns.new.keeper two.kept.entries two.watches two.pending two.script
+    two.lost in
+    let acts = goes_as told keeps l p (halted c.book_acts.result) None (Noting 0) (Turning all_machine) x ones
+    (ap halted c.in_ok-book_acts.was) (c.book_acts.ensures.led p) in
+    goes_halted told keeps l p _ _ c.take_turns.result _ c.in_err-take_turns.field-0.0 (Noting 0)
+    (Turning []) Closing x twos
+    c.from_residual-in_err-take_turns.ensures.1 c.in_err-take_turns.was
+    (goes_then told keeps l p one.kept.limits (halted c.take_turns.result) (Noting 0) (Turning all_machine) (Turning [])
+    x ones twos c.book_acts.ensures.limits acts c.take_turns.ensures.led)
 
 pub returns-in_err-operate-clause-led : goal.returns-in_err-operate-clause-led
 returns-in_err-operate-clause-led g c =
@@ -31,26 +51,29 @@ returns-in_err-operate-clause-led g c =
     let keeps = g.K.Keeper.keeps in
     let p = c.args.plan.now in
     let was = c.args.cell.now in
-    let one = c.book_acts.new.cell in
-    let two = c.take_turns.new.cell in
-    let three = c.operate.new.cell in
     let l = was.kept.limits in
-    let acts = runs_as told keeps l p _ None _ _ _ _ _ _ _ _ _ _ (ap halted c.in_ok-book_acts.was)
-    (c.book_acts.ensures.led p) in
-    let turns = runs_after told keeps l p one.kept.limits None c.args.plant.now c.book_acts.new.plant
-    c.take_turns.new.plant c.args.keeper.now c.book_acts.new.keeper c.take_turns.new.keeper was.kept.entries
-    one.kept.entries two.kept.entries was.watches one.watches two.watches (last_of was.pending) (last_of one.pending)
-    (last_of two.pending) c.book_acts.ensures.limits acts
-    (runs_as told keeps one.kept.limits p _ None _ _ _ _ _ _ _ _ _ _ (ap halted c.in_ok-take_turns.was)
-    c.take_turns.ensures.led) in
-    runs_as told keeps l p _ _ _ _ _ _ _ _ _ _ _ _
-    (halted_by _ c.operate.result c.in_err-operate.field-0.0 c.from_residual-in_err-operate.ensures.1
-    c.in_err-operate.was)
-    (runs_after told keeps l p two.kept.limits (halted c.operate.result) c.args.plant.now c.take_turns.new.plant
-    c.operate.new.plant c.args.keeper.now c.take_turns.new.keeper c.operate.new.keeper was.kept.entries
-    two.kept.entries three.kept.entries was.watches two.watches three.watches (last_of was.pending)
-    (last_of two.pending) (last_of three.pending) (c.take_turns.ensures.limits ∙ c.book_acts.ensures.limits) turns
-    (c.operate.ensures.led p))
+    let x = state c.args.plant.now c.args.keeper.now was.kept.entries was.watches was.pending was.script was.lost in
+    let one = c.book_acts.new.cell in
+    let ones = state c.book_acts.new.plant c.book_acts.new.keeper one.kept.entries one.watches one.pending one.script
+    one.lost in
+    let two = c.take_turns.new.cell in
+    let twos = state c.take_turns.new.plant c.take_turns.new.keeper two.kept.entries two.watches two.pending two.script
+    two.lost in
+    let three = c.operate.new.cell in
+    let threes = state c.operate.new.plant c.operate.new.keeper three.kept.entries three.watches three.pending
+    three.script three.lost in
+    let acts = goes_as told keeps l p (halted c.book_acts.result) None (Noting 0) (Turning all_machine) x ones
+    (ap halted c.in_ok-book_acts.was) (c.book_acts.ensures.led p) in
+    let turns = goes_then told keeps l p one.kept.limits None (Noting 0) (Turning all_machine) (Turning []) x ones twos
+    c.book_acts.ensures.limits acts
+    (goes_as told keeps one.kept.limits p (halted c.take_turns.result) None (Turning all_machine) (Turning []) ones twos
+    (ap halted c.in_ok-take_turns.was) c.take_turns.ensures.led) in
+    let same = c.take_turns.ensures.limits ∙ c.book_acts.ensures.limits in
+    goes_halted told keeps l p _ _ c.operate.result _ c.in_err-operate.field-0.0 (Noting 0) (Serving 0) Closing x threes
+    c.from_residual-in_err-operate.ensures.1 c.in_err-operate.was
+    (goes_then told keeps l p two.kept.limits (halted c.operate.result) (Noting 0) (Turning [])
+    (Serving 0) x twos threes
+    same turns (c.operate.ensures.led p))
 
 pub returns-clause-led : goal.returns-clause-led
 returns-clause-led g c =
@@ -58,28 +81,30 @@ returns-clause-led g c =
     let keeps = g.K.Keeper.keeps in
     let p = c.args.plan.now in
     let was = c.args.cell.now in
-    let one = c.book_acts.new.cell in
-    let two = c.take_turns.new.cell in
-    let three = c.operate.new.cell in
-    let four = c.serve.new.cell in
     let l = was.kept.limits in
-    let acts = runs_as told keeps l p _ None _ _ _ _ _ _ _ _ _ _ (ap halted c.in_ok-book_acts.was)
-    (c.book_acts.ensures.led p) in
-    let turns = runs_after told keeps l p one.kept.limits None c.args.plant.now c.book_acts.new.plant
-    c.take_turns.new.plant c.args.keeper.now c.book_acts.new.keeper c.take_turns.new.keeper was.kept.entries
-    one.kept.entries two.kept.entries was.watches one.watches two.watches (last_of was.pending) (last_of one.pending)
-    (last_of two.pending) c.book_acts.ensures.limits acts
-    (runs_as told keeps one.kept.limits p _ None _ _ _ _ _ _ _ _ _ _ (ap halted c.in_ok-take_turns.was)
-    c.take_turns.ensures.led) in
-    let limits = c.take_turns.ensures.limits ∙ c.book_acts.ensures.limits in
-    let script = runs_after told keeps l p two.kept.limits None c.args.plant.now c.take_turns.new.plant
-    c.operate.new.plant c.args.keeper.now c.take_turns.new.keeper c.operate.new.keeper was.kept.entries
-    two.kept.entries three.kept.entries was.watches two.watches three.watches (last_of was.pending)
-    (last_of two.pending) (last_of three.pending) limits turns
-    (runs_as told keeps two.kept.limits p _ None _ _ _ _ _ _ _ _ _ _ (ap halted c.in_ok-operate.was)
-    (c.operate.ensures.led p)) in
-    runs_after told keeps l p three.kept.limits (halted c.serve.result) c.args.plant.now c.operate.new.plant
-    c.serve.new.plant c.args.keeper.now c.operate.new.keeper c.serve.new.keeper was.kept.entries
-    three.kept.entries four.kept.entries was.watches three.watches four.watches (last_of was.pending)
-    (last_of three.pending) (last_of four.pending) (c.operate.ensures.limits ∙ limits) script
-    (c.serve.ensures.led p)
+    let x = state c.args.plant.now c.args.keeper.now was.kept.entries was.watches was.pending was.script was.lost in
+    let one = c.book_acts.new.cell in
+    let ones = state c.book_acts.new.plant c.book_acts.new.keeper one.kept.entries one.watches one.pending one.script
+    one.lost in
+    let two = c.take_turns.new.cell in
+    let twos = state c.take_turns.new.plant c.take_turns.new.keeper two.kept.entries two.watches two.pending two.script
+    two.lost in
+    let three = c.operate.new.cell in
+    let threes = state c.operate.new.plant c.operate.new.keeper three.kept.entries three.watches three.pending
+    three.script three.lost in
+    let four = c.serve.new.cell in
+    let fours = state c.serve.new.plant c.serve.new.keeper four.kept.entries four.watches four.pending four.script
+    four.lost in
+    let acts = goes_as told keeps l p (halted c.book_acts.result) None (Noting 0) (Turning all_machine) x ones
+    (ap halted c.in_ok-book_acts.was) (c.book_acts.ensures.led p) in
+    let turns = goes_then told keeps l p one.kept.limits None (Noting 0) (Turning all_machine) (Turning []) x ones twos
+    c.book_acts.ensures.limits acts
+    (goes_as told keeps one.kept.limits p (halted c.take_turns.result) None (Turning all_machine) (Turning []) ones twos
+    (ap halted c.in_ok-take_turns.was) c.take_turns.ensures.led) in
+    let same = c.take_turns.ensures.limits ∙ c.book_acts.ensures.limits in
+    let script = goes_then told keeps l p two.kept.limits None (Noting 0) (Turning [])
+    (Serving 0) x twos threes same turns
+    (goes_as told keeps two.kept.limits p (halted c.operate.result) None (Turning []) (Serving 0) twos threes
+    (ap halted c.in_ok-operate.was) (c.operate.ensures.led p)) in
+    goes_then told keeps l p three.kept.limits (halted c.serve.result) (Noting 0) (Serving 0) Closing x threes fours
+    (c.operate.ensures.limits ∙ same) script (c.serve.ensures.led p)

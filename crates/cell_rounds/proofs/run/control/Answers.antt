@@ -1,11 +1,10 @@
 -- The rounds begin with watches that have seen nothing yet
-use Rattle.std.proofs.Common.{◌∙◌, List, ap, sym}
-use Rattle.cell_types.specs.declared.words.Entry.{Entry}
+use Rattle.std.proofs.Common.{◌∙◌, ap, sym}
 use Rattle.cell_rules.specs.History.{History}
 use Rattle.cell_turns.specs.Minds.{first_mind}
 use Rattle.cell_turns.specs.Six.{each}
 use Rattle.cell_rounds.specs.Stands.{last_of}
-use Rattle.cell_rounds.proofs.Moving.{controlled_as, controlled_by}
+use Rattle.cell_rounds.proofs.Moving.{controlled_as}
 use Rattle.cell_rounds.proofs.run.control.Goals as goal
 
 pub returns-clause-controlled : goal.returns-clause-controlled
@@ -15,17 +14,11 @@ returns-clause-controlled g c =
     let p = c.args.plan.now in
     let J = c.args.book.entries in
     let kept = c.new-kept.result.0 in
-    let first = c.begin_looking.result in
     let cell = c.take_rounds-halt.new.cell in
-    let minds = each (λ m. first_mind J m) in
     let entries = ap (λ (h : History). h.entries) c.new-kept.ensures.book in
     let limits = ap (λ (h : History). h.limits) c.new-kept.ensures.book ∙ c.requires.limits in
-    controlled_as told keeps kept.limits p g.R.Run.limits c.take_rounds-halt.result c.args.plant.now
-    c.take_rounds-halt.new.plant c.args.keeper.now c.take_rounds-halt.new.keeper J kept.entries cell.kept.entries
-    c.into_book.result.entries c.args.pending (last_of first) limits entries
-    (sym (ap (λ (h : History). h.entries) c.into_book.ensures)) c.begin_looking.ensures
-    (controlled_by told keeps kept.limits p c.take_rounds-halt.result c.args.plant.now
-    c.take_rounds-halt.new.plant c.args.keeper.now c.take_rounds-halt.new.keeper kept.entries cell.kept.entries
-    cell.watches (last_of first) (last_of cell.pending) minds
-    (c.take_rounds-halt.ensures.led minds c.start-watches.ensures.fits) c.take_rounds-halt.ensures.rests
-    (ap (λ (K : List Entry). each (λ m. first_mind K m)) (sym entries)))
+    let led = c.take_rounds-halt.ensures.led J (each (λ m. first_mind J m)) c.start-watches.ensures.fits in
+    controlled_as told keeps p c.args.waits kept.limits g.R.Run.limits c.take_rounds-halt.result c.args.plant.now
+    c.take_rounds-halt.new.plant c.args.keeper.now c.take_rounds-halt.new.keeper kept.entries J cell.kept.entries
+    c.into_book.result.entries c.args.script (last_of c.begin_looking.result) c.args.pending limits entries
+    (sym (ap (λ (h : History). h.entries) c.into_book.ensures)) c.begin_looking.ensures led

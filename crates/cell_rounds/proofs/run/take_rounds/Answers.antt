@@ -1,53 +1,93 @@
--- Each round is one more, and the one that halts is the last
-use Rattle.std.proofs.Common.{◌∙◌, ap, refl}
-use Rattle.std.specs.Prelude.{None, Some}
-use Rattle.cell_rounds.specs.Moves.{halted}
-use Rattle.cell_rounds.specs.Stands.{last_of}
-use Rattle.cell_rounds.proofs.Moving.{runs_after, runs_as, runs_nothing}
+-- A round either ends the run or is one more of it, until there were as many as the plan has
+use Rattle.std.proofs.Common.{rules, ◌≡◌, ◌+◌, ◌∙◌, ap, refl, subst}
+use Rattle.std.specs.Prelude.{None, Option}
+use Rattle.cell_rules.specs.declared.limits.BookLimits.{BookLimits}
+use Rattle.cell_rounds.specs.Calls.{halted}
+use Rattle.cell_rounds.specs.Moves.{terms}
+use Rattle.cell_rounds.specs.Runs.{Runs}
+use Rattle.cell_rounds.specs.Stands.{Between, place, state}
+use Rattle.cell_rounds.specs.declared.progress.Halt.{Halt}
+use Rattle.cell_rounds.proofs.Hearing.{runs_tires}
+use Rattle.cell_rounds.proofs.Moving.{runs_nothing, runs_then}
 use Rattle.cell_rounds.proofs.run.take_rounds.Goals as goal
 
 pub loop-round-init : goal.loop-round-init
 loop-round-init g c =
-    let cell = c.args.cell.now in
+    let was = c.args.cell.now in
     record {
       machines = c.requires;
       limits = refl;
-      led = runs_nothing g.C.Plant.told g.K.Keeper.keeps cell.kept.limits c.args.plan.now c.args.plant.now
-          c.args.keeper.now cell.kept.entries cell.watches (last_of cell.pending);
+      led = λ J. (
+        J,
+        runs_nothing g.C.Plant.told g.K.Keeper.keeps (terms was.kept.limits c.args.plan.now c.args.waits)
+            (place 0 J Between)
+            (state c.args.plant.now c.args.keeper.now was.kept.entries was.watches was.pending was.script was.lost),
+      );
     }
 
 pub returns-in-Err-clause-led : goal.returns-in-Err-clause-led
-returns-in-Err-clause-led g c =
-    let was = c.args.cell.now in
-    let so = c.loop-round in
-    let next = c.take_round.new.cell in
+returns-in-Err-clause-led g c = λ J.
     let told = g.C.Plant.told in
     let keeps = g.K.Keeper.keeps in
+    let was = c.args.cell.now in
+    let so = c.loop-round in
     let l = was.kept.limits in
-    let p = c.args.plan.now in
-    runs_after told keeps l p so.cell.kept.limits (Some c.in-Err.halt) c.args.plant.now so.plant
-    c.take_round.new.plant c.args.keeper.now so.keeper c.take_round.new.keeper was.kept.entries so.cell.kept.entries
-    next.kept.entries was.watches so.cell.watches next.watches (last_of was.pending) (last_of so.cell.pending)
-    (last_of next.pending) so.invariant.limits so.invariant.led
-    (runs_as told keeps so.cell.kept.limits p _ (Some c.in-Err.halt) _ _ _ _ _ _ _ _ _ _ (ap halted c.in-Err.is)
-    c.take_round.ensures.led)
+    let T = terms l c.args.plan.now c.args.waits in
+    let x = state c.args.plant.now c.args.keeper.now was.kept.entries was.watches was.pending was.script was.lost in
+    let y = state so.plant so.keeper so.cell.kept.entries so.cell.watches so.cell.pending so.cell.script so.cell.lost in
+    let next = c.take_round.new.cell in
+    let z = state c.take_round.new.plant c.take_round.new.keeper next.kept.entries next.watches next.pending next.script
+    next.lost in
+    let (K, led) = so.invariant.led J in
+    subst (λ (h : Option Halt). Runs told keeps T h (place 0 J Between)
+    (place (so._round + 1) so.cell.kept.entries Between) x z)
+    (ap halted c.in-Err.is)
+    (runs_then told keeps T (halted c.take_round.result) (place 0 J Between) (place so._round K Between)
+    (place (so._round + 1) so.cell.kept.entries Between) x y z led
+    (subst (λ (q : BookLimits). Runs told keeps (terms q c.args.plan.now c.args.waits) (halted c.take_round.result)
+    (place so._round K Between) (place (so._round + 1) so.cell.kept.entries Between) y z) so.invariant.limits
+    (c.take_round.ensures.led so._round K)))
 
 pub loop-round-preserved : goal.loop-round-preserved
 loop-round-preserved g c =
-    let was = c.args.cell.now in
-    let so = c.loop-round in
-    let next = c.take_round.new.cell in
     let told = g.C.Plant.told in
     let keeps = g.K.Keeper.keeps in
+    let was = c.args.cell.now in
+    let so = c.loop-round in
     let l = was.kept.limits in
-    let p = c.args.plan.now in
+    let T = terms l c.args.plan.now c.args.waits in
+    let x = state c.args.plant.now c.args.keeper.now was.kept.entries was.watches was.pending was.script was.lost in
+    let y = state so.plant so.keeper so.cell.kept.entries so.cell.watches so.cell.pending so.cell.script so.cell.lost in
+    let next = c.take_round.new.cell in
+    let z = state c.take_round.new.plant c.take_round.new.keeper next.kept.entries next.watches next.pending next.script
+    next.lost in
     record {
       machines = c.take_round.ensures.machines;
       limits = c.take_round.ensures.limits ∙ so.invariant.limits;
-      led = runs_after told keeps l p so.cell.kept.limits None c.args.plant.now so.plant c.take_round.new.plant
-          c.args.keeper.now so.keeper c.take_round.new.keeper was.kept.entries so.cell.kept.entries next.kept.entries
-          was.watches so.cell.watches next.watches (last_of was.pending) (last_of so.cell.pending)
-          (last_of next.pending) so.invariant.limits so.invariant.led
-          (runs_as told keeps so.cell.kept.limits p _ None _ _ _ _ _ _ _ _ _ _ (ap halted c.in_default.is)
-          c.take_round.ensures.led);
+      led = λ J.
+          let (K, led) = so.invariant.led J in (
+            so.cell.kept.entries,
+            runs_then told keeps T None (place 0 J Between) (place so._round K Between)
+                (place (so._round + 1) so.cell.kept.entries Between) x y z led
+                (subst (λ (q : BookLimits). Runs told keeps (terms q c.args.plan.now c.args.waits) None
+                (place so._round K Between) (place (so._round + 1) so.cell.kept.entries Between) y z)
+                so.invariant.limits
+                (subst (λ (h : Option Halt). Runs told keeps (terms so.cell.kept.limits c.args.plan.now c.args.waits) h
+                (place so._round K Between) (place (so._round + 1) so.cell.kept.entries Between) y z)
+                (ap halted c.in_default.is) (c.take_round.ensures.led so._round K))),
+          );
     }
+
+pub returns-clause-led : goal.returns-clause-led
+returns-clause-led g c = λ J.
+    let told = g.C.Plant.told in
+    let keeps = g.K.Keeper.keeps in
+    let was = c.args.cell.now in
+    let so = c.loop-round in
+    let l = was.kept.limits in
+    let T = terms l c.args.plan.now c.args.waits in
+    let x = state c.args.plant.now c.args.keeper.now was.kept.entries was.watches was.pending was.script was.lost in
+    let y = state so.plant so.keeper so.cell.kept.entries so.cell.watches so.cell.pending so.cell.script so.cell.lost in
+    let all : so._round ≡ c.args.plan.now.turns = search rules in
+    let (K, led) = so.invariant.led J in
+    runs_tires told keeps T so._round K (place 0 J Between) (place 0 J Between) x y all led
