@@ -1,3 +1,3 @@
 pub mod Closing
-pub mod Mapping
+pub mod Going
 pub mod Opened

@@ -5,16 +5,17 @@ use Rattle.std.specs.declared.io.Error.{Error}
 use Rattle.cell_types.specs.declared.words.Entry.{Entry}
 use Rattle.cell_rules.specs.Legal.{legal}
 use Rattle.cell_rules.specs.Safety.{IsSafe}
-use Rattle.cell_rules.specs.declared.limits.BookLimits.{BookLimits}
-use Rattle.cell_ports.specs.declared.plan.Plan.{Plan}
+use Rattle.operator_desk.specs.declared.line.Line.{Line}
 use Rattle.cell_runs.specs.Inputs.{AreInputs}
 use Rattle.cell_runs.specs.declared.inputs.Inputs.{Inputs}
 use Rattle.cell_runs.specs.declared.inputs.InputError.{InputError}
+use Rattle.cell_control.specs.Scripts.{AreDue}
 use Rattle.cell_control.specs.declared.texts.Orders.{Orders}
 use Rattle.cell_lines.specs.Stands.{Begins, Stand, Syncs, Told, WritesSome, closing_text, first_stand, sync_text}
 use Rattle.cell_lines.specs.declared.far_end.Loss.{Loss}
 use Rattle.cell_workers.specs.declared.ends.End.TheVariants as end
-use Rattle.cell_rounds.specs.Moves.{Controlled}
+use Rattle.cell_rounds.specs.Moves.{Terms}
+use Rattle.cell_rounds.specs.Runs.{Controlled}
 use Rattle.cell_rounds.specs.Stands.{last_command}
 use Rattle.cell_rounds.specs.declared.progress.Halt.{Halt}
 use Rattle.cell_rounds.specs.declared.progress.Halt.TheVariants as halt
@@ -39,24 +40,26 @@ start_text resumes n = if resumes then sync_text n else []
 abbrev pub left_open : Bool → List Entry → Option LastCommand
 left_open resumes J = if resumes then last_command J else None
 
--- a run over a cell's lines from this journal on, and what is kept of it: the cell couldn't be reached, and at most the
--- line by which it is found was written; or it was reached, and rounds led to where the run halted
-pub data Ran {K : Type 0} (keeps : K → K → Entry → Bool → Type 0) (l : BookLimits) (p : Plan) (resumes : Bool)
-    (J : List Entry) (s t : Stand) (k k' : K) (h : Halt) (J' : List Entry) : Type 0 where
+-- a run over a cell's lines from this journal on, by a script with these lines, and what is kept of it: the cell
+-- couldn't be reached, and at most the line by which it is found was written; or it was reached, and rounds led to
+-- where the run halted
+pub data Ran {K : Type 0} (keeps : K → K → Entry → Bool → Type 0) (T : Terms) (resumes : Bool) (J : List Entry)
+    (lines : List Line) (s t : Stand) (k k' : K) (h : Halt) (J' : List Entry) : Type 0 where
   unreached : h ≡ halt.Gone → J' ≡ J → k' ≡ k → WritesSome (start_text resumes (length J)) s.text t.text
-      → Ran keeps l p resumes J s t k k' h J'
+      → Ran keeps T resumes J lines s t k k' h J'
   reached : (begun : Stand) → Starts resumes (length J) s begun
-      → Controlled Told keeps l p h begun k J (left_open resumes J) t k' J' → Ran keeps l p resumes J s t k k' h J'
+      → Controlled Told keeps T h begun k J lines (left_open resumes J) t k' J'
+      → Ran keeps T resumes J lines s t k k' h J'
 
 -- what was written at the end: that all machines stop, and that the run ends where the cell could still be reached
 abbrev pub Closes : Option (List ℕ) → Option (List ℕ) → Type 0
 Closes old new = (why : Option Loss) × WritesSome (closing_text why) old new
 
 -- a run over these bytes of a cell, and what was written to it, at the end too
-pub record Controls {K : Type 0} (keeps : K → K → Entry → Bool → Type 0) (l : BookLimits) (p : Plan) (resumes : Bool)
-    (J : List Entry) (input old new : Option (List ℕ)) (k k' : K) (h : Halt) (J' : List Entry) : Type 0 where
+pub record Controls {K : Type 0} (keeps : K → K → Entry → Bool → Type 0) (T : Terms) (resumes : Bool) (J : List Entry)
+    (lines : List Line) (input old new : Option (List ℕ)) (k k' : K) (h : Halt) (J' : List Entry) : Type 0 where
   pub last : Stand
-  pub ran : Ran keeps l p resumes J (first_stand input old) last k k' h J'
+  pub ran : Ran keeps T resumes J lines (first_stand input old) last k k' h J'
   pub closes : Closes last.text new
 
 -- a run that halted so has this status: 0 is that of one that is finished, and of no other
@@ -67,11 +70,14 @@ HasStatus halt.Unkept status = status ≡ 3
 HasStatus halt.Gone status = (status ≡ 1) ⊎ (status ≡ 3)
 HasStatus (halt.End e) status = status ≡ 1
 
--- what a call that controls a cell did, whatever it answered: a run from this journal on led to one that is legal and
--- safe, and the status is that of its halt; or it wasn't begun, and nothing was written or kept
-pub data Controlling {K : Type 0} (keeps : K → K → Entry → Bool → Type 0) (l : BookLimits) (p : Plan) (resumes : Bool)
-    (J : List Entry) (input old new : Option (List ℕ)) (k k' : K) (answer : Result ℕ Error) : Type 0 where
-  unbegun : IsErr answer → new ≡ old → k' ≡ k → Controlling keeps l p resumes J input old new k k' answer
-  begun : (h : Halt) (J' : List Entry) → Controls keeps l p resumes J input old new k k' h J'
-      → legal l J' ≡ true → IsSafe J' → IfOk answer (HasStatus h)
-      → Controlling keeps l p resumes J input old new k k' answer
+-- what a call that controls a cell did, whatever it answered: a run from this journal on, by the script's lines that
+-- are due, led to a journal that is legal and safe, and the status is that of its halt; or it wasn't begun, and nothing
+-- was written or kept
+pub data Controlling {K : Type 0} (keeps : K → K → Entry → Bool → Type 0) (T : Terms) (resumes : Bool) (J : List Entry)
+    (script : List Line) (operator : List ℕ) (input old new : Option (List ℕ)) (k k' : K) (answer : Result ℕ Error)
+    : Type 0 where
+  unbegun : IsErr answer → new ≡ old → k' ≡ k
+      → Controlling keeps T resumes J script operator input old new k k' answer
+  begun : (lines : List Line) (h : Halt) (J' : List Entry) → AreDue resumes operator J script lines
+      → Controls keeps T resumes J lines input old new k k' h J' → legal T.limits J' ≡ true → IsSafe J'
+      → IfOk answer (HasStatus h) → Controlling keeps T resumes J script operator input old new k k' answer

@@ -1,1 +1,2 @@
 pub mod Controlling
+pub mod Scripts

@@ -9,6 +9,8 @@ ghost use Rattle.cell_runs.specs.Runs.{limits_of};
 ghost use Rattle.cell_lines.specs.Stands.{WritesSome, stand_of};
 ghost use Rattle.cell_control.specs.Controlling.{AreOrders, Controlling, Controls, HasStatus};
 ghost use Rattle.cell_control.specs.Controlling.{Ran, Starts, left_open, start_text};
+ghost use Rattle.cell_control.specs.Scripts.{AreDue};
+ghost use Rattle.cell_rounds.specs.Moves.{terms};
 
 use crate::going_on::go_on;
 use crate::told::{status_of, tell};
@@ -125,7 +127,7 @@ fn control_far<I: TellsFault, W: Write, E: Write, K: Keeper>(
     plan: &Plan,
     options: ControlOptions,
 ) -> Outcome
-    ensures ran { Ran K.keeps book.limits plan.now options.resume book.entries
+    ensures ran { Ran K.keeps (terms book.limits plan.now options.wait) options.resume book.entries script
         (stand_of I.remaining W.contents far.old) (stand_of I.remaining W.contents far.new) keeper.old keeper.new
         result.halt result.book.entries }
     ensures limits { result.book.limits ≡ book.limits }
@@ -178,9 +180,9 @@ fn run_far<I: TellsFault + Drop, W: Write, E: Write, K: Keeper>(
     plan: &Plan,
     options: ControlOptions,
 ) -> Left<W, E>
-    ensures controls { Controls K.keeps book.limits plan.now options.resume book.entries (I.remaining reader)
-        (W.contents output) (W.contents result.output) keeper.old keeper.new result.outcome.halt
-        result.outcome.book.entries }
+    ensures controls { Controls K.keeps (terms book.limits plan.now options.wait) options.resume book.entries script
+        (I.remaining reader) (W.contents output) (W.contents result.output) keeper.old keeper.new
+        result.outcome.halt result.outcome.book.entries }
     ensures legal { legal book.limits result.outcome.book.entries ≡ true }
     ensures safe { IsSafe result.outcome.book.entries }
 {
@@ -225,7 +227,8 @@ fn open<I: Read + Drop>(
     journal: &Journal,
     resumes: bool,
 ) -> io::Result<Watched<BufReader<I>>>
-    ensures { IfOk result (λ reader. bytes_under (reader_remaining I.remaining) reader ≡ I.remaining input) }
+    ensures bytes { IfOk result (λ reader. bytes_under (reader_remaining I.remaining) reader ≡ I.remaining input) }
+    ensures lines { OnOk result (AreDue resumes operator.now journal.now.entries script.old script.new) }
 {
     if resumes {
         go_on(alloc, script, operator, journal)?;
@@ -246,10 +249,13 @@ pub fn control_cell<I: Read + Drop, W: Write + Drop, E: Write + Drop, K: Keeper>
     output: W,
     errors: E,
 ) -> Finished<W, E>
-    // Rounds led from the book's journal to one that is legal and safe: each command that was written is that of an
-    // entry that was kept before, and each entry is the one that is due at the reading that the cell's lines spell.
-    ensures controlling { Controlling K.keeps book.limits orders.plan options.resume book.entries
-        (I.remaining input) (W.contents output) (W.contents result.output) keeper.old keeper.new result.status }
+    // Rounds led from the book's journal to one that is legal and safe. Each command that was written is that of an
+    // entry that was kept before, but for those that stop machines and the one that a run which goes on sends again.
+    // Each entry is the one that is due at the reading that the cell's lines spell, or the operator's: by the first
+    // line of his script that is left, or because it was done or wanted at the cell.
+    ensures controlling { Controlling K.keeps (terms book.limits orders.plan options.wait) options.resume book.entries
+        orders.script operator.now (I.remaining input) (W.contents output) (W.contents result.output) keeper.old
+        keeper.new result.status }
 {
     let Orders { plan, mut script } = orders;
     let opened = open(

@@ -3,10 +3,14 @@
 #![tactic(auto)]
 
 #[cfg(test)]
+mod failing;
+#[cfg(test)]
 mod lines;
 #[cfg(test)]
 mod orders;
 #[cfg(test)]
 mod ports;
+#[cfg(test)]
+mod rounds;
 #[cfg(test)]
 mod sample;

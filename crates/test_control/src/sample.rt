@@ -2,6 +2,7 @@
 use cell_control::{ControlOptions, Finished, control_cell, empty_book, read_orders};
 use cell_plant::Unkept;
 use plate_book::Book;
+use std::io::Write;
 use std::process::Abort;
 use std::test::Fail;
 
@@ -10,6 +11,15 @@ pub(crate) const NEW: ControlOptions = ControlOptions {
     explain: false,
     wait: false,
     resume: false,
+};
+
+/// A new run that goes on where it is stalled.
+pub(crate) const WAITING: ControlOptions = ControlOptions { wait: true, ..NEW };
+
+/// A new run of which it is told why it ended so.
+pub(crate) const EXPLAINED: ControlOptions = ControlOptions {
+    explain: true,
+    ..NEW
 };
 
 /// A run that goes on from a journal.
@@ -58,11 +68,24 @@ pub(crate) fn controlled<R: AllocGlobal + Abort>(
     options: ControlOptions,
     parts: &[&str],
 ) -> Result<Finished<Vec<u8>, Vec<u8>>, Fail> {
+    let output: Vec<u8> = Vec::new(rt.alloc());
+    let errors: Vec<u8> = Vec::new(rt.alloc());
+    controlled_over(rt, book, operator, options, parts, output, errors)
+}
+
+/// The same over these writers.
+pub(crate) fn controlled_over<R: AllocGlobal + Abort, W: Write + Drop, E: Write + Drop>(
+    rt: &R,
+    book: Book,
+    operator: &str,
+    options: ControlOptions,
+    parts: &[&str],
+    output: W,
+    errors: E,
+) -> Result<Finished<W, E>, Fail> {
     let orders = read_orders(rt.alloc(), b"plates = 1\n", operator.as_bytes());
     let orders = orders.ok().expect(rt, "orders");
     let lines = joined(rt, parts)?;
-    let output: Vec<u8> = Vec::new(rt.alloc());
-    let errors: Vec<u8> = Vec::new(rt.alloc());
     Ok(control_cell(
         rt.alloc(),
         orders,

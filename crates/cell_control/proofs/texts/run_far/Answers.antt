@@ -1,10 +1,12 @@
 -- The far end begins with all that the reader has left
+use Rattle.cell_rounds.specs.Moves.{terms}
 use Rattle.cell_control.proofs.Closing.{controls_of}
 use Rattle.cell_control.proofs.texts.run_far.Goals as goal
 
 pub returns-clause-controls : goal.returns-clause-controls
 returns-clause-controls g c =
-    controls_of g.K.Keeper.keeps c.args.book.limits c.args.plan.now c.args.options.resume c.args.book.entries
-    (g.I.Read.remaining c.args.reader) (g.W.Write.contents c.args.output) _ c.args.keeper.now
-    c.control_far-outcome.new.keeper c.control_far-outcome.result.halt c.control_far-outcome.result.book.entries
-    _ _ _ c.new-far.ensures.stand c.control_far-outcome.ensures.ran c.finish-output.ensures.written
+    controls_of g.K.Keeper.keeps (terms c.args.book.limits c.args.plan.now c.args.options.wait) c.args.options.resume
+    c.args.book.entries c.args.script (g.I.Read.remaining c.args.reader) (g.W.Write.contents c.args.output) _
+    c.args.keeper.now c.control_far-outcome.new.keeper c.control_far-outcome.result.halt
+    c.control_far-outcome.result.book.entries _ _ _ c.new-far.ensures.stand c.control_far-outcome.ensures.ran
+    c.finish-output.ensures.written
