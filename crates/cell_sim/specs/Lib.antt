@@ -1,3 +1,4 @@
 pub mod Simulated
+pub mod Takeover
 pub mod Faults
 pub mod Script

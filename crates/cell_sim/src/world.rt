@@ -13,6 +13,7 @@ ghost use Rattle.cell_types.specs.Same.{station_number};
 ghost use Rattle.cell_sim.specs.Simulated.{opening_with};
 
 mod state;
+mod takeover;
 mod watching;
 
 use crate::axis::AxisInWorld;

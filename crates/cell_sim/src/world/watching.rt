@@ -1,13 +1,31 @@
 //! The watch of a world: what it looks at, and what a broken rule does to plates. In a world that isn't watched all
 //! this does nothing.
+ghost use Rattle.std.specs.Prelude.{◌≡◌};
+
 use crate::watch::rules::{
     SITUATIONS, Situation, broken_by_release, broken_by_start, can_table_take,
 };
-use crate::watch::{Occasion, SafetyRule};
+use crate::watch::{Occasion, SafetyRule, Watch};
 use crate::world::World;
 use cell_types::{Arm, Axis, Command, Pose, Station, station_of_arm};
 
 impl World {
+    /// The same cell, watched from here on. What is so already isn't counted as broken anew.
+    pub fn with_watch(self) -> World
+        ensures { result ≡ self }
+    {
+        let mut standing = [false; 7];
+        for (place, situation) in SITUATIONS.into_iter().enumerate() {
+            standing[place] = situation.is_so(&self);
+        }
+        let watch = Watch {
+            is_on: true,
+            standing,
+            ..self.watch
+        };
+        World { watch, ..self }
+    }
+
     /// Counts that a rule was broken by a command.
     pub(super) fn count_broken(&mut self, rule: SafetyRule, command: Command) {
         self.count_at(rule, Some(command));
