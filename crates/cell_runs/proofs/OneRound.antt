@@ -4,7 +4,6 @@ use Rattle.std.proofs.Common.{not, Option, Some, None, refl, sym, ap, subst, ◌
 use Rattle.std.proofs.Common.{length-append, Result, Ok, Err, IfErr, option_to_list, eqb-true}
 use Rattle.std.specs.Prelude.{if◌then◌else◌, nat_eq}
 use Rattle.std.specs.Result.{IsErrAnd}
-use Rattle.std.proofs.Math.Nat.{zero-add}
 use Rattle.std.proofs.lemmas.List.{map-append, append_cancel_left}
 use Rattle.cell_types.specs.declared.words.Machine.{Machine}
 use Rattle.cell_types.specs.declared.words.Actor.{Actor}
@@ -20,25 +19,20 @@ use Rattle.cell_turns.specs.declared.schedule.Step.TheVariants.{Turn, Hand}
 use Rattle.cell_turns.specs.declared.six.Six.{Six}
 use Rattle.cell_turns.specs.declared.watch.Watch.{Watch}
 use Rattle.cell_ports.specs.Logs.{ActLog}
-use Rattle.cell_turns.specs.Minds.{Mind, first_mind}
-use Rattle.cell_turns.specs.Six.{at, each}
+use Rattle.cell_turns.specs.Minds.{Mind}
+use Rattle.cell_turns.specs.Six.{at}
 use Rattle.cell_turns.specs.Schedules.{Now, now, Leads, FitAll, Led, Scheduled, Grown, entries_of, same_actor}
 use Rattle.cell_turns.specs.Schedules.Leads.{stays, turns as one_turn, refuses as one_refused, hands as one_hand}
 use Rattle.cell_turns.specs.Schedules.Leads.{spares as one_spared, fails as one_failed}
-use Rattle.cell_turns.proofs.Joined.{leads_join, led_join}
 use Rattle.cell_workers.specs.Ends.{IsDone, is_idle}
 use Rattle.cell_workers.specs.declared.ends.End.{End}
 use Rattle.cell_workers.specs.declared.ends.End.TheVariants as end
 use Rattle.operator_desk.specs.Next.{next_of, left_after, entry_of}
 use Rattle.operator_desk.specs.declared.action.Action.{Action}
 use Rattle.operator_desk.specs.declared.line.Line.{Line}
-use Rattle.cell_runs.specs.Rounds.{turn_of, turns_of, history, machines, round_steps, Place, place, Operates, Round}
-use Rattle.cell_runs.specs.Rounds.{Rounds, Breaks, Stops, ComesToRest, EndsIn, Ends, Ended, Takes, TakesTurns, Reaches}
-use Rattle.cell_runs.specs.Rounds.{start}
+use Rattle.cell_runs.specs.Rounds.{turn_of, history, machines, Place, place, Operates, Round}
+use Rattle.cell_runs.specs.Rounds.{Breaks, ComesToRest, EndsIn, Ends, Takes, Reaches}
 use Rattle.cell_runs.specs.Rounds.Operates.{rests, waits, books, fails}
-use Rattle.cell_runs.specs.Rounds.Rounds.{none as no_round, more as one_more}
-
--- a step by hand
 
 -- a schedule grows at its end, so one of a single step is that step behind no others
 one_of : {A : Type 0} (xs : List A) (x y : A) → xs ++ x ∷ [] ≡ y ∷ [] → (xs ≡ []) × (x ≡ y)
@@ -222,62 +216,6 @@ breaks_of p steps done left refused a b ws ws' told acts acts' minds is s fits =
       leads = led.leads;
     }
 
--- the same where all of them were taken
-pub breaks_at_end : (p : Plan) (steps : List Step) (refused : ℕ) (a b : History) (ws ws' : Six Watch) (told : Bool)
-    (acts acts' : ActLog) (minds : Six Mind)
-    → Scheduled p steps refused a b ws ws' told acts acts' → FitAll ws minds
-    → Breaks a.limits p (map turn_of steps) (now a.entries minds) b.entries refused
-breaks_at_end p steps refused a b ws ws' told acts acts' minds s fits =
-    let led = s.led minds fits in
-    record {
-      steps = steps;
-      left = [];
-      failed = s.failed;
-      minds = led.minds;
-      first = append-nil (map turn_of steps);
-      leads = led.leads;
-    }
-
--- an end within steps that come after others
-breaks_after : (l : BookLimits) (p : Plan) (s t : Now) (xs : List Step) (f r : ℕ)
-    (part post whole : List (Option Machine)) (J : List Entry)
-    → map turn_of xs ++ (part ++ post) ≡ whole → Leads l p s xs 0 f t → Breaks l p part t J r → Breaks l p whole s J r
-breaks_after l p s t xs f r part post whole J is a b = record {
-  steps = xs ++ b.steps;
-  left = b.left ++ post;
-  failed = f + b.failed;
-  minds = b.minds;
-  first =
-      ap (λ (q : List (Option Machine)). q ++ (b.left ++ post)) (map-append turn_of xs b.steps)
-      ∙ append_assoc (map turn_of xs) (map turn_of b.steps) (b.left ++ post)
-      ∙ ap (λ (q : List (Option Machine)). map turn_of xs ++ q) (sym (append_assoc (map turn_of b.steps) b.left post)
-      ∙ ap (λ (q : List (Option Machine)). q ++ post) b.first)
-      ∙ is;
-  leads = subst (λ (k : ℕ). Leads l p s (xs ++ b.steps) k (f + b.failed) (now J b.minds)) (zero-add r)
-      (leads_join l p s t (now J b.minds) xs b.steps 0 r f b.failed a b.leads);
-}
-
--- a run is stopped among steps only by a refused turn or by refused memory, so no other end has to be shown
-pub stops_after : (l : BookLimits) (p : Plan) (s t : Now) (xs : List Step) (f : ℕ)
-    (part post whole : List (Option Machine)) (J : List Entry) (e : End)
-    → map turn_of xs ++ (part ++ post) ≡ whole → Leads l p s xs 0 f t → Stops l p part t J e → Stops l p whole s J e
-stops_after l p s t xs f part post whole J end.Full is a b =
-    (b.0, b.1, breaks_after l p s t xs f b.0 part post whole J is a b.2)
-stops_after l p s t xs f part post whole J end.Memory is a b =
-    (b.0, breaks_after l p s t xs f b.0 part post whole J is a b.1)
-stops_after l p s t xs f part post whole J end.Finished is a b = b
-stops_after l p s t xs f part post whole J end.Stalled is a b = b
-stops_after l p s t xs f part post whole J end.TurnLimit is a b = b
-
--- a run that is stopped among a round's steps hasn't come to rest, so it neither finishes nor stalls
-pub ends_in : (l : BookLimits) (p : Plan) (s : Place) (J : List Entry) (e : End) → Stops l p round_steps s.now J e
-    → EndsIn l p s J e
-ends_in l p s J end.Full h = h
-ends_in l p s J end.Memory h = h
-ends_in l p s J end.TurnLimit h = h
-ends_in l p s J end.Finished h = absurd h
-ends_in l p s J end.Stalled h = absurd h
-
 -- the limit on turns is met between rounds, so a round never ends a run that way
 pub ends : (l : BookLimits) (p : Plan) (n : ℕ) (s : Place) (J : List Entry) (e : End) → EndsIn l p s J e
     → Ends l p n s J e
@@ -286,40 +224,6 @@ ends l p n s J end.Memory h = h
 ends l p n s J end.TurnLimit h = absurd h
 ends l p n s J end.Finished h = h
 ends l p n s J end.Stalled h = h
-
--- one turn more
-pub takes_more : (l l' : BookLimits) (p : Plan) (ms ms' : List Machine) (m : Machine) (x : Step) (s : Now)
-    (J J' : List Entry) (ws ws' : Six Watch)
-    → l' ≡ l → ms' ≡ ms ++ m ∷ [] → turn_of x ≡ Some m
-    → ((minds : Six Mind) → FitAll ws minds → Takes l' p (x ∷ []) (now J minds) J' ws') → TakesTurns l p ms s J ws
-    → TakesTurns l p ms' s J' ws'
-takes_more l l' p ms ms' m x s J J' ws ws' same grew is next (steps, each, (f, led)) =
-    let (g, one) = next led.minds led.fits in (
-      steps ++ x ∷ [],
-      map-append turn_of steps (x ∷ []) ∙ ap (λ (q : List (Option Machine)). q ++ turn_of x ∷ []) each
-          ∙ ap (λ (q : Option Machine). turns_of ms ++ q ∷ []) is
-          ∙ sym (map-append (λ (n : Machine). Some n) ms (m ∷ [])) ∙ ap turns_of (sym grew),
-      (
-        f + g,
-        led_join l p s steps (x ∷ []) 0 0 f g J J' ws ws' led
-            (subst (λ (k : BookLimits). Led k p (now J led.minds) (x ∷ []) 0 g J' ws') same one),
-      ),
-    )
-
--- an end within one turn more
-pub stopped_turn : (l l' : BookLimits) (p : Plan) (ms ms' rest all : List Machine) (m : Machine) (x : Step) (s : Now)
-    (J J' : List Entry) (ws : Six Watch) (e : End)
-    → l' ≡ l → ms' ≡ ms ++ m ∷ [] → ms' ++ rest ≡ all → turn_of x ≡ Some m → TakesTurns l p ms s J ws
-    → ((minds : Six Mind) → FitAll ws minds → Stops l' p (turn_of x ∷ []) (now J minds) J' e)
-    → Stops l p (turns_of all) s J' e
-stopped_turn l l' p ms ms' rest all m x s J J' ws e same grew whole is (steps, each, (f, led)) next =
-    stops_after l p s (now J led.minds) steps f (turn_of x ∷ []) (turns_of rest) (turns_of all) J' e
-    (ap (λ (q : List (Option Machine)). q ++ (turn_of x ∷ turns_of rest)) each
-    ∙ ap (λ (q : Option Machine). turns_of ms ++ (q ∷ turns_of rest)) is
-    ∙ sym (map-append (λ (n : Machine). Some n) ms (m ∷ rest))
-    ∙ ap turns_of (sym (append_assoc ms (m ∷ []) rest) ∙ ap (λ (q : List Machine). q ++ rest) (sym grew) ∙ whole))
-    led.leads (subst (λ (k : BookLimits). Stops k p (turn_of x ∷ []) (now J led.minds) J' e) same
-    (next led.minds led.fits))
 
 -- where nothing is booked, the operator has nothing to do
 pub rested : (l : BookLimits) (p : Plan) (s t : Place) → Operates l p s t → t.now.journal ≡ s.now.journal
@@ -397,88 +301,13 @@ act_fails l p J J' minds ws' lines lines' lost a e booked free next is idle same
       (grew ∙ ap (λ (b : Bool). J ++ (if b then e ∷ [] else [])) idle ∙ append-nil J)),
 )
 
--- a round
-pub turns_start : (l : BookLimits) (p : Plan) (J : List Entry) (ws : Six Watch) (minds : Six Mind) → FitAll ws minds
-    → TakesTurns l p [] (now J minds) J ws
-turns_start l p J ws minds fits = ([], refl, (0, record { minds = minds; leads = stays; fits = fits }))
-
-pub rounds_start : (l : BookLimits) (p : Plan) (J : List Entry) (ws : Six Watch) (lines : List Line) (lost : Bool)
-    (minds : Six Mind) → FitAll ws minds → Reaches (Rounds l p (place (now J minds) lines lost) 0) J ws lines lost
-rounds_start l p J ws lines lost minds fits = (minds, fits, no_round)
-
--- the turns of a round, and then what the operator does
-pub whole_round : (l l' : BookLimits) (p : Plan) (s : Now) (J J' : List Entry) (ws ws' : Six Watch)
-    (lines lines1 lines' : List Line) (lost lost1 lost' : Bool)
-    → l' ≡ l → lines1 ≡ lines → lost1 ≡ lost → TakesTurns l p machines s J ws
-    → ((minds : Six Mind) → FitAll ws minds
-    → Reaches (Operates l' p (place (now J minds) lines1 lost1)) J' ws' lines' lost')
-    → Reaches (Round l p (place s lines lost)) J' ws' lines' lost'
-whole_round l l' p s J J' ws ws' lines lines1 lines' lost lost1 lost' is same still (steps, each, (f, led)) next =
-    let (minds, fits, operates) = next led.minds led.fits in (
-      minds,
-      fits,
-      record {
-        steps = steps;
-        failed = f;
-        turned = now J led.minds;
-        turns = each;
-        leads =
-            led.leads;
-        operates = rw (← is, ← same, ← still) operates;
-      },
-    )
-
--- all machines have had their turns, so what is stopped is the last step of the round
-pub stopped_act : (l l' : BookLimits) (p : Plan) (s : Now) (J J' : List Entry) (ws : Six Watch) (e : End)
-    → l' ≡ l → TakesTurns l p machines s J ws
-    → ((minds : Six Mind) → FitAll ws minds → Stops l' p (None ∷ []) (now J minds) J' e)
-    → Stops l p round_steps s J' e
-stopped_act l l' p s J J' ws e is (steps, each, (f, led)) next =
-    stops_after l p s (now J led.minds) steps f (None ∷ []) [] round_steps J' e
-    (ap (λ (q : List (Option Machine)). q ++ (None ∷ [])) each) led.leads
-    (subst (λ (k : BookLimits). Stops k p (None ∷ []) (now J led.minds) J' e) is (next led.minds led.fits))
-
--- the steps that a round still had before it include the operator's
-pub stopped_turns : (l : BookLimits) (p : Plan) (s : Now) (J : List Entry) (e : End)
-    → Stops l p (turns_of machines) s J e → Stops l p round_steps s J e
-stopped_turns l p s J end.Full (r, pos, b) = (
-  r,
-  pos,
-  record {
-    steps = b.steps;
-    left = b.left ++ (None ∷ []);
-    failed = b.failed;
-    minds = b.minds;
-    first =
-        sym (append_assoc (map turn_of b.steps) b.left (None ∷ []))
-        ∙ ap (λ (q : List (Option Machine)). q ++ (None ∷ [])) b.first;
-    leads = b.leads;
-  },
-)
-stopped_turns l p s J end.Memory (r, b) = (
-  r,
-  record {
-    steps = b.steps;
-    left = b.left ++ (None ∷ []);
-    failed = b.failed;
-    minds = b.minds;
-    first =
-        sym (append_assoc (map turn_of b.steps) b.left (None ∷ []))
-        ∙ ap (λ (q : List (Option Machine)). q ++ (None ∷ [])) b.first;
-    leads = b.leads;
-  },
-)
-stopped_turns l p s J end.Finished h = h
-stopped_turns l p s J end.Stalled h = h
-stopped_turns l p s J end.TurnLimit h = h
-
 -- an error that `?` hands on
-pub err_of : {A : Type 0} (r : Result A End) (e : End) (Q : End → Type 0) → IsErrAnd r (λ x. x ≡ e) → Q e → IfErr r Q
+pub err_of : {A E : Type 0} (r : Result A E) (e : E) (Q : E → Type 0) → IsErrAnd r (λ x. x ≡ e) → Q e → IfErr r Q
 err_of (Ok x) e Q is h = absurd is
 err_of (Err x) e Q is h = subst Q (sym is) h
 
 -- what the steps add
-leads_grow : (l : BookLimits) (p : Plan) (s t : Now) (zs : List Step) (r f : ℕ) → Leads l p s zs r f t
+pub leads_grow : (l : BookLimits) (p : Plan) (s t : Now) (zs : List Step) (r f : ℕ) → Leads l p s zs r f t
     → (added : List Entry) × (t.journal ≡ s.journal ++ added)
 leads_grow l p s _ _ _ _ stays = ([], sym (append-nil s.journal))
 leads_grow l p s t _ r f (one_turn {t = v} {steps = ys} m x b d) =
@@ -494,136 +323,9 @@ leads_grow l p s _ _ r f (one_hand {t = v} {steps = ys} e b d) =
 leads_grow l p s t _ r f (one_spared {steps = ys} e b d) = leads_grow l p s t ys r f b
 leads_grow l p s t _ r _ (one_failed {steps = ys} {failed = f} e b d c) = leads_grow l p s t ys r f b
 
-operates_grow : (l : BookLimits) (p : Plan) (s t : Place) → Operates l p s t
+pub operates_grow : (l : BookLimits) (p : Plan) (s t : Place) → Operates l p s t
     → (more : List Entry) × (t.now.journal ≡ s.now.journal ++ more)
 operates_grow l p _ _ (rests {s = s}) = ([], sym (append-nil s.journal))
 operates_grow l p _ _ (waits {s = s} n) = ([], sym (append-nil s.journal))
 operates_grow l p _ _ (books a n b grew) = (entry_of a ∷ [], grew)
 operates_grow l p _ _ (fails {s = s} a n b same) = ([], same ∙ sym (append-nil s.journal))
-
--- a journal as long as before got nothing from the machines and nothing from the operator
-nothing_more : (a b : List Entry) → length (a ++ b) ≡ 0 → (a ≡ []) × (b ≡ [])
-nothing_more [] [] h = (refl, refl)
-nothing_more [] (y ∷ b) h = absurd (omega (arith, h))
-nothing_more (x ∷ a) b h = absurd (omega (arith, h))
-
--- a round that booked nothing, after which all are idle, is the run's end
-pub at_rest : (l : BookLimits) (p : Plan) (s : Now) (lines lines' : List Line) (lost lost' : Bool) (J' : List Entry)
-    (ws' : Six Watch) (e : End)
-    → Reaches (Round l p (place s lines lost)) J' ws' lines' lost' → length J' ≡ length s.journal
-    → ((minds : Six Mind) → FitAll ws' minds → (m : Machine) → is_idle J' m p (at minds m) ≡ true)
-    → (e ≡ end.Finished → IsDone p.plates J') → (IsDone p.plates J' → e ≡ end.Finished)
-    → (e ≡ end.Finished) ⊎ (e ≡ end.Stalled) → EndsIn l p (place s lines lost) J' e
-at_rest l p s lines lines' lost lost' J' ws' e (minds, fits, r) short idle done must which =
-    let (a, grew) = leads_grow l p s r.turned r.steps 0 r.failed r.leads in
-    let (b, more) = operates_grow l p (place r.turned lines lost) (place (now J' minds) lines' lost') r.operates in
-    let all : J' ≡ s.journal ++ (a ++ b) = more ∙ ap (λ (J : List Entry). J ++ b) grew ∙ append_assoc s.journal a b in
-    let sizes : length J' ≡ length s.journal + length (a ++ b) = ap (λ (J : List Entry). length J) all
-    ∙ length-append s.journal (a ++ b) in
-    let nil = nothing_more a b (omega (arith, sizes, short)) in
-    let rest : ComesToRest l p (place s lines lost) J' = record {
-      last = place (now J' minds) lines' lost';
-      round = r;
-      journal = refl;
-      unchanged = all ∙ ap (λ (q : List Entry). s.journal ++ q) (ap (λ (q : List Entry). q ++ b) nil.0 ∙ nil.1)
-          ∙ append-nil s.journal;
-      idle = idle minds fits;
-      operator = rested l p (place r.turned lines lost) (place (now J' minds) lines' lost') r.operates
-          (more ∙ ap (λ (q : List Entry). r.turned.journal ++ q) nil.1 ∙ append-nil r.turned.journal);
-    } in
-    finishes e rest done must which
-  where
-    finishes : (x : End) → ComesToRest l p (place s lines lost) J' → (x ≡ end.Finished → IsDone p.plates J')
-        → (IsDone p.plates J' → x ≡ end.Finished) → (x ≡ end.Finished) ⊎ (x ≡ end.Stalled)
-        → EndsIn l p (place s lines lost) J' x
-    finishes end.Finished rest done must which = (rest, done refl)
-    finishes end.Stalled rest done must which = (rest, λ d. absurd (stalled (must d)))
-      where
-        stalled : end.Stalled ≡ end.Finished → ⊥
-        stalled q = cc
-    finishes end.TurnLimit rest done must (inl h) = absurd (other h)
-      where
-        other : end.TurnLimit ≡ end.Finished → ⊥
-        other q = cc
-    finishes end.TurnLimit rest done must (inr h) = absurd (other h)
-      where
-        other : end.TurnLimit ≡ end.Stalled → ⊥
-        other q = cc
-    finishes end.Memory rest done must (inl h) = absurd (other h)
-      where
-        other : end.Memory ≡ end.Finished → ⊥
-        other q = cc
-    finishes end.Memory rest done must (inr h) = absurd (other h)
-      where
-        other : end.Memory ≡ end.Stalled → ⊥
-        other q = cc
-    finishes end.Full rest done must (inl h) = absurd (other h)
-      where
-        other : end.Full ≡ end.Finished → ⊥
-        other q = cc
-    finishes end.Full rest done must (inr h) = absurd (other h)
-      where
-        other : end.Full ≡ end.Stalled → ⊥
-        other q = cc
-
--- the same, of a book that has this journal
-pub book_at_rest : (l : BookLimits) (p : Plan) (s : Now) (lines lines' : List Line) (lost lost' : Bool)
-    (K J' : List Entry) (ws' : Six Watch) (e : End)
-    → K ≡ J' → Reaches (Round l p (place s lines lost)) J' ws' lines' lost' → length J' ≡ length s.journal
-    → ((minds : Six Mind) → FitAll ws' minds → (m : Machine) → is_idle K m p (at minds m) ≡ true)
-    → (e ≡ end.Finished → IsDone p.plates K) → (IsDone p.plates K → e ≡ end.Finished)
-    → (e ≡ end.Finished) ⊎ (e ≡ end.Stalled) → EndsIn l p (place s lines lost) J' e
-book_at_rest l p s lines lines' lost lost' K J' ws' e same r short idle done must which =
-    at_rest l p s lines lines' lost lost' J' ws' e r short
-    (λ minds fits m. subst (λ (J : List Entry). is_idle J m p (at minds m) ≡ true) same (idle minds fits m))
-    (λ h. subst (λ (J : List Entry). IsDone p.plates J) same (done h))
-    (λ d. must (subst (λ (J : List Entry). IsDone p.plates J) (sym same) d)) which
-
--- one round more, and the end
-pub more_rounds : (l l' : BookLimits) (p : Plan) (from : Place) (n : ℕ) (J J' : List Entry) (ws ws' : Six Watch)
-    (lines lines' : List Line) (lost lost' : Bool)
-    → l' ≡ l → Reaches (Rounds l p from n) J ws lines lost
-    → ((minds : Six Mind) → FitAll ws minds
-    → Reaches (Round l' p (place (now J minds) lines lost)) J' ws' lines' lost')
-    → Reaches (Rounds l p from (n + 1)) J' ws' lines' lost'
-more_rounds l l' p from n J J' ws ws' lines lines' lost lost' is (minds, fits, led) next =
-    let (after, fits', r) = next minds fits in (
-      after,
-      fits',
-      one_more led (subst (λ (k : BookLimits). Round k p (place (now J minds) lines lost)
-          (place (now J' after) lines' lost')) is r),
-    )
-
--- the round that ends the run isn't counted among the whole ones before it
-pub ended_in : (l l' : BookLimits) (p : Plan) (from : Place) (n : ℕ) (J J' : List Entry) (ws : Six Watch)
-    (lines : List Line) (lost : Bool) (e : End)
-    → l' ≡ l → Reaches (Rounds l p from n) J ws lines lost
-    → ((minds : Six Mind) → FitAll ws minds → EndsIn l' p (place (now J minds) lines lost) J' e)
-    → Ended l p from J' e
-ended_in l l' p from n J J' ws lines lost e is (minds, fits, led) next = record {
-  rounds = n;
-  last = place (now J minds) lines lost;
-  led = led;
-  ends = ends l p n (place (now J minds) lines lost) J' e
-      (subst (λ (k : BookLimits). EndsIn k p (place (now J minds) lines lost) J' e) is (next minds fits));
-}
-
--- no round more is begun once there were as many as the plan has
-pub ended_by_turns : (l : BookLimits) (p : Plan) (from : Place) (n : ℕ) (J : List Entry) (ws : Six Watch)
-    (lines : List Line) (lost : Bool)
-    → n ≡ p.turns → Reaches (Rounds l p from n) J ws lines lost → Ended l p from J end.TurnLimit
-ended_by_turns l p from n J ws lines lost is (minds, fits, led) =
-    record { rounds = n; last = place (now J minds) lines lost; led = led; ends = (is, refl) }
-
--- a run that began with an empty book started where runs start
-pub ended_started : (l k : BookLimits) (p : Plan) (script : List Line) (B K J J' : List Entry) (ws : Six Watch)
-    (e : End)
-    → K ≡ B → B ≡ [] → k ≡ l → J' ≡ J → FitAll ws (each (λ m. first_mind B m))
-    → ((minds : Six Mind) → FitAll ws minds → Ended k p (place (now K minds) script false) J e)
-    → Ended l p (start script) J' e
-ended_started l k p script B K J J' ws e is empty same after fits next =
-    subst (λ (x : BookLimits). Ended x p (start script) J' e) same
-    (subst (λ (x : List Entry). Ended k p (start script) x e) (sym after)
-    (subst (λ (x : List Entry). Ended k p (place (now x (each (λ m. first_mind x m))) script false) J e) empty
-    (subst (λ (x : List Entry). Ended k p (place (now x (each (λ m. first_mind B m))) script false) J e) is
-    (next (each (λ m. first_mind B m)) fits))))

@@ -9,8 +9,9 @@ use Rattle.cell_output.specs.Watched.{WritesPart}
 use Rattle.cell_workers.specs.declared.ends.End.{End}
 use Rattle.cell_workers.specs.Report.{IsReport}
 use Rattle.operator_desk.specs.declared.line.Line.{Line}
-use Rattle.cell_runs.specs.Rounds.{IsRun}
-use Rattle.cell_runs.specs.Runs.{PartOfRounds, PrintsOrStops, WritesReport, WritesRounds, kept, limits_of, shown}
+use Rattle.cell_runs.specs.Rounds.{IsRunFrom}
+use Rattle.cell_runs.specs.Runs.{PartOfRoundsFrom, PrintsOrStops, WritesReport, WritesRoundsFrom, kept, limits_of}
+use Rattle.cell_runs.specs.Runs.{shown}
 
 -- printing doesn't look at the plan, so what the report has to do with it may be told afterwards
 pub report-printed : {E : Type 0} (r : Result ℕ E) (journal : Bool) (e : End) (J : List Entry) (t : Totals)
@@ -25,9 +26,10 @@ report-printed (Err error) journal e J t ws old new printed = printed
 pub rounds-printed : {E : Type 0} (r : Result ℕ E) (journal : Bool) (e : End) (J K : List Entry) (t : Totals)
     (old new : Option (List ℕ))
     → K ≡ J → t ≡ count_of J → IfOk r (PrintsOrStops journal e t K old new)
-    → IfOk r (λ status. (plan : Plan) (script : List Line) → IsRun (limits_of plan) plan script J e
-    → WritesRounds journal plan script old new status (Some (kept J e plan)))
-rounds-printed (Ok status) journal e J K t old new same counts printed = λ plan script run.
+    → IfOk r (λ status. (before : List Entry) (plan : Plan) (script : List Line)
+    → IsRunFrom (limits_of plan) plan before script J e
+    → WritesRoundsFrom before journal plan script old new status (Some (kept J e plan)))
+rounds-printed (Ok status) journal e J K t old new same counts printed = λ before plan script run.
     inl (
       e,
       J,
@@ -40,9 +42,10 @@ rounds-printed (Err error) journal e J K t old new same counts printed = printed
 
 -- the same where a write was refused on the way
 pub rounds-in-part : (journal : Bool) (e : End) (J K : List Entry) (t : Totals) (old new : Option (List ℕ))
-    → K ≡ J → t ≡ count_of J → WritesPart old new (shown journal e t K) → (plan : Plan) (script : List Line)
-    → IsRun (limits_of plan) plan script J e → PartOfRounds journal plan script old new
-rounds-in-part journal e J K t old new same counts part = λ plan script run. (
+    → K ≡ J → t ≡ count_of J → WritesPart old new (shown journal e t K)
+    → (before : List Entry) (plan : Plan) (script : List Line) → IsRunFrom (limits_of plan) plan before script J e
+    → PartOfRoundsFrom before journal plan script old new
+rounds-in-part journal e J K t old new same counts part = λ before plan script run. (
   e,
   J,
   run,

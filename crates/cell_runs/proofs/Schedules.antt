@@ -14,8 +14,9 @@ use Rattle.cell_turns.proofs.Joined.{leads_join}
 use Rattle.cell_workers.specs.declared.ends.End.{End}
 use Rattle.cell_workers.specs.declared.ends.End.TheVariants as end
 use Rattle.operator_desk.specs.Next.{entry_of}
+use Rattle.cell_runs.proofs.OneRound.{leads_grow}
 use Rattle.cell_runs.specs.Rounds.{Place, place, Operates, Round, Rounds, ComesToRest, Breaks, Ends, RunsAreSchedules}
-use Rattle.cell_runs.specs.Rounds.{round_steps}
+use Rattle.cell_runs.specs.Rounds.{RunsFromAreSchedules, RunsGoOn, round_steps, start_from}
 use Rattle.cell_runs.specs.Rounds.Operates.{rests, waits, books, fails}
 use Rattle.cell_runs.specs.Rounds.Rounds.{none as no_round, more as one_more}
 
@@ -89,7 +90,16 @@ then_ends l p s n t J end.Full a h = then_breaks l p s t.now J h.0 a h.2
 then_ends l p s n t J end.Memory a h = then_breaks l p s t.now J h.0 a h.1
 
 -- so what is shown of all schedules holds of runs in rounds
-pub run_leads : RunsAreSchedules
-run_leads l p script J e r =
+pub run_from_leads : RunsFromAreSchedules
+run_from_leads l p before script J e r =
     let is = r.ended in
     then_ends l p _ is.rounds is.last J e (rounds_lead l p _ is.last is.rounds is.led) is.ends
+
+pub run_leads : RunsAreSchedules
+run_leads l p script J e r = run_from_leads l p [] script J e r
+
+-- and what is booked comes behind the journal from which a run goes on
+pub run_goes_on : RunsGoOn
+run_goes_on l p before script J e r =
+    let (steps, refused, failed, minds, leads) = run_from_leads l p before script J e r in
+    leads_grow l p (start_from before script).now (now J minds) steps refused failed leads

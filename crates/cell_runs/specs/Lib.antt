@@ -2,4 +2,5 @@ pub mod Followed
 pub mod Inputs
 pub mod Rounds
 pub mod Runs
+pub mod RunsFrom
 pub mod Told

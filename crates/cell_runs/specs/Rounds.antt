@@ -79,9 +79,13 @@ pub data Rounds (l : BookLimits) (p : Plan) (s : Place) : ℕ → Place → Type
   none : Rounds l p s 0 s
   more : {n : ℕ} {t u : Place} → Rounds l p s n t → Round l p t u → Rounds l p s (n + 1) u
 
--- where a run with this script starts: the journal is empty, and no machine has taken a turn
+-- where a run with this script goes on from a journal: no machine has taken a turn since
+abbrev pub start_from : List Entry → List Line → Place
+start_from J lines = place (now J (each (λ m. first_mind J m))) lines false
+
+-- where a run with this script starts: the journal is empty
 abbrev pub start : List Line → Place
-start lines = place (now [] (each (λ m. first_mind [] m))) lines false
+start lines = start_from [] lines
 
 -- a round that books nothing ends the run: after it each machine is idle, and the operator's hands have failed or his
 -- script has nothing to do
@@ -127,18 +131,19 @@ pub record Ended (l : BookLimits) (p : Plan) (s : Place) (J : List Entry) (e : E
   pub led : Rounds l p s rounds last
   pub ends : Ends l p rounds last J e
 
--- a run in rounds within these limits, by this plan and this script, leads to this journal and ends so
-pub record IsRun (l : BookLimits) (p : Plan) (script : List Line) (J : List Entry) (e : End) : Type 0 where
+-- a run in rounds within these limits, by this plan and this script, leads from one journal to another and ends so
+pub record IsRunFrom (l : BookLimits) (p : Plan) (before : List Entry) (script : List Line) (J : List Entry) (e : End) :
+    Type 0 where
   pub legal : legal l J ≡ true
-  pub ended : Ended l p (start script) J e
+  pub ended : Ended l p (start_from before script) J e
+
+-- a run from the empty journal
+abbrev pub IsRun : BookLimits → Plan → List Line → List Entry → End → Type 0
+IsRun l p script J e = IsRunFrom l p [] script J e
 
 -- these steps, none of which is a refused turn, lead to this journal, and what they lead to fits these watches
 abbrev pub Takes : BookLimits → Plan → List Step → Now → List Entry → Six Watch → Type 0
 Takes l p steps s J ws = (failed : ℕ) × Led l p s steps 0 failed J ws
-
--- a turn of each of these machines, in this order, leads so
-abbrev pub TakesTurns : BookLimits → Plan → List Machine → Now → List Entry → Six Watch → Type 0
-TakesTurns l p ms s J ws = (steps : List Step) × (map turn_of steps ≡ turns_of ms) × Takes l p steps s J ws
 
 -- what holds of a place with this journal, these lines and these hands, which these watches fit
 abbrev pub Reaches : (Place → Type 0) → List Entry → Six Watch → List Line → Bool → Type 0
@@ -150,3 +155,17 @@ RunsAreSchedules =
     (l : BookLimits) (p : Plan) (script : List Line) (J : List Entry) (e : End) → IsRun l p script J e
     → (steps : List Step) × (refused : ℕ) × (failed : ℕ) × (minds : Six Mind)
     × Leads l p (start script).now steps refused failed (now J minds)
+
+-- so is one from a journal on, from there
+abbrev pub RunsFromAreSchedules : Type 0
+RunsFromAreSchedules =
+    (l : BookLimits) (p : Plan) (before : List Entry) (script : List Line) (J : List Entry) (e : End)
+    → IsRunFrom l p before script J e
+    → (steps : List Step) × (refused : ℕ) × (failed : ℕ) × (minds : Six Mind)
+    × Leads l p (start_from before script).now steps refused failed (now J minds)
+
+-- the journal of a run from a journal on begins with that one
+abbrev pub RunsGoOn : Type 0
+RunsGoOn =
+    (l : BookLimits) (p : Plan) (before : List Entry) (script : List Line) (J : List Entry) (e : End)
+    → IsRunFrom l p before script J e → (more : List Entry) × (J ≡ before ++ more)

@@ -17,7 +17,7 @@ use Rattle.cell_audit.specs.Text.{text_of}
 use Rattle.cell_output.specs.Watched.{WritesPart}
 use Rattle.cell_output.specs.Numbers.{number_line}
 use Rattle.cell_runs.specs.Inputs.{AreInputs, WritesError, input_line, input_status}
-use Rattle.cell_runs.specs.Rounds.{IsRun}
+use Rattle.cell_runs.specs.Rounds.{IsRunFrom}
 use Rattle.cell_runs.specs.declared.inputs.Inputs.{Inputs}
 use Rattle.cell_runs.specs.declared.inputs.InputError.{InputError}
 use Rattle.cell_runs.specs.declared.texts.Left.{Left}
@@ -86,19 +86,27 @@ kept_of left.Nothing = None
 abbrev pub LacksThread : Left → Option (List ℕ) → Option (List ℕ) → ℕ → Type 0
 LacksThread what old new status = what ≡ left.NoThread → WritesError old new [] 4 status
 
--- a run on one thread, by this plan and this script of the operator, leads in rounds to a journal and an end, which are
--- printed, and it is kept; or memory was refused before it, and nothing was written
-abbrev pub WritesRounds : Bool → Plan → List Line → Option (List ℕ) → Option (List ℕ) → ℕ → Option Kept → Type 0
-WritesRounds journal plan script old new status run =
-    ((e : End) × (J : List Entry) × IsRun (limits_of plan) plan script J e
+-- a run on one thread from this journal on, by this plan and this script of the operator, leads in rounds to a journal
+-- and an end, which are printed, and it is kept; or memory was refused before it, and nothing was written
+abbrev pub WritesRoundsFrom : List Entry → Bool → Plan → List Line → Option (List ℕ) → Option (List ℕ) → ℕ
+    → Option Kept → Type 0
+WritesRoundsFrom before journal plan script old new status run =
+    ((e : End) × (J : List Entry) × IsRunFrom (limits_of plan) plan before script J e
     × PrintsOrStops journal e (count_of J) J old new status × (run ≡ Some (kept J e plan)))
     ⊎ (WritesError old new [] 4 status × (run ≡ None))
 
 -- a first part of what is printed of such a run was written, and not all of it
-abbrev pub PartOfRounds : Bool → Plan → List Line → Option (List ℕ) → Option (List ℕ) → Type 0
-PartOfRounds journal plan script old new =
-    (e : End) × (J : List Entry) × IsRun (limits_of plan) plan script J e
+abbrev pub PartOfRoundsFrom : List Entry → Bool → Plan → List Line → Option (List ℕ) → Option (List ℕ) → Type 0
+PartOfRoundsFrom before journal plan script old new =
+    (e : End) × (J : List Entry) × IsRunFrom (limits_of plan) plan before script J e
     × WritesPart old new (shown journal e (count_of J) J)
+
+-- the same of a run from the empty journal
+abbrev pub WritesRounds : Bool → Plan → List Line → Option (List ℕ) → Option (List ℕ) → ℕ → Option Kept → Type 0
+WritesRounds journal plan script old new status run = WritesRoundsFrom [] journal plan script old new status run
+
+abbrev pub PartOfRounds : Bool → Plan → List Line → Option (List ℕ) → Option (List ℕ) → Type 0
+PartOfRounds journal plan script old new = PartOfRoundsFrom [] journal plan script old new
 
 -- the line where some actor's entries in the journal aren't its worker's
 abbrev pub disagrees_line : List ℕ

@@ -12,7 +12,7 @@ ghost use Rattle.cell_ledger.specs.New.{AreBlank};
 ghost use Rattle.cell_runs.specs.Rounds.{Reaches, place};
 ghost use Rattle.cell_runs.specs.Followed.{Acts, Ends, EndsAt, Halts, IsFollowed};
 
-use crate::rounds::{Progress, act, take_step};
+use crate::steps::{Progress, act, take_step};
 use cell_journal::Journal;
 use cell_ledger::{Blanks, Kept, Run};
 use cell_types::same::is_entry;

@@ -57,8 +57,8 @@ fn write_followed<R: AllocGlobal + Wait, W: Write>(
     }
 }
 
-// Tells that a journal is refused or can't be read, for which an audit gave this error, and gives the exit status.
-fn tell_refused<W: Write>(
+/// Tells that a journal is refused or can't be read, for which an audit gave this error, and gives the exit status.
+pub(crate) fn tell_refused<W: Write>(
     why: AuditError,
     writer: &mut WatchedWriter<'_, W>,
 ) -> Result<u8, WriteFault>

@@ -2,12 +2,13 @@
 ghost use Rattle.std.specs.Prelude.{◌≡◌, List, map, IfOk, IsErr, OnOk, Some, true};
 ghost use Rattle.std.specs.Io.KnownBytes.{Appends};
 ghost use Rattle.cell_output.specs.Watched.{IsSameWriter, WritesPart, bytes_held, has_refused};
+ghost use Rattle.cell_types.specs.declared.words.Entry.{Entry as EntryValue};
 ghost use Rattle.cell_rules.specs.declared.limits.BookLimits.{BookLimits};
 ghost use Rattle.cell_ports.specs.declared.plan.Plan.{Plan as PlanValue};
 ghost use Rattle.cell_workers.specs.Report.{IsReport};
 ghost use Rattle.operator_desk.specs.declared.line.Line.{Line};
-ghost use Rattle.cell_runs.specs.Rounds.{IsRun};
-ghost use Rattle.cell_runs.specs.Runs.{PartOfReport, PartOfRounds, PrintsOrStops, WritesReport, WritesRounds};
+ghost use Rattle.cell_runs.specs.Rounds.{IsRunFrom};
+ghost use Rattle.cell_runs.specs.Runs.{PartOfReport, PartOfRoundsFrom, PrintsOrStops, WritesReport, WritesRoundsFrom};
 ghost use Rattle.cell_runs.specs.Runs.{WritesRunError, counts_after, disagrees_line, kept, limits_of, shown, status_of};
 ghost use Rattle.cell_runs.specs.Runs.{word_of};
 
@@ -112,13 +113,14 @@ pub fn write_outcome<W: Write>(
     writer: &mut WatchedWriter<'_, W>,
 ) -> Result<u8, WriteFault>
     ensures writer { IsSameWriter writer.old writer.new }
-    ensures whole { IfOk result (λ status. (plan : PlanValue) (script : List Line)
-        → IsRun (limits_of plan) plan script outcome.now.book.entries outcome.now.end
-        → WritesRounds journal plan script (bytes_held W.contents writer.old) (bytes_held W.contents writer.new) status
-        (Some (kept outcome.now.book.entries outcome.now.end plan))) }
-    ensures part { IsErr result → (plan : PlanValue) (script : List Line)
-        → IsRun (limits_of plan) plan script outcome.now.book.entries outcome.now.end
-        → PartOfRounds journal plan script (bytes_held W.contents writer.old) (bytes_held W.contents writer.new) }
+    ensures whole { IfOk result (λ status. (before : List EntryValue) (plan : PlanValue) (script : List Line)
+        → IsRunFrom (limits_of plan) plan before script outcome.now.book.entries outcome.now.end
+        → WritesRoundsFrom before journal plan script (bytes_held W.contents writer.old)
+        (bytes_held W.contents writer.new) status (Some (kept outcome.now.book.entries outcome.now.end plan))) }
+    ensures part { IsErr result → (before : List EntryValue) (plan : PlanValue) (script : List Line)
+        → IsRunFrom (limits_of plan) plan before script outcome.now.book.entries outcome.now.end
+        → PartOfRoundsFrom before journal plan script (bytes_held W.contents writer.old)
+        (bytes_held W.contents writer.new) }
     ensures fault { IsErr result → has_refused writer.new ≡ true }
 {
     outcome.book.is_lawful();

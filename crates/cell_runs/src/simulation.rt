@@ -1,7 +1,7 @@
 //! Runs over the simulated cell on one thread.
 ghost use Rattle.std.specs.Prelude.{◌≡◌, [], IfOk};
 ghost use Rattle.cell_runs.specs.Followed.{IsFollowed};
-ghost use Rattle.cell_runs.specs.Rounds.{IsRun};
+ghost use Rattle.cell_runs.specs.Rounds.{IsRun, IsRunFrom};
 ghost use Rattle.cell_runs.specs.Runs.{limits_of};
 
 use crate::follow::{Following, follow_over};
@@ -9,6 +9,7 @@ use crate::ports::sim_ports;
 use crate::rounds::{Outcome, run_over};
 use cell_journal::Journal;
 use cell_ledger::Blanks;
+use cell_plant::Ported;
 use cell_sim::{FaultScript, World};
 use cell_workers::{OperatorPort, Plan};
 use operator_desk::Script;
@@ -17,8 +18,8 @@ use std::alloc::{AllocError, Global};
 use std::marker::Brand;
 use std::sync::{Mutex, Wait};
 
-// An empty book within a plan's limits.
-fn empty_book(alloc: Global, plan: &Plan) -> Result<Book, AllocError>
+/// An empty book within a plan's limits.
+pub(crate) fn empty_book(alloc: Global, plan: &Plan) -> Result<Book, AllocError>
     ensures { IfOk result (λ book. book ≡ record { limits = limits_of plan.now; entries = [] }) }
 {
     match Book::new(alloc, plan.journal_limit, plan.plates) {
@@ -27,23 +28,41 @@ fn empty_book(alloc: Global, plan: &Plan) -> Result<Book, AllocError>
     }
 }
 
-/// Runs the simulated cell over a world on one thread, in rounds, with these hands of the operator. The error is that
-/// the book's memory was refused.
-pub fn simulate<R: AllocGlobal + Wait, O: OperatorPort>(
+/// Runs the simulated cell over a world on one thread, in rounds, with these hands of the operator, from a book's
+/// journal on. The world is where that journal left the cell.
+pub fn simulate_from<R: AllocGlobal + Wait, O: OperatorPort + Drop>(
     rt: &R,
     plan: &Plan,
     faults: &FaultScript,
     script: Script,
     world: &Mutex<World>,
-    hands: &mut O,
+    hands: O,
+    book: Book,
+) -> Outcome
+    requires { book.limits ≡ limits_of plan.now }
+    ensures limits { result.book.limits ≡ limits_of plan.now }
+    ensures run { IsRunFrom (limits_of plan.now) plan.now book.entries script result.book.entries result.end }
+{
+    let ports = sim_ports(rt, world, faults);
+    let mut cell = Ported { ports, hands };
+    run_over::<_, _, Brand>(rt.alloc(), book, Blanks::new(1), &mut cell, script, plan)
+}
+
+/// Runs the simulated cell over a world on one thread, in rounds, with these hands of the operator. The error is that
+/// the book's memory was refused.
+pub fn simulate<R: AllocGlobal + Wait, O: OperatorPort + Drop>(
+    rt: &R,
+    plan: &Plan,
+    faults: &FaultScript,
+    script: Script,
+    world: &Mutex<World>,
+    hands: O,
 ) -> Result<Outcome, AllocError>
     ensures limits { IfOk result (λ outcome. outcome.book.limits ≡ limits_of plan.now) }
     ensures run { IfOk result (λ outcome. IsRun (limits_of plan.now) plan.now script outcome.book.entries outcome.end) }
 {
-    let alloc = rt.alloc();
-    let book = empty_book(alloc, plan)?;
-    let mut ports = sim_ports(rt, world, faults);
-    Ok(run_over::<_, _, Brand>(alloc, book, Blanks::new(1), &mut ports, hands, script, plan))
+    let book = empty_book(rt.alloc(), plan)?;
+    Ok(simulate_from(rt, plan, faults, script, world, hands, book))
 }
 
 /// Follows a journal over a world of the simulated cell on one thread, with these hands of the operator: for each of

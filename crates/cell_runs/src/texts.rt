@@ -74,8 +74,8 @@ fn write_rounds<R: AllocGlobal + Wait, W: Write>(
         durations,
     } = inputs;
     let world = Mutex::new(World::new(plan.plates).with_durations(durations));
-    let mut hands = SimOperator::new(rt, &world);
-    match simulate(rt, &plan, &faults, script, &world, &mut hands) {
+    let hands = SimOperator::new(rt, &world);
+    match simulate(rt, &plan, &faults, script, &world, hands) {
         Ok(outcome) => {
             let status = write_outcome(rt.alloc(), &outcome, journal, writer)?;
             let Outcome { book, end } = outcome;

@@ -59,8 +59,8 @@ pub(crate) fn run_texts<R: AllocGlobal + Wait>(
         Err(error) => return Err(NoRun::Refused(error)),
     };
     let world = Mutex::new(World::new(plan.plates).with_durations(durations));
-    let mut hands = SimOperator::new(rt, &world);
-    match simulate(rt, &plan, &faults, script, &world, &mut hands) {
+    let hands = SimOperator::new(rt, &world);
+    match simulate(rt, &plan, &faults, script, &world, hands) {
         Ok(outcome) if matches!(outcome.end, End::Memory) => Err(NoRun::OutOfMemory),
         Ok(outcome) => {
             let left = world.lock(rt).left();

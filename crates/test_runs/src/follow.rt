@@ -62,8 +62,8 @@ fn check_run<R: AllocGlobal + Abort + Threads + Wait + Sync>(
     check_whole(rt, journal.as_slice(), texts, printed, case)
 }
 
-// A case is as in `rounds`.
-const RUNS: [&str; 9] = [
+/// A case is as in `rounds`.
+pub(crate) const RUNS: [&str; 9] = [
     "plates = 5|||0|finished\nadmitted 5\nforged 5\nquarantined 0\ndelivered 5\n|0",
     // A press fails and is cleared, or is left so.
     "plates = 6|press_two,1,no_motion,\n|failed,press2,clear,press2\nfailed,press2,repair,press2\n\

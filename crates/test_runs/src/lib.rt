@@ -5,6 +5,8 @@
 #[cfg(test)]
 mod follow;
 #[cfg(test)]
+mod from;
+#[cfg(test)]
 mod refusals;
 #[cfg(test)]
 mod rounds;

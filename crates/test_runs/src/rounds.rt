@@ -80,9 +80,9 @@ fn count_inside(world: &World) -> u32 {
     count
 }
 
-// No machines may have met in a watched world, and no safety rule may be broken. What was laid in has to be at a
-// station, or taken out, removed or lost.
-fn check_world(rt: &impl Abort, world: &World, case: &str) {
+/// No machines may have met in a watched world, and no safety rule may be broken. What was laid in has to be at a
+/// station, or taken out, removed or lost.
+pub(crate) fn check_world(rt: &impl Abort, world: &World, case: &str) {
     assert!(rt; world.collisions() == 0, "{case}");
     for &rule in &SAFETY_RULES {
         assert!(rt; world.broken(rule) == 0, "{case}: {rule}");
@@ -110,8 +110,8 @@ fn simulated<'a, R: AllocGlobal + Wait + Abort>(
         script,
         ..
     } = inputs;
-    let mut hands = SimOperator::new(rt, world);
-    simulate(rt, &plan, &faults, script, world, &mut hands).expect(rt, case)
+    let hands = SimOperator::new(rt, world);
+    simulate(rt, &plan, &faults, script, world, hands).expect(rt, case)
 }
 
 // What a run over a watched world of its own comes to.

@@ -19,8 +19,8 @@ fn played<R: AllocGlobal + Wait + Abort>(rt: &R, removing: Failing, homing: Fail
     } = read_inputs(rt.alloc(), b"plates = 6", lines, operator).expect(rt, "the texts are good");
     let world = Mutex::new(World::new(plan.plates).with_durations(durations));
     let hands = SimOperator::new(rt, &world);
-    let mut hands = TellingHands::new(rt.alloc(), hands, removing, homing, 10).expect(rt, "memory");
-    simulate(rt, &plan, &faults, script, &world, &mut hands).expect(rt, "memory")
+    let hands = TellingHands::new(rt.alloc(), hands, removing, homing, 10).expect(rt, "memory");
+    simulate(rt, &plan, &faults, script, &world, hands).expect(rt, "memory")
 }
 
 // That run has to end so, with five plates forged and delivered and so many in quarantine, and with the press booked

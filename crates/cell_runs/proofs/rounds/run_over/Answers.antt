@@ -1,19 +1,19 @@
--- A run with an empty book starts where runs start, and its book has what its last round left
-use Rattle.std.proofs.Common.{◌∙◌, ap, rules}
-use Rattle.cell_rules.specs.History.{History}
-use Rattle.cell_runs.proofs.OneRound.{ended_started}
+-- A run goes on from the journal of its book, and what is left of it without the cell is one in rounds
+use Rattle.std.proofs.Common.{false, subst, sym}
+use Rattle.cell_workers.specs.declared.ends.End.{End}
+use Rattle.cell_runs.specs.Rounds.{Ended, start_from}
+use Rattle.cell_runs.proofs.Forgetting.{run_from}
 use Rattle.cell_runs.proofs.rounds.run_over.Goals as goal
 
 pub returns-clause-run : goal.returns-clause-run
-returns-clause-run g c = λ empty.
-    let kept = c.new-kept.ensures.book in
+returns-clause-run g c =
+    let ran = c.control-ran.result in
+    let B = c.args.book.entries in
+    let ended = run_from _ _ g.R.Run.limits c.args.plan.now false ran.halt _ _ _ _ B ran.book.entries c.args.script
+    (λ a b x told. told.0) (λ a b e kept is. is) c.control-ran.ensures.controlled in
     record {
-      legal = search rules;
+      legal = c.control-ran.ensures.legal;
       ended =
-          ended_started g.R.Run.limits c.new-kept.result.0.limits c.args.plan.now c.args.script c.args.book.entries
-          c.new-kept.result.0.entries c.run_rounds-end.new.cell.kept.entries c.into_book.result.entries
-          c.start-watches.result c.run_rounds-end.result
-          (ap (λ (h : History). h.entries) kept) empty (ap (λ (h : History). h.limits) kept ∙ c.requires.limits)
-          (ap (λ (h : History). h.entries) c.into_book.ensures) c.start-watches.ensures.fits
-          c.run_rounds-end.ensures.ended;
+          subst (λ (e : End). Ended g.R.Run.limits c.args.plan.now (start_from B c.args.script) ran.book.entries e)
+          (sym (c.end_of.ensures ended.0 ended.1)) ended.2;
     }

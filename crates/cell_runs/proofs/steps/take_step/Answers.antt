@@ -1,7 +1,7 @@
 -- A step is a schedule of one: where it is refused or stopped, the journal is as it was
 use Rattle.std.proofs.Common.{◌≡◌, ◌∙◌, ℕ, [], ◌∷◌, length, nat_eq, ap, arith}
 use Rattle.cell_runs.proofs.OneRound.{takes_of, step_booked, breaks_of, unchanged_if_refused, unchanged_if_stopped}
-use Rattle.cell_runs.proofs.rounds.take_step.Goals as goal
+use Rattle.cell_runs.proofs.steps.take_step.Goals as goal
 
 pub returns-in-Ok-2-clause-took : goal.returns-in-Ok-2-clause-took
 returns-in-Ok-2-clause-took g c = λ minds fits.

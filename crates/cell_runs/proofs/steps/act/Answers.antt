@@ -3,7 +3,7 @@ use Rattle.std.proofs.Common.{sym, ap, ◌∙◌, refl}
 use Rattle.cell_turns.specs.Schedules.{now}
 use Rattle.operator_desk.specs.Next.{next_of}
 use Rattle.cell_runs.proofs.OneRound.{act_rests, act_waits, act_books, act_fails}
-use Rattle.cell_runs.proofs.rounds.act.Goals as goal
+use Rattle.cell_runs.proofs.steps.act.Goals as goal
 
 pub returns-then-cell-clause-operates : goal.returns-then-cell-clause-operates
 returns-then-cell-clause-operates g c = λ minds fits.
