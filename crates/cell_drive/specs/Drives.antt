@@ -1,6 +1,6 @@
 -- What is written where a method drives the cell by the texts of a run
-use Rattle.std.specs.Prelude.{◌≡◌, ◌≢◌, ◌⊎◌, ◌<◌, ◌++◌, ℕ, Bool, true, false, List, [], ◌∷◌, Option, Result, Ok, Err}
-use Rattle.std.specs.Prelude.{codes, decimal, option_map, ⊤}
+use Rattle.std.specs.Prelude.{◌≡◌, ◌≢◌, ◌⊎◌, ◌<◌, ◌++◌, ℕ, Bool, true, false, List, [], ◌∷◌, Option, Some, None, Result}
+use Rattle.std.specs.Prelude.{Ok, Err, codes, decimal, option_map, ⊤}
 use Rattle.std.specs.Io.KnownBytes.{Appends}
 use Rattle.cell_output.specs.Numbers.{number_line}
 use Rattle.cell_rows.specs.Lines.{line}
@@ -16,20 +16,21 @@ use Rattle.cell_workers.specs.declared.ends.End.TheVariants as end
 use Rattle.operator_desk.specs.declared.line.Line.{Line}
 use Rattle.cell_method.specs.Lines.{Row, lines_of}
 use Rattle.cell_method.specs.Order.{Point, between}
-use Rattle.cell_method.specs.Rounds.{EndsAs, Leads, Stand}
+use Rattle.cell_method.specs.Rounds.{EndsAs, Leads, Stand, entry_lines}
 use Rattle.cell_method.specs.declared.rounds.DriveEnd.{DriveEnd}
 use Rattle.cell_method.specs.declared.rounds.DriveEnd.TheVariants as ends
 use Rattle.cell_runs.specs.Inputs.{AreInputs, WritesError, input_line, input_status}
 use Rattle.cell_runs.specs.Rounds.{IsRun}
 use Rattle.cell_runs.specs.Runs.{counts_after, limits_of}
+use Rattle.cell_runs.specs.RunsFrom.{TellsExceeded}
 use Rattle.cell_runs.specs.declared.inputs.Inputs.{Inputs}
 use Rattle.cell_runs.specs.declared.inputs.InputError.{InputError}
 
--- where a run by entries starts: nothing is booked, the ports and hands tell nothing, and the operator's script is
--- whole
-abbrev pub opening : List Line → Stand
-opening script = record {
-  journal = [];
+-- where a run by entries starts: these entries are booked, the ports and hands tell nothing, and the operator's script
+-- is whole
+abbrev pub opening : List Entry → List Line → Stand
+opening J script = record {
+  journal = J;
   logs = each (λ m. no_log);
   lines = script;
   hands = no_acts;
@@ -69,36 +70,50 @@ EndStatus ends.Finished status = (status ≡ 0) ⊎ (status ≡ 1)
 EndStatus ends.Memory status = status ≡ 4
 EndStatus _ status = status ≡ 1
 
--- a run by entries: events led from the opening to its end and to a legal journal, and what was written is the first
--- line, the text of these events and what is told of the run, with the status of that end
-pub record DrivesEntries (plan : Plan) (script : List Line) (all : Option (List (Option Row)))
+-- a run by entries that goes on from this journal: events led from the opening to its end and to a legal journal, and
+-- what was written is the first line, the entries of the journal, the text of these events and what is told of the run,
+-- with the status of that end
+pub record DrivesEntries (plan : Plan) (script : List Line) (J : List Entry) (all : Option (List (Option Row)))
     (old new : Option (List ℕ)) (status : ℕ) : Type 0 where
   pub after : Stand
   pub left : Option (List (Option Row))
   pub to : Point
-  pub leads : Leads (limits_of plan) (opening script) after between to all left
+  pub leads : Leads (limits_of plan) (opening J script) after between to all left
   pub legal : legal (limits_of plan) after.journal ≡ true
   pub ended : DriveEnd
   pub ends : EndsAs plan after to all left ended
   pub with_status : EndStatus ended status
   pub told : List ℕ
   pub tells : TellsEnd ended after.journal told
-  pub text : Appends old new (drive_line plan ++ (after.text ++ told))
+  pub text : Appends old new (drive_line plan ++ (entry_lines J ++ (after.text ++ told)))
+
+-- a run that goes on from this journal, or the line of the first entry of it that the plan's limits refuse
+abbrev pub DrivesAfter : Plan → List Line → List Entry → Option (List (Option Row)) → Option (List ℕ)
+    → Option (List ℕ) → ℕ → Type 0
+DrivesAfter plan script J all old new status = DrivesEntries plan script J all old new status
+    ⊎ TellsExceeded (limits_of plan) J old new status
+
+-- a run from the opening, or one that goes on from a journal, where there is one
+abbrev pub DrivesFrom : Plan → List Line → Option (List Entry) → Option (List (Option Row)) → Option (List ℕ)
+    → Option (List ℕ) → ℕ → Type 0
+DrivesFrom plan script None all old new status = DrivesEntries plan script [] all old new status
+DrivesFrom plan script (Some J) all old new status = DrivesAfter plan script J all old new status
 
 -- what is written by good texts; by commands nothing is said of it, nor where a device failed or memory was refused
-abbrev pub DrivesInputs : Bool → Option (List ℕ) → Option (List ℕ) → Option (List ℕ) → ℕ → Result Inputs InputError
-    → Type 0
-DrivesInputs raw input old new status (Err e) = WritesError old new (input_line e) (input_status e) status
-DrivesInputs true input old new status (Ok inputs) = ⊤
-DrivesInputs false input old new status (Ok inputs) = status < 3
-    → DrivesEntries inputs.plan inputs.script (lines_in input) old new status
+abbrev pub DrivesInputs : Bool → Option (List Entry) → Option (List ℕ) → Option (List ℕ) → Option (List ℕ) → ℕ
+    → Result Inputs InputError → Type 0
+DrivesInputs raw from input old new status (Err e) = WritesError old new (input_line e) (input_status e) status
+DrivesInputs true from input old new status (Ok inputs) = ⊤
+DrivesInputs false from input old new status (Ok inputs) = status < 3
+    → DrivesFrom inputs.plan inputs.script from (lines_in input) old new status
 
--- what is written by the texts of a run, or by the first of them that is refused
-abbrev pub DrivesTexts : List ℕ → List ℕ → List ℕ → Bool → Option (List ℕ) → Option (List ℕ) → Option (List ℕ) → ℕ
-    → Type 0
-DrivesTexts settings faults operator raw input old new status =
+-- what is written by the texts of a run and the journal from which it goes on, where there is one, or by the first of
+-- them that is refused
+abbrev pub DrivesTexts : List ℕ → List ℕ → List ℕ → Bool → Option (List Entry) → Option (List ℕ) → Option (List ℕ)
+    → Option (List ℕ) → ℕ → Type 0
+DrivesTexts settings faults operator raw from input old new status =
     (inputs : Result Inputs InputError) × AreInputs settings faults operator inputs
-    × DrivesInputs raw input old new status inputs
+    × DrivesInputs raw from input old new status inputs
 
 -- the lines of how many rounds a run took and how many entries its journal has
 abbrev pub run_counts : ℕ → ℕ → List ℕ

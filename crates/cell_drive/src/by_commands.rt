@@ -295,6 +295,7 @@ pub(crate) fn drive_commands<R: AllocGlobal + Wait, I: TellsFault, W: Write, E: 
     writer: &mut W,
     errors: &mut E,
 ) -> Result<u8, DriveError> {
+    let measures = Measures::new(rt.alloc(), &world);
     let world = Mutex::new(world);
     let mut run = Run {
         rt,
@@ -305,7 +306,7 @@ pub(crate) fn drive_commands<R: AllocGlobal + Wait, I: TellsFault, W: Write, E: 
         done: 0,
         commands: 0,
         stays: false,
-        measures: Measures::new(rt.alloc()),
+        measures,
         unread: None,
     };
     let ended = take_rounds(&mut run, plan, lines, writer)?;

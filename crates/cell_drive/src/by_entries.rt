@@ -1,12 +1,14 @@
 //! A run by entries.
 ghost use Rattle.std.specs.Prelude.{◌≡◌, ◌≢◌, ◌<◌, [], ℕ, List, IfOk, IsErrOf, IsTrue, Ok, OnOk, true};
+ghost use Rattle.std.specs.Prelude.{option_map};
 ghost use Rattle.std.specs.Io.KnownBytes.{Appends};
 ghost use Rattle.cell_audit.specs.Text.{text_of};
 ghost use Rattle.cell_output.specs.Watched.{bytes_held, has_refused};
 ghost use Rattle.cell_runs.specs.Runs.{limits_of};
 ghost use Rattle.cell_method.specs.Lines.{lines_left};
-ghost use Rattle.cell_drive.specs.Drives.{DrivesEntries, EndStatus, TellsEnd};
+ghost use Rattle.cell_drive.specs.Drives.{DrivesEntries, DrivesFrom, EndStatus, TellsEnd};
 
+use crate::begun::{refuse_journal, world_after};
 use crate::looker::Looker;
 use crate::report::{
     end_text, explain_broken, explain_unread, explain_untrue, write_refusals, write_times,
@@ -16,11 +18,11 @@ use crate::texts::{Told, begin, status_of, write_told};
 use cell_audit::{WriteError, write_journal_watched};
 use cell_journal::Journal;
 use cell_measures::Durations;
-use cell_method::{DriveEnd, DriveError, LineReader, drive};
+use cell_method::{DriveEnd, DriveError, LineReader, drive, tell_entries};
 use cell_output::WatchedWriter;
 use cell_ports::Plan;
 use cell_rows::TellsFault;
-use cell_runs::{Inputs, sim_ports};
+use cell_runs::{Inputs, book_after, sim_ports};
 use cell_sim::{SimOperator, World};
 use plate_book::Book;
 use std::alloc::Global;
@@ -163,18 +165,22 @@ fn tell_run<R: AllocGlobal + Wait, W: Write, E: Write>(
     Ok(status)
 }
 
-/// Lets a method drive the simulated cell by entries, tells what came of it, and gives the status.
-pub(crate) fn drive_entries<R: AllocGlobal + Wait, I: TellsFault, W: Write, E: Write>(
+// Lets a method drive the simulated cell by entries from where a book and a world are, tells what came of it, and gives
+// the status.
+fn drive_on<R: AllocGlobal + Wait, I: TellsFault, W: Write, E: Write>(
     rt: &R,
     inputs: Inputs,
+    mut book: Book,
+    world: World,
     told: Told,
     lines: &mut LineReader<I>,
     writer: &mut W,
     errors: &mut E,
 ) -> Result<u8, DriveError>
+    requires { book.limits ≡ limits_of inputs.plan }
     ensures { IfOk result (λ status. status < 3
-        → DrivesEntries inputs.plan inputs.script (lines_left I.remaining lines.old) (W.contents writer.old)
-        (W.contents writer.new) status) }
+        → DrivesEntries inputs.plan inputs.script book.entries (lines_left I.remaining lines.old)
+        (W.contents writer.old) (W.contents writer.new) status) }
 {
     let Inputs {
         plan,
@@ -183,12 +189,12 @@ pub(crate) fn drive_entries<R: AllocGlobal + Wait, I: TellsFault, W: Write, E: W
         durations,
     } = inputs;
     let alloc = rt.alloc();
-    let mut book = empty_book(alloc, &plan)?;
-    let world = Mutex::new(World::watched(plan.plates).with_durations(durations));
+    let world = Mutex::new(world);
     let mut ports = sim_ports(rt, &world, &faults);
     let mut hands = SimOperator::new(rt, &world);
     let mut looker = Looker::new(alloc, rt, &world);
     begin(writer, &plan)?;
+    tell_entries(writer, book.journal())?;
     let ran = drive(
         lines,
         &mut book,
@@ -211,4 +217,33 @@ pub(crate) fn drive_entries<R: AllocGlobal + Wait, I: TellsFault, W: Write, E: W
         writer,
         errors,
     )
+}
+
+/// Lets a method drive the simulated cell by entries, from the opening or from where a journal left it, tells what came
+/// of it, and gives the status; or tells which entry of the journal the plan's limits refuse.
+pub(crate) fn drive_entries<R: AllocGlobal + Wait, I: TellsFault, W: Write, E: Write>(
+    rt: &R,
+    inputs: Inputs,
+    from: Option<&Journal>,
+    told: Told,
+    lines: &mut LineReader<I>,
+    writer: &mut W,
+    errors: &mut E,
+) -> Result<u8, DriveError>
+    ensures { IfOk result (λ status. status < 3
+        → DrivesFrom inputs.plan inputs.script (option_map (λ j. j.now.entries) from.entry)
+        (lines_left I.remaining lines.old) (W.contents writer.old) (W.contents writer.new) status) }
+{
+    let Some(journal) = from else {
+        let book = empty_book(rt.alloc(), &inputs.plan)?;
+        let world = World::watched(inputs.plan.plates).with_durations(inputs.durations);
+        return drive_on(rt, inputs, book, world, told, lines, writer, errors);
+    };
+    match book_after(rt.alloc(), &inputs.plan, journal) {
+        Ok(book) => {
+            let world = world_after(&book, &inputs.plan, inputs.durations);
+            drive_on(rt, inputs, book, world, told, lines, writer, errors)
+        }
+        Err(error) => refuse_journal(writer, error),
+    }
 }

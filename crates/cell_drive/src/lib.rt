@@ -2,6 +2,7 @@
 //! by commands to the bare machines, with what is measured of a run.
 #![tactic(auto)]
 
+mod begun;
 mod by_commands;
 mod by_entries;
 mod looker;

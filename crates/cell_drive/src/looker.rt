@@ -6,7 +6,7 @@ use crate::untruth::{Untruth, Untruths, contradiction};
 use cell_method::Onlooker;
 use cell_rows::Four;
 use cell_sim::World;
-use cell_types::{Entry, PlateId, Station};
+use cell_types::{Entry, PlateId, STATIONS, Station};
 use plate_book::Refusal;
 use std::alloc::{AllocError, Global};
 use std::sync::{Mutex, Wait};
@@ -31,19 +31,24 @@ pub(crate) struct Looker<'a, R: Wait> {
 }
 
 impl<'a, R: Wait> Looker<'a, R> {
-    /// What looks on in a world, before the first round.
+    /// What looks on in a world, before the first round. The plates that are in it are the book's of their numbers.
     pub(crate) fn new(alloc: Global, rt: &'a R, world: &'a Mutex<World>) -> Looker<'a, R> {
-        Looker {
+        let measures = Measures::new(alloc, &world.lock(rt));
+        let mut looker = Looker {
             rt,
             world,
-            measures: Measures::new(alloc),
+            measures,
             refusals: Refusals::none(),
             untruths: Untruths::none(),
             unread: None,
             lines: 0,
             numbers: Vec::new(alloc),
             lacks_memory: false,
+        };
+        for station in STATIONS {
+            looker.note_there(station);
         }
+        looker
     }
 
     /// Whether memory was refused for what is told of the run.
@@ -71,6 +76,19 @@ impl<'a, R: Wait> Looker<'a, R> {
             *kept = number;
         }
         Ok(())
+    }
+
+    // Keeps that the plate at a station, if there is one, is the book's of its number.
+    fn note_there(&mut self, station: Station) {
+        let Some(number) = self.world.lock(self.rt).plate_at(station) else {
+            return;
+        };
+        let Some(plate) = PlateId::new(number) else {
+            return;
+        };
+        if self.keep(plate, number).is_err() {
+            self.lacks_memory = true;
+        }
     }
 
     // Keeps which plate of the world is the plate that was laid in.

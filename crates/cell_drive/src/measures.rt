@@ -7,7 +7,9 @@ use std::alloc::{AllocError, Global};
 pub(crate) struct Measures {
     /// How many rounds were opened. At `u32::MAX` the count stays.
     rounds: u32,
-    /// The round in which each plate was laid in, in the order in which they were.
+    /// How many plates were laid in before the first round.
+    before: u32,
+    /// The round in which each later plate was laid in, in the order in which they were.
     laid: Vec<u32>,
     /// How many plates were taken out so far.
     taken_out: u32,
@@ -27,12 +29,13 @@ pub(crate) struct Stays {
 }
 
 impl Measures {
-    /// Before the first round.
-    pub(crate) fn new(alloc: Global) -> Measures {
+    /// Before the first round in a world.
+    pub(crate) fn new(alloc: Global, world: &World) -> Measures {
         Measures {
             rounds: 0,
+            before: world.laid(),
             laid: Vec::new(alloc),
-            taken_out: 0,
+            taken_out: world.taken_out(),
             stays: Vec::new(alloc),
             lacks_memory: false,
         }
@@ -63,7 +66,7 @@ impl Measures {
     }
 
     fn note_laid(&mut self, world: &World) -> Result<(), AllocError> {
-        if world.laid() as usize > self.laid.len() {
+        if world.laid().saturating_sub(self.before) as usize > self.laid.len() {
             self.laid.push(self.rounds)?;
         }
         Ok(())
@@ -80,11 +83,15 @@ impl Measures {
         Ok(())
     }
 
-    // How many rounds a plate has been in the cell, by the number at which it was laid in, from 1.
+    // How many rounds a plate has been in the cell, by the number at which it was laid in, from 1. One that was there
+    // before the first round counts as laid in then.
     fn stay_of(&self, plate: Option<u32>) -> Option<u32> {
         let place = plate?.checked_sub(1)?;
-        let laid = self.laid.get(place as usize)?;
-        Some(self.rounds.saturating_sub(*laid))
+        let laid = match place.checked_sub(self.before) {
+            Some(later) => *self.laid.get(later as usize)?,
+            None => 1,
+        };
+        Some(self.rounds.saturating_sub(laid))
     }
 
     /// The stays of the plates that were taken out, if any were. It leaves them in the order of their lengths.

@@ -14,6 +14,7 @@ use cell_diagnosis::Reading;
 use cell_ledger::Blanks;
 use cell_measures::Durations;
 use cell_output::{WriteFault, status};
+use cell_plant::Ported;
 use cell_ports::{Plan, Port, PortFault};
 use cell_rows::LineError;
 use cell_runs::{InputError, Inputs, Outcome, read_inputs, run_over};
@@ -112,17 +113,11 @@ fn run_own<R: AllocGlobal + Wait>(
     let Ok(book) = empty_book(alloc, plan) else {
         return Err(AllocError);
     };
-    let mut ports = gauges.ports();
-    let mut hands = SimOperator::new(gauges.rt, gauges.world);
-    Ok(run_over::<_, _, Brand>(
-        alloc,
-        book,
-        Blanks::new(1),
-        &mut ports,
-        &mut hands,
-        script,
-        plan,
-    ))
+    let mut cell = Ported {
+        ports: gauges.ports(),
+        hands: SimOperator::new(gauges.rt, gauges.world),
+    };
+    Ok(run_over::<_, _, Brand>(alloc, book, Blanks::new(1), &mut cell, script, plan))
 }
 
 // How many rounds a run took and how many entries its journal has, as it is told.
@@ -175,8 +170,9 @@ fn measured<R: AllocGlobal + Wait>(rt: &R, inputs: Inputs) -> Option<Vec<u8>>
         script,
         durations,
     } = inputs;
-    let world = Mutex::new(World::watched(plan.plates).with_durations(durations));
-    let measures = Mutex::new(Measures::new(rt.alloc()));
+    let world = World::watched(plan.plates).with_durations(durations);
+    let measures = Mutex::new(Measures::new(rt.alloc(), &world));
+    let world = Mutex::new(world);
     let gauges = Gauges {
         rt,
         world: &world,

@@ -1,24 +1,26 @@
 //! A run by its texts.
-ghost use Rattle.std.specs.Prelude.{◌≡◌, ◌<◌, Ok, IfOk, OnOk};
+ghost use Rattle.std.specs.Prelude.{◌≡◌, ◌<◌, Ok, IfOk, OnOk, option_map};
 ghost use Rattle.std.specs.Io.KnownBytes.{Appends};
 ghost use Rattle.cell_drive.specs.Drives.{DrivesTexts, EndStatus, drive_line};
 
+use crate::begun::{refuse_journal, world_after};
 use crate::by_commands::{drive_commands, raw_script};
 use crate::by_entries::drive_entries;
+use cell_journal::Journal;
 use cell_measures::Durations;
-use cell_method::{DriveEnd, DriveError, LineReader};
+use cell_method::{DriveEnd, DriveError, LineReader, tell_entries};
 use cell_output::{WatchedWriter, WriteFault, status};
 use cell_ports::Plan;
 use cell_rows::{TellsFault, Watched};
-use cell_runs::{InputError, Inputs, read_inputs, refuse_input};
+use cell_runs::{InputError, Inputs, book_after, read_inputs, refuse_input};
 use cell_sim::World;
 use std::io;
 use std::io::{BufReader, Read, Write};
 use std::sync::Wait;
 
-/// How a method drives the cell, and what is told besides.
-#[derive(Clone, Copy, Debug, PartialEq, Eq)]
-pub struct DriveOptions {
+/// How a method drives the cell, from where, and what is told besides.
+#[derive(Clone, Copy, Debug)]
+pub struct DriveOptions<'a> {
     /// Whether it sends commands to the bare machines, and books no entries.
     pub raw: bool,
     /// Whether the journal is written to the errors at the end.
@@ -27,6 +29,8 @@ pub struct DriveOptions {
     pub explain: bool,
     /// How many readings each motion takes.
     pub durations: Durations,
+    /// The journal that left the cell where the run begins; where there is none, it begins at the opening.
+    pub from: Option<&'a Journal>,
 }
 
 /// What is told to the errors at the end of a run.
@@ -65,6 +69,7 @@ fn drive_raw<R: AllocGlobal + Wait, I: TellsFault, W: Write, E: Write>(
     rt: &R,
     inputs: Inputs,
     operator: &[u8],
+    from: Option<&Journal>,
     told: Told,
     lines: &mut LineReader<I>,
     output: &mut W,
@@ -83,8 +88,17 @@ fn drive_raw<R: AllocGlobal + Wait, I: TellsFault, W: Write, E: Write>(
             return told.map_err(|_| DriveError::WriteFault);
         }
     };
+    let world = match from {
+        Some(journal) => match book_after(rt.alloc(), &plan, journal) {
+            Ok(book) => world_after(&book, &plan, durations),
+            Err(error) => return refuse_journal(output, error),
+        },
+        None => World::watched(plan.plates).with_durations(durations),
+    };
     begin(output, &plan)?;
-    let world = World::watched(plan.plates).with_durations(durations);
+    if let Some(journal) = from {
+        tell_entries(output, journal)?;
+    }
     drive_commands(
         rt, &plan, &faults, script, world, told, lines, output, errors,
     )
@@ -111,21 +125,24 @@ pub(crate) fn write_told<W: Write>(output: &mut W, text: &[u8]) -> Result<(), Dr
 /// Reads the texts of a run, the settings, the script of faults and the operator's script, and lets a method drive the
 /// simulated cell by the lines that it reads and writes; gives the exit status.
 ///
-/// The first text that is refused is told as by `run_texts`, and nothing of the protocol is written. A reader that
+/// The first text that is refused is told as by `run_texts`, and nothing of the protocol is written. So it is where an
+/// entry of the journal from which the run goes on isn't within the settings' limits, as by an audit. A reader that
 /// fails ends the run with status 3. Want of memory before the first round gives status 4 with nothing more written.
 pub fn drive_texts<R: AllocGlobal + Wait, I: Read + Drop, W: Write, E: Write>(
     rt: &R,
     settings: &[u8],
     faults: &[u8],
     operator: &[u8],
-    driving: DriveOptions,
+    driving: DriveOptions<'_>,
     input: I,
     output: &mut W,
     errors: &mut E,
 ) -> Result<u8, WriteFault>
-    // What is written is of the first text that is refused, or of a run by entries within the settings' limits.
-    ensures { IfOk result (DrivesTexts settings.now faults.now operator.now driving.raw (I.remaining input)
-        (W.contents output.old) (W.contents output.new)) }
+    // What is written is of the first text that is refused, of the journal's first entry that the settings' limits
+    // refuse, or of a run by entries within these limits that goes on from the journal, where there is one.
+    ensures { IfOk result (DrivesTexts settings.now faults.now operator.now driving.entry.raw
+        (option_map (λ j. j.now.entries) driving.entry.from) (I.remaining input) (W.contents output.old)
+        (W.contents output.new)) }
 {
     let inputs = match read_inputs(rt.alloc(), settings, faults, operator) {
         Ok(mut inputs) => {
@@ -143,9 +160,18 @@ pub fn drive_texts<R: AllocGlobal + Wait, I: Read + Drop, W: Write, E: Write>(
         explain: driving.explain,
     };
     if driving.raw {
-        let ran = drive_raw(rt, inputs, operator, told, &mut lines, output, errors);
+        let ran = drive_raw(
+            rt,
+            inputs,
+            operator,
+            driving.from,
+            told,
+            &mut lines,
+            output,
+            errors,
+        );
         return ended(ran);
     }
-    let ran = drive_entries(rt, inputs, told, &mut lines, output, errors);
+    let ran = drive_entries(rt, inputs, driving.from, told, &mut lines, output, errors);
     ended(ran)
 }

@@ -5,3 +5,4 @@ pub mod Marks
 pub mod Runs
 pub mod Turns
 pub mod Ending
+pub mod EntryLines

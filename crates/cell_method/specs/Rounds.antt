@@ -1,8 +1,8 @@
 -- A run: where it stands, what happens in it, and where that leads
 use Rattle.std.specs.Prelude.{◌≡◌, ◌+◌, ℕ, List, [], ◌∷◌, ◌++◌, length, Option, Some, None, Bool, true, false, ⊤}
-use Rattle.std.specs.Prelude.{◌&&◌, ◌⊎◌, is_some}
+use Rattle.std.specs.Prelude.{◌&&◌, ◌⊎◌, is_some, map}
 use Rattle.std.specs.Io.KnownBytes.{Appends}
-use Rattle.cell_rows.specs.Lines.{line}
+use Rattle.cell_rows.specs.Lines.{line, lines_of}
 use Rattle.cell_types.specs.Entries.{actor_of, command_of}
 use Rattle.cell_types.specs.Spelling.{record_of}
 use Rattle.cell_types.specs.declared.words.Actor.{Actor}
@@ -80,6 +80,10 @@ history l J = record { limits = l; entries = J }
 -- the line of an entry's record
 abbrev pub entry_line : Entry → List ℕ
 entry_line e = line (record_of e)
+
+-- the lines of the entries of a journal, one after the other: its text, but for the line of its profile
+abbrev pub entry_lines : List Entry → List ℕ
+entry_lines J = lines_of (map record_of J)
 
 -- his hands can fail only where the action wants an act
 abbrev pub can_fail : Action → Bool

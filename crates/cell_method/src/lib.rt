@@ -7,6 +7,7 @@
 
 mod ask;
 mod booking;
+mod entry_line;
 mod error;
 mod line;
 mod onlooker;
@@ -18,6 +19,7 @@ mod split;
 
 pub use ask::{Ask, ask_of};
 pub use booking::MAX_LINES;
+pub use entry_line::tell_entries;
 pub use error::DriveError;
 pub use line::{LineReader, ReadFault};
 pub use onlooker::Onlooker;

@@ -1,5 +1,5 @@
 //! Runs by entries.
-use crate::sample::{ENTRIES, OPENING, begins, driven, has_line};
+use crate::sample::{ENTRIES, OPENING, begins, driven, has_line, patient};
 use cell_drive::DriveOptions;
 use std::process::Abort;
 use std::sync::Wait;
@@ -20,22 +20,6 @@ unreadable,,,\nunreadable,,,\nok,2,,\n";
         "reading,feed,,feed_in\nreading,table,low/belt,\nreading,robot,table1/in/in,\nreading,press1,middle,\n\
 reading,press2,middle,\nreading,deposit,,\nround,2,,\nok,3,,\nend,quit,,\nadmitted 1\n";
     begins(&rt, &written, &[OPENING, answers, next])
-}
-
-// The lines of a method that books the entries of a journal's text, and waits after each command to move and each green
-// light.
-fn patient<R: AllocGlobal>(rt: &R, journal: &[u8]) -> Result<Vec<u8>, Fail> {
-    let mut lines = Vec::new(rt.alloc());
-    for record in journal.split(|byte| *byte == b'\n').skip(1) {
-        lines.extend_from_slice(record)?;
-        lines.push(b'\n')?;
-        if record.starts_with(b"started") {
-            lines.extend_from_slice(b"done,,,\ndone,,,\ndone,,,\ndone,,,\n")?;
-        } else if record.ends_with(b"green,") || record.starts_with(b"delivered") {
-            lines.extend_from_slice(b"done,,,\n")?;
-        }
-    }
-    Ok(lines)
 }
 
 #[test]

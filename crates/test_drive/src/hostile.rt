@@ -60,7 +60,7 @@ fn a_round_has_ten_thousand_lines_at_most(rt: HostRuntime) -> Result<(), Fail> {
 }
 
 // The answer where the reader gives this many bytes of `lamp,feed,green,` and then fails.
-fn over_failing_reader<R: AllocGlobal + Abort + Wait>(rt: &R, driving: DriveOptions) {
+fn over_failing_reader<R: AllocGlobal + Abort + Wait>(rt: &R, driving: DriveOptions<'_>) {
     let mut output = Vec::new(rt.alloc());
     let mut errors = Vec::new(rt.alloc());
     let lines = FailingReader::new(b"lamp,feed,green,\nlamp".as_slice(), 19);

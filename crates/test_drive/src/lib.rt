@@ -14,3 +14,5 @@ mod own;
 mod sample;
 #[cfg(test)]
 mod sweep;
+#[cfg(test)]
+mod takeover;

@@ -6,19 +6,21 @@ use std::sync::Wait;
 use std::test::Fail;
 
 /// By entries, and nothing told besides.
-pub(crate) const ENTRIES: DriveOptions = DriveOptions {
+pub(crate) const ENTRIES: DriveOptions<'static> = DriveOptions {
     raw: false,
     journal: false,
     explain: false,
     durations: Durations::ONE,
+    from: None,
 };
 
 /// By commands, and nothing told besides.
-pub(crate) const COMMANDS: DriveOptions = DriveOptions {
+pub(crate) const COMMANDS: DriveOptions<'static> = DriveOptions {
     raw: true,
     journal: false,
     explain: false,
     durations: Durations::ONE,
+    from: None,
 };
 
 /// What the machines show at the opening, and that the first round is open.
@@ -45,7 +47,7 @@ pub(crate) struct Written {
 pub(crate) fn driven<R: AllocGlobal + Abort + Wait>(
     rt: &R,
     [settings, faults, operator]: [&str; 3],
-    driving: DriveOptions,
+    driving: DriveOptions<'_>,
     lines: &[u8],
     status: u8,
 ) -> Written {
@@ -93,4 +95,20 @@ pub(crate) fn joined<R: AllocGlobal>(rt: &R, parts: &[&str]) -> Result<Vec<u8>, 
         text.extend_from_slice(part.as_bytes())?;
     }
     Ok(text)
+}
+
+/// The lines of a method that books the entries of a journal's text, and waits after each command to move and each
+/// green light.
+pub(crate) fn patient<R: AllocGlobal>(rt: &R, journal: &[u8]) -> Result<Vec<u8>, Fail> {
+    let mut lines = Vec::new(rt.alloc());
+    for record in journal.split(|byte| *byte == b'\n').skip(1) {
+        lines.extend_from_slice(record)?;
+        lines.push(b'\n')?;
+        if record.starts_with(b"started") {
+            lines.extend_from_slice(b"done,,,\ndone,,,\ndone,,,\ndone,,,\n")?;
+        } else if record.ends_with(b"green,") || record.starts_with(b"delivered") {
+            lines.extend_from_slice(b"done,,,\n")?;
+        }
+    }
+    Ok(lines)
 }

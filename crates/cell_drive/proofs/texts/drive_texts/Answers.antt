@@ -2,7 +2,7 @@
 use Rattle.std.proofs.Common.{◌∙◌, Ok, ap, option_map, subst}
 use Rattle.std.proofs.lemmas.Result.{IfOk-weaker}
 use Rattle.cell_method.specs.Lines.{lines_of}
-use Rattle.cell_drive.specs.Drives.{DrivesEntries}
+use Rattle.cell_drive.specs.Drives.{DrivesFrom}
 use Rattle.cell_drive.proofs.Drove.{of-status}
 use Rattle.cell_drive.proofs.Opened.{unread}
 use Rattle.cell_drive.proofs.texts.drive_texts.Goals as goal
@@ -17,7 +17,8 @@ returns g c =
       Ok c.in-Ok.inputs,
       c.in-Ok.ensures,
       λ few.
-          subst (λ all. DrivesEntries c.in-Ok.inputs.plan c.in-Ok.inputs.script all
-          (g.W.Write.contents c.args.output.now) (g.W.Write.contents c.drive_entries-ran.new.writer) status) lines
+          subst (λ all. DrivesFrom c.in-Ok.inputs.plan c.in-Ok.inputs.script
+          (option_map (λ j. j.now.entries) c.args.driving.from) all (g.W.Write.contents c.args.output.now)
+          (g.W.Write.contents c.drive_entries-ran.new.writer) status) lines
           (of-status _ c.drive_entries-ran.result status same c.drive_entries-ran.ensures few),
     )) c.ended-2.ensures)
