@@ -6,9 +6,9 @@ use Rattle.clap.specs.declared.parser.matches.Found.{Found}
 use Rattle.clap.proofs.WalkLemmas.{raw_values-rows}
 use Rattle.cell_command.specs.Orders.{values_or_none}
 use Rattle.cell_command.specs.Shape.{accompanied, cellctl, checking, control, controlling, driving, explain, explore}
-use Rattle.cell_command.specs.Shape.{exploring, file_rule, flag_rule, flagged, journal_rule, judging, measure}
-use Rattle.cell_command.specs.Shape.{measuring, optional_rule, path_rule, pictured, reading, repeated_rule, scripted}
-use Rattle.cell_command.specs.Shape.{several_rule, show, showing, simulating, sweep, sweeping}
+use Rattle.cell_command.specs.Shape.{exploring, file_rule, flag_rule, flagged, in_rounds, journal_rule, judging}
+use Rattle.cell_command.specs.Shape.{measure, measuring, optional_rule, path_rule, pictured, reading, repeated_rule}
+use Rattle.cell_command.specs.Shape.{scripted, several_rule, show, showing, simulating, sweep, sweeping}
 
 abbrev pub both : {X A B : Type 0} → (X → A) → (X → B) → X → A × B
 both f g x = (f x, g x)
@@ -42,12 +42,12 @@ any-values found id texts h = ap values_or_none (h ∙ raw_values-rows found id)
 -- the program's command line is one of which clap's definitions tell the matches and the faults
 pub cellctl-simple : is_simple cellctl ≡ true
 unfolding accompanied checking control controlling driving explain explore exploring file_rule flag_rule flagged
-    journal_rule judging measure measuring optional_rule path_rule pictured reading repeated_rule scripted several_rule
-    show showing simulating sweep sweeping
+    in_rounds journal_rule judging measure measuring optional_rule path_rule pictured reading repeated_rule scripted
+    several_rule show showing simulating sweep sweeping
 cellctl-simple = refl
 
 pub cellctl-free : is_simple_and_free cellctl ≡ true
 unfolding accompanied checking control controlling driving explain explore exploring file_rule flag_rule flagged
-    journal_rule judging measure measuring optional_rule path_rule pictured reading repeated_rule scripted several_rule
-    show showing simulating sweep sweeping
+    in_rounds journal_rule judging measure measuring optional_rule path_rule pictured reading repeated_rule scripted
+    several_rule show showing simulating sweep sweeping
 cellctl-free = refl

@@ -3,6 +3,7 @@ use Rattle.std.specs.Prelude.{◌≡◌, ℕ, Bool, true, false, List, Option, S
 use Rattle.std.specs.Borrow.{Bor}
 use Rattle.clap.specs.Words.{Row, Text, all_of, first_of, one_of, subcommand_of}
 use Rattle.cell_command.specs.Shape.{cellctl}
+use Rattle.cell_command.specs.declared.order.Continuing.{Continuing}
 use Rattle.cell_command.specs.declared.order.Controlling.{Controlling}
 use Rattle.cell_command.specs.declared.order.Driving.{Driving}
 use Rattle.cell_command.specs.declared.order.Explaining.{Explaining}
@@ -52,9 +53,15 @@ abbrev pub IsRun : List Row → Running → Type 0
 IsRun rows r = HasFlag rows (codes "journal") r.journal × HasFlag rows (codes "explain") r.explain
     × HasValue rows (codes "times") r.times × HasPaths rows r.paths
 
--- the flag for bare machines, and the flags and files of a run
+-- the files of the journals from which a run goes on and that is to be followed, the flag for measures, and the flags
+-- and files of a run
+abbrev pub IsContinued : List Row → Continuing → Type 0
+IsContinued rows c = HasPath rows (codes "from") c.from.now × HasValue rows (codes "follow") c.follow
+    × HasFlag rows (codes "measures") c.measures × IsRun rows c.running
+
+-- the flag for bare machines, the file of the journal from which the run goes on, and the flags and files of a run
 abbrev pub IsDriven : List Row → Driving → Type 0
-IsDriven rows d = HasFlag rows (codes "raw") d.raw × IsRun rows d.running
+IsDriven rows d = HasFlag rows (codes "raw") d.raw × HasValue rows (codes "from") d.from × IsRun rows d.running
 
 -- the journal's file, the flags and the two files of a run that controls a cell
 abbrev pub IsControlled : List Row → Controlling → Type 0
@@ -115,12 +122,13 @@ Fits name rows (order.Show showing) = (name ≡ codes "show") × IsShown rows sh
 Fits name rows (order.Explain explaining) = (name ≡ codes "explain") × IsExplained rows explaining
 Fits name rows (order.Measure measuring) = (name ≡ codes "measure") × IsMeasured rows measuring
 Fits name rows (order.Check path) = (name ≡ codes "check") × HasPath rows (codes "settings") path.now
-Fits name rows (order.Sim running) = (name ≡ codes "sim") × HasValue rows (codes "follow") None
-    × HasFlag rows (codes "measures") false × IsRun rows running
-Fits name rows (order.SimMeasured running) = (name ≡ codes "sim") × HasValue rows (codes "follow") None
-    × HasFlag rows (codes "measures") true × IsRun rows running
-Fits name rows (order.Follow path running) = (name ≡ codes "sim") × HasValue rows (codes "follow") (Some path)
-    × IsRun rows running
+Fits name rows (order.Sim running) = (name ≡ codes "sim") × HasValue rows (codes "from") None
+    × HasValue rows (codes "follow") None × HasFlag rows (codes "measures") false × IsRun rows running
+Fits name rows (order.SimMeasured running) = (name ≡ codes "sim") × HasValue rows (codes "from") None
+    × HasValue rows (codes "follow") None × HasFlag rows (codes "measures") true × IsRun rows running
+Fits name rows (order.Follow path running) = (name ≡ codes "sim") × HasValue rows (codes "from") None
+    × HasValue rows (codes "follow") (Some path) × IsRun rows running
+Fits name rows (order.SimFrom continuing) = (name ≡ codes "sim") × IsContinued rows continuing
 Fits name rows (order.Sweep sweeping) = (name ≡ codes "sweep") × IsSwept rows sweeping
 Fits name rows (order.Explore exploring) = (name ≡ codes "explore") × IsExplored rows exploring
 Fits name rows (order.Drive driving) = (name ≡ codes "drive") × IsDriven rows driving

@@ -87,11 +87,15 @@ scripted a = with_rule (with_rule a (path_rule (codes "faults"))) (path_rule (co
 abbrev pub filed : App → App
 filed a = scripted (with_rule a (path_rule (codes "settings")))
 
--- the command that runs the cell on one thread, with the option for the file of a journal that is followed and the flag
--- for measures
+-- a command that runs the cell in rounds, with the options for the files of a journal that is followed and of one from
+-- which the run goes on, and the flag for measures
+unfoldable pub in_rounds : App → App
+in_rounds a = with_rule (with_rule (with_rule a (file_rule (codes "follow"))) (file_rule (codes "from")))
+    (flag_rule (codes "measures"))
+
+-- the command that runs the cell on one thread
 abbrev pub sim : App
-sim = filed (with_rule (with_rule (flagged (new_app (codes "sim"))) (file_rule (codes "follow")))
-    (flag_rule (codes "measures")))
+sim = filed (in_rounds (flagged (new_app (codes "sim"))))
 
 -- the command that runs the cell once for each fault: the options with the kinds and with how many motions, the flags
 -- of the service and of CSV, and the paths of the settings and of the operator's script
@@ -111,9 +115,12 @@ explore =
     with_rule (with_rule (with_rule asked (file_rule (codes "limit"))) (flag_rule (codes "journal")))
     (path_rule (codes "plates"))
 
--- the command by which a method drives the cell, with the flag for commands to the bare machines
+-- the command by which a method drives the cell, with the flag for commands to the bare machines and the option for
+-- the file of a journal from which the run goes on
 abbrev pub drive : App
-drive = filed (flagged (with_rule (new_app (codes "drive")) (flag_rule (codes "raw"))))
+drive =
+    filed (with_rule (flagged (with_rule (new_app (codes "drive")) (flag_rule (codes "raw"))))
+    (file_rule (codes "from")))
 
 -- the command that controls a cell at the other end of two pipes: the option with the journal's file, the flags of
 -- going on, of the device, of waiting and of an explanation, and the paths of the settings and of the operator's script

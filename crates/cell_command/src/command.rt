@@ -3,7 +3,8 @@ ghost use Rattle.std.specs.Prelude.{◌≡◌, IfOk, codes, true, false};
 ghost use Rattle.clap.specs.Words.{app_of, new_app, with_rule, with_subcommand};
 ghost use Rattle.clap.specs.declared.builder.command.Command.TheViews.{out-Command};
 ghost use Rattle.cell_command.specs.Shape.{accompanied, audit, cellctl, check, checking, control, controlling, drive};
-ghost use Rattle.cell_command.specs.Shape.{driving, explain, explore, exploring, file_rule, filed, flag_rule, flagged};
+ghost use Rattle.cell_command.specs.Shape.{driving, explain, explore, exploring, file_rule, filed, flag_rule};
+ghost use Rattle.cell_command.specs.Shape.{flagged, in_rounds};
 ghost use Rattle.cell_command.specs.Shape.{for_people, journal_rule, judging, measure, measuring, migrate};
 ghost use Rattle.cell_command.specs.Shape.{optional_rule, path_rule, pictured, reading, repeated_rule, run, scripted};
 ghost use Rattle.cell_command.specs.Shape.{several_rule, show, showing, sim, simulating, sweep, sweeping, times_rule};
@@ -14,12 +15,12 @@ use crate::help::{
     CHECK_EXAMPLE, CHECK_HELP, CONTROL_ABOUT, CONTROL_EXAMPLE, CONTROL_HELP, CONTROL_USAGE,
     CSV_HELP, DRIVE_ABOUT, DRIVE_EXAMPLE, DRIVE_HELP, ENTRY_HELP, EXPLAIN_ABOUT, EXPLAIN_EXAMPLE,
     EXPLAIN_HELP, EXPLAIN_USAGE, EXPLORE_ABOUT, EXPLORE_EXAMPLE, EXPLORE_HELP, FAIL_HELP,
-    FAULTS_HELP, FILE_HELP, FOLLOW_HELP, HTML_HELP, JOURNAL_HELP, JOURNALS_HELP, KINDS_HELP,
-    LEAST_HELP, LIMIT_HELP, MEASURE_ABOUT, MEASURE_EXAMPLE, MEASURE_HELP, MEASURES_HELP,
-    MIGRATE_ABOUT, MIGRATE_EXAMPLE, MIGRATE_HELP, MOTIONS_HELP, OPERATOR_HELP, PLATES_HELP,
-    RAW_HELP, REPAIR_HELP, RESUME_HELP, RUN_ABOUT, RUN_EXAMPLE, RUN_HELP, RUNS_HELP, SERVICE_HELP,
-    SETTINGS_HELP, SHOW_ABOUT, SHOW_EXAMPLE, SHOW_HELP, SHOW_USAGE, SIM_ABOUT, SIM_EXAMPLE,
-    SIM_HELP, SVG_HELP, SWEEP_ABOUT, SWEEP_EXAMPLE, SWEEP_HELP, SYNC_HELP, TIMES_HELP,
+    FAULTS_HELP, FILE_HELP, FOLLOW_HELP, FROM_HELP, HTML_HELP, JOURNAL_HELP, JOURNALS_HELP,
+    KINDS_HELP, LEAST_HELP, LIMIT_HELP, MEASURE_ABOUT, MEASURE_EXAMPLE, MEASURE_HELP,
+    MEASURES_HELP, MIGRATE_ABOUT, MIGRATE_EXAMPLE, MIGRATE_HELP, MOTIONS_HELP, OPERATOR_HELP,
+    PLATES_HELP, RAW_HELP, REPAIR_HELP, RESUME_HELP, RUN_ABOUT, RUN_EXAMPLE, RUN_HELP, RUNS_HELP,
+    SERVICE_HELP, SETTINGS_HELP, SHOW_ABOUT, SHOW_EXAMPLE, SHOW_HELP, SHOW_USAGE, SIM_ABOUT,
+    SIM_EXAMPLE, SIM_HELP, SVG_HELP, SWEEP_ABOUT, SWEEP_EXAMPLE, SWEEP_HELP, SYNC_HELP, TIMES_HELP,
     UNICODE_HELP, VERSION, WAIT_HELP, WAY_HELP, WHY_HELP,
 };
 use clap::{Arg, ArgAction, Command};
@@ -303,17 +304,28 @@ fn with_files<'a>(alloc: Global, command: Command<'a>) -> Result<Command<'a>, Al
     with_scripts(alloc, settings)
 }
 
-// The command that runs the cell on one thread, with the option for a journal that is followed and the flag for
-// measures.
+// Adds the options and the flag of a run in rounds: for a journal that is followed, for one from which it goes on, and
+// for measures.
+#[tactic(auto, unfolding(crate::specs::Shape::in_rounds))]
+fn with_rounds<'a>(alloc: Global, command: Command<'a>) -> Result<Command<'a>, AllocError>
+    requires local { (out-Command command).has_globals ≡ false }
+    ensures app { IfOk result (λ c. app_of c ≡ in_rounds (app_of command.entry)) }
+    ensures local { IfOk result (λ c. (out-Command c).has_globals ≡ false) }
+{
+    let follow = with_file(alloc, command, "follow", "JOURNAL", FOLLOW_HELP)?;
+    let from = with_file(alloc, follow, "from", "JOURNAL", FROM_HELP)?;
+    with_flag(alloc, from, "measures", MEASURES_HELP)
+}
+
+// The command that runs the cell on one thread.
 fn sim_command<'a>(alloc: Global) -> Result<Command<'a>, AllocError>
     ensures app { IfOk result (λ c. app_of c ≡ sim) }
     ensures local { IfOk result (λ c. (out-Command c).has_globals ≡ false) }
 {
     let command = described(alloc, "sim", SIM_ABOUT, SIM_HELP, SIM_EXAMPLE);
     let flagged = with_flags(alloc, command)?;
-    let follow = with_file(alloc, flagged, "follow", "JOURNAL", FOLLOW_HELP)?;
-    let measures = with_flag(alloc, follow, "measures", MEASURES_HELP)?;
-    with_files(alloc, measures)
+    let rounds = with_rounds(alloc, flagged)?;
+    with_files(alloc, rounds)
 }
 
 // Adds the options and flags of a sweep.
@@ -377,7 +389,8 @@ fn explore_command<'a>(alloc: Global) -> Result<Command<'a>, AllocError>
     with_path(alloc, journal, "plates", "PLATES", PLATES_HELP)
 }
 
-// The command by which a method drives the cell, with the flag for commands to the bare machines.
+// The command by which a method drives the cell, with the flag for commands to the bare machines and the option for a
+// journal from which the run goes on.
 fn drive_command<'a>(alloc: Global) -> Result<Command<'a>, AllocError>
     ensures app { IfOk result (λ c. app_of c ≡ drive) }
     ensures local { IfOk result (λ c. (out-Command c).has_globals ≡ false) }
@@ -385,7 +398,8 @@ fn drive_command<'a>(alloc: Global) -> Result<Command<'a>, AllocError>
     let command = described(alloc, "drive", DRIVE_ABOUT, DRIVE_HELP, DRIVE_EXAMPLE);
     let raw = with_flag(alloc, command, "raw", RAW_HELP)?;
     let flagged = with_flags(alloc, raw)?;
-    with_files(alloc, flagged)
+    let from = with_file(alloc, flagged, "from", "JOURNAL", FROM_HELP)?;
+    with_files(alloc, from)
 }
 
 // Adds the options and flags of a run that controls a cell.

@@ -206,6 +206,15 @@ or memory. The lines below it count what was booked, of which --journal prints
 the text alone. A journal that is refused or can't be read is told by the line
 of the command audit, and nothing runs.
 
+With --from the run goes on from where JOURNAL left the cell: each axis has the
+pose, each plate the place and each light the colour that it tells, and a
+motion that was under way begins anew, but that of a failed machine. FAULTS
+counts the motions that begin from there on, and OPERATOR is what is still to
+be done. What is counted, and with --journal the text, is the whole journal's.
+One that is refused, can't be read or has an entry that SETTINGS don't allow is
+told by the line of the command audit, and nothing runs. It goes with neither
+--follow nor --measures.
+
 Exit status: 0 finished or followed, 1 another end, another or no entry, or a
 text refused, 2 wrong arguments, 3 a read or a write failed, 4 out of memory.";
 
@@ -249,7 +258,8 @@ sim below it, and what was measured. The ends:
 
 With --journal the journal's text stands on standard error, and with --explain
 the first entry of each kind that isn't so in the cell, and where each safety
-rule was broken first.
+rule was broken first. With --from the run goes on from a journal, as of the
+command sim.
 
 Exit status: 0 finished with nothing untrue and no rule broken, 1 else, or a
 text refused, 2 wrong arguments, 3 a read or a write failed, 4 out of memory.";
@@ -410,6 +420,8 @@ pub(crate) const EXPLAIN_EXAMPLE: &str = "Example: cellctl explain examples/refu
 pub(crate) const JOURNAL_HELP: &str = "Print the run's journal alone";
 
 pub(crate) const FOLLOW_HELP: &str = "Take the run of this journal again";
+
+pub(crate) const FROM_HELP: &str = "Go on from where this journal left the cell";
 
 pub(crate) const MEASURES_HELP: &str = "Tell the measures of a run in rounds";
 

@@ -31,11 +31,22 @@ pub struct Running<'a> {
     pub paths: Paths<'a>,
 }
 
-/// How a method is to drive the simulated cell: whether by commands to the bare machines, what is printed besides, and
-/// where its files are.
+/// How a run of the simulated cell in rounds is to go on from a journal: the journal's file, that of a journal to be
+/// followed and whether measures are wanted, neither of which goes with it, and how the cell is to be run.
+#[derive(Clone, Copy, Debug, PartialEq, Eq)]
+pub struct Continuing<'a> {
+    pub from: &'a str,
+    pub follow: Option<&'a str>,
+    pub measures: bool,
+    pub running: Running<'a>,
+}
+
+/// How a method is to drive the simulated cell: whether by commands to the bare machines, the file of the journal from
+/// which the run goes on, if it does, what is printed besides, and where its files are.
 #[derive(Clone, Copy, Debug, PartialEq, Eq)]
 pub struct Driving<'a> {
     pub raw: bool,
+    pub from: Option<&'a str>,
     pub running: Running<'a>,
 }
 
@@ -130,6 +141,8 @@ pub enum Order<'a> {
     SimMeasured(Running<'a>),
     /// Follow the journal in the file of this path on one thread, with the simulated cell.
     Follow(&'a str, Running<'a>),
+    /// Run the simulated cell on one thread, in rounds, from where a journal left it.
+    SimFrom(Continuing<'a>),
     /// Run the simulated cell on one thread once for each fault.
     Sweep(Sweeping<'a>),
     /// Look at every order of events.
@@ -177,16 +190,23 @@ fn run_words<'a>(matches: &ArgMatches<'a>) -> Option<Running<'a>>
     })
 }
 
-// How the simulated cell is to be run on one thread: in rounds, with measures or without, or after the journal that is
-// named.
+// How the simulated cell is to be run on one thread: from the journal that is named on, after the one that is named, or
+// in rounds, with measures or without.
 fn sim_words<'a>(matches: &ArgMatches<'a>) -> Option<Order<'a>>
     ensures { IfSome result (Fits (codes "sim") (rows_of (found_of matches.now))) }
 {
     let running = run_words(matches)?;
-    match value(matches, "follow") {
-        Some(path) => Some(Order::Follow(path, running)),
-        None if flag(matches, "measures") => Some(Order::SimMeasured(running)),
-        None => Some(Order::Sim(running)),
+    let measures = flag(matches, "measures");
+    match (value(matches, "from"), value(matches, "follow")) {
+        (Some(from), follow) => Some(Order::SimFrom(Continuing {
+            from,
+            follow,
+            measures,
+            running,
+        })),
+        (None, Some(path)) => Some(Order::Follow(path, running)),
+        (None, None) if measures => Some(Order::SimMeasured(running)),
+        (None, None) => Some(Order::Sim(running)),
     }
 }
 
@@ -208,6 +228,7 @@ fn drive_words<'a>(matches: &ArgMatches<'a>) -> Option<Driving<'a>>
 {
     Some(Driving {
         raw: flag(matches, "raw"),
+        from: value(matches, "from"),
         running: run_words(matches)?,
     })
 }

@@ -1,14 +1,16 @@
 -- What is written for the words of a command line, and the status with which the program ends
-use Rattle.std.specs.Prelude.{◌≡◌, ◌≢◌, ◌⊎◌, ℕ, Bool, true, false, List, Option, Result, Ok, Err, IfOk, MatchResult}
-use Rattle.std.specs.Prelude.{⊤}
+use Rattle.std.specs.Prelude.{◌≡◌, ◌≢◌, ◌⊎◌, ℕ, Bool, true, false, List, Option, Some, None, Result, Ok, Err, IfOk}
+use Rattle.std.specs.Prelude.{MatchResult, ⊤}
 use Rattle.std.specs.Borrow.{Bor}
 use Rattle.std.specs.Io.KnownBytes.{Appends, Keeps}
 use Rattle.clap.specs.Words.{HasKind, Text as Word, kind_of}
 use Rattle.clap.specs.declared.error.Error.{Error}
 use Rattle.clap.specs.declared.error.kind.ErrorKind.{ErrorKind}
+use Rattle.cell_types.specs.declared.words.Entry.{Entry}
 use Rattle.cell_output.specs.declared.watched.WriteFault.{WriteFault}
 use Rattle.cell_command.specs.Orders.{IsOrdered}
 use Rattle.cell_command.specs.Refusals.{refusals}
+use Rattle.cell_command.specs.declared.order.Continuing.{Continuing}
 use Rattle.cell_command.specs.declared.order.Running.{Running}
 use Rattle.cell_command.specs.declared.order.Sweeping.{Sweeping}
 use Rattle.cell_command.specs.declared.order.Order.{Order}
@@ -17,7 +19,8 @@ use Rattle.cell_drive.specs.Drives.{DrivesTexts, TellsMeasures}
 use Rattle.cell_sim.specs.declared.fault.Fault.{Fault}
 use Rattle.cell_sweep.specs.Sweeps.{SweepsTexts, Wanted, wanted}
 use Rattle.cell_runs.specs.Runs.{TellsRun, TellsPart as PartOfRun}
-use Rattle.cell_runs.specs.Told.{TellsFollowed, TellsPartFollowed}
+use Rattle.cell_runs.specs.RunsFrom.{TellsPartFrom, TellsRunFrom}
+use Rattle.cell_runs.specs.Told.{AreEntries, PartOfRefused, TellsFollowed, TellsPartFollowed, TellsRefused}
 use Rattle.cell_orders.specs.Measured.{MeasuresJournals}
 use Rattle.cellctl.specs.Swept.{AreKinds, AreMotions, HasNoKind, IsNoCount}
 use Rattle.cell_orders.specs.Texts.{Audits, ChecksSettings, IsGiven, IsWrong, MigratesText, OfText}
@@ -43,13 +46,35 @@ abbrev pub RunsFiles : Bool → Running → Option (List ℕ) → Option (List �
 RunsFiles threads running old new written =
     RunsTexts threads running.journal old new written ⊎ TellsUnfit running.times old new written
 
+-- the text of a journal is refused or can't be read, which is told as an audit tells it
+abbrev pub RefusesJournal : Option (List ℕ) → Option (List ℕ) → Result ℕ WriteFault → Type 0
+RefusesJournal old new written =
+    (text : List ℕ) × MatchResult written (TellsRefused text old new) (λ _. PartOfRefused text old new)
+
+-- what a method that drives the cell by three texts has written, from these entries on, if there are any
+abbrev pub DrivesSome : Bool → Option (List Entry) → Option (List ℕ) → Option (List ℕ) → Option (List ℕ)
+    → Result ℕ WriteFault → Type 0
+DrivesSome raw from input old new written = (settings : List ℕ) × (faults : List ℕ) × (operator : List ℕ)
+    × IfOk written (DrivesTexts settings faults operator raw from input old new)
+
+-- the same from the journal of some text on, or that text is refused
+abbrev pub DrivesRead : Driving → Option (List ℕ) → Option (List ℕ) → Option (List ℕ) → Result ℕ WriteFault → Type 0
+DrivesRead driving input old new written =
+    ((J : List Entry) × ((text : List ℕ) × AreEntries text J)
+    × DrivesSome driving.raw (Some J) input old new written)
+    ⊎ RefusesJournal old new written
+
+-- where a journal is named the run goes on from it
+abbrev pub DrivesFrom : Option (Bor (List ℕ)) → Driving → Option (List ℕ) → Option (List ℕ) → Option (List ℕ)
+    → Result ℕ WriteFault → Type 0
+DrivesFrom None driving input old new written = DrivesSome driving.raw None input old new written
+DrivesFrom (Some path) driving input old new written = DrivesRead driving input old new written
+
 -- what a method that drives the cell by the texts of files has written, unless the settings are too long or the
 -- durations are refused
 abbrev pub DrivesFiles : Driving → Option (List ℕ) → Option (List ℕ) → Option (List ℕ) → Result ℕ WriteFault → Type 0
 DrivesFiles driving input old new written =
-    ((settings : List ℕ) × (faults : List ℕ) × (operator : List ℕ)
-    × IfOk written (DrivesTexts settings faults operator driving.raw input old new))
-    ⊎ TellsUnfit driving.running.times old new written
+    DrivesFrom driving.from driving input old new written ⊎ TellsUnfit driving.running.times old new written
 
 -- what is measured of a run by some texts, of one on threads by the journal that is left of it
 abbrev pub MeasuresRun : Bool → List ℕ → List ℕ → List ℕ → Option (List ℕ) → Option (List ℕ) → Type 0
@@ -89,6 +114,32 @@ FollowsTexts alone old new written =
 abbrev pub FollowsFiles : Running → Option (List ℕ) → Option (List ℕ) → Result ℕ WriteFault → Type 0
 FollowsFiles running old new written =
     FollowsTexts running.journal old new written ⊎ TellsUnfit running.times old new written
+
+-- what is written of a run from some journal on by three texts
+abbrev pub GoesOnTexts : Bool → Option (List ℕ) → Option (List ℕ) → Result ℕ WriteFault → Type 0
+GoesOnTexts alone old new written =
+    (journal : List ℕ) × (settings : List ℕ) × (faults : List ℕ) × (operator : List ℕ)
+    × MatchResult written (TellsRunFrom journal settings faults operator alone old new)
+    (λ _. TellsPartFrom journal settings faults operator alone old new)
+
+-- what is written of a run from the journal of a file on by the texts of three others, unless the settings are too long
+-- or the durations are refused
+abbrev pub GoesOnFiles : Running → Option (List ℕ) → Option (List ℕ) → Result ℕ WriteFault → Type 0
+GoesOnFiles running old new written =
+    GoesOnTexts running.journal old new written ⊎ TellsUnfit running.times old new written
+
+-- a journal is to be followed besides, or measures are wanted
+abbrev pub IsCrowded : Continuing → Type 0
+IsCrowded continuing = IsGiven continuing.follow ⊎ (continuing.measures ≡ true)
+
+-- what is written of a run from a journal on for the words of its command: neither of the two goes with it, of which a
+-- line among the errors tells
+abbrev pub ContinuesFiles : Continuing → Option (List ℕ) → Option (List ℕ) → Option (List ℕ) → Option (List ℕ)
+    → Result ℕ WriteFault → Type 0
+ContinuesFiles continuing old new old_errors new_errors written =
+    (GoesOnFiles continuing.running old new written × (new_errors ≡ old_errors))
+    ⊎ (IsCrowded continuing
+    × ((status : ℕ) × (written ≡ Ok status) × IsWrong old new old_errors new_errors status))
 
 -- what is written of a sweep by the texts of some files, unless the settings are too long
 abbrev pub SweepsSome : Wanted → Option (List ℕ) → Option (List ℕ) → Result ℕ WriteFault → Type 0
@@ -132,6 +183,8 @@ CarriesOut (order.SimMeasured running) input old new old_errors new_errors writt
     MeasuresFiles false running old new written × (new_errors ≡ old_errors)
 CarriesOut (order.Follow path running) input old new old_errors new_errors written =
     FollowsFiles running old new written × (new_errors ≡ old_errors)
+CarriesOut (order.SimFrom continuing) input old new old_errors new_errors written =
+    ContinuesFiles continuing old new old_errors new_errors written
 CarriesOut (order.Sweep sweeping) input old new old_errors new_errors written =
     SweepsFiles sweeping old new old_errors new_errors written
 CarriesOut (order.Explore exploring) input old new old_errors new_errors written =

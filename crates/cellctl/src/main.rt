@@ -2,7 +2,9 @@
 //! run's settings, and the runs of the simulated cell.
 #![tactic(auto)]
 
+mod continued;
 mod control;
+mod driven;
 mod end;
 mod fault;
 mod least;

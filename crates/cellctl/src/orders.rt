@@ -2,15 +2,17 @@
 ghost use Rattle.std.specs.Prelude.{◌≡◌, ◌≢◌, ◌⊎◌, ℕ, List, IfErr, IfOk, Ok, OnOk};
 ghost use Rattle.std.specs.Io.KnownBytes.{Appends};
 ghost use Rattle.cell_runs.specs.Told.{IsRead};
-ghost use Rattle.cellctl.specs.Carried.{CarriesOut, DrivesFiles, FollowsFiles, FollowsTexts, MeasuresFiles};
+ghost use Rattle.cellctl.specs.Carried.{CarriesOut, FollowsFiles, FollowsTexts, MeasuresFiles};
 ghost use Rattle.cellctl.specs.Carried.{AddsMeasures, MeasuresRun, MeasuresTexts, RunsFiles, RunsTexts, TellsUnfit};
 
+use crate::continued::continue_words;
 use crate::control::control_words;
+use crate::driven::drive_files;
 use crate::least::tell_least;
 use crate::sweep::sweep_words;
 use cell_audit::Audited;
-use cell_command::{Driving, Order, Running};
-use cell_drive::{drive_texts, measure_texts};
+use cell_command::{Order, Running};
+use cell_drive::measure_texts;
 use cell_measures::Durations;
 use cell_orders::{
     Failure, audit_file, book_in, check_file, durations_in, explain_words, explore_words,
@@ -44,17 +46,17 @@ pub(crate) struct Ending {
     pub(crate) operator: Vec<u8>,
 }
 
-// What a run's files say.
+/// What a run's files say.
 #[derive(Drop)]
-struct Sources {
-    settings: Vec<u8>,
-    faults: Vec<u8>,
-    operator: Vec<u8>,
-    durations: Durations,
+pub(crate) struct Sources {
+    pub(crate) settings: Vec<u8>,
+    pub(crate) faults: Vec<u8>,
+    pub(crate) operator: Vec<u8>,
+    pub(crate) durations: Durations,
 }
 
-// Nothing is to be explained.
-fn without_ending(written: Result<u8, WriteFault>) -> Carried
+/// Nothing is to be explained.
+pub(crate) fn without_ending(written: Result<u8, WriteFault>) -> Carried
     ensures { result.written ≡ written }
 {
     Carried {
@@ -75,9 +77,9 @@ fn written_out(written: Result<u8, WriteFault>) -> Carried
     }
 }
 
-// Reads the files of a run, all before any is judged; or tells that the settings are too long or the durations are
-// refused.
-fn sources_in<'a, R: AllocGlobal + Files, W: Write>(
+/// Reads the files of a run, all before any is judged; or tells that the settings are too long or the durations are
+/// refused.
+pub(crate) fn sources_in<'a, R: AllocGlobal + Files, W: Write>(
     rt: &R,
     output: &mut W,
     running: Running<'a>,
@@ -104,8 +106,8 @@ fn sources_in<'a, R: AllocGlobal + Files, W: Write>(
     }
 }
 
-// What was done where a run was written so. Its end is to be explained, if that is wanted and a run is left.
-fn with_ending(
+/// What was done where a run was written so. Its end is to be explained, if that is wanted and a run is left.
+pub(crate) fn with_ending(
     ran: Result<(u8, Left), WriteFault>,
     explain: bool,
     faults: Vec<u8>,
@@ -325,40 +327,6 @@ fn follow_files<'a, R: AllocGlobal + Files + Wait, W: Write>(
     Ok(follow_sources(rt, output, &followed, running, sources))
 }
 
-// Lets a method on the input drive the simulated cell by what the run's files say. They are all read before any is
-// judged.
-fn drive_files<'a, R: AllocGlobal + Files + Wait, I: Read + Drop, W: Write, E: Write>(
-    rt: &R,
-    input: I,
-    output: &mut W,
-    errors: &mut E,
-    driving: Driving<'a>,
-) -> Result<Result<u8, WriteFault>, Failure<'a>>
-    ensures { IfOk result (λ written. DrivesFiles driving.entry (I.remaining input) (W.contents output.old)
-        (W.contents output.new) written) }
-{
-    let sources = match sources_in(rt, output, driving.running)? {
-        Ok(sources) => sources,
-        Err(told) => return Ok(told),
-    };
-    let told = cell_drive::DriveOptions {
-        raw: driving.raw,
-        journal: driving.running.journal,
-        explain: driving.running.explain,
-        durations: sources.durations,
-    };
-    Ok(drive_texts(
-        rt,
-        sources.settings.as_slice(),
-        sources.faults.as_slice(),
-        sources.operator.as_slice(),
-        told,
-        input,
-        output,
-        errors,
-    ))
-}
-
 /// Does what an order says: reads the input or the files that it names, and writes to the output and the errors. What
 /// is written isn't written out yet, and the end of a run isn't explained yet.
 pub(crate) fn carry_out<
@@ -392,6 +360,7 @@ pub(crate) fn carry_out<
         Order::Sim(running) => run_files(rt, output, false, running),
         Order::SimMeasured(running) => measure_files(rt, output, false, running),
         Order::Follow(path, running) => follow_files(rt, output, path, running),
+        Order::SimFrom(continuing) => continue_words(rt, output, errors, continuing),
         Order::Sweep(sweeping) => {
             Ok(without_ending(sweep_words(rt, output, errors, sweeping, progress)?))
         }

@@ -5,7 +5,7 @@ use cell_output::WriteFault;
 use std::process::Abort;
 use std::sync::Wait;
 use std::test::Fail;
-use test_samples::{call_begins, call_ends};
+use test_samples::{begun, call_begins, call_ends};
 
 // Room for all that a run writes, so that the writers ask for no memory.
 const ROOM: usize = 10_000;
@@ -54,18 +54,20 @@ fn measure_texts(rt: HostRuntime) -> Result<(), Fail> {
 }
 
 // By entries or by commands, with the journal and an explanation.
-const BY_ENTRIES: DriveOptions = DriveOptions {
+const BY_ENTRIES: DriveOptions<'static> = DriveOptions {
     raw: false,
     journal: true,
     explain: true,
     durations: Durations::ONE,
+    from: None,
 };
 
-const BY_COMMANDS: DriveOptions = DriveOptions {
+const BY_COMMANDS: DriveOptions<'static> = DriveOptions {
     raw: true,
     journal: true,
     explain: true,
     durations: Durations::ONE,
+    from: None,
 };
 
 // What is written where a method writes some lines and quits, what is told to the errors, and the status.
@@ -79,7 +81,7 @@ struct Driven {
 // Where it is marked, memory may be refused to it.
 fn drive_lines<R: AllocGlobal + Wait>(
     rt: &R,
-    driving: DriveOptions,
+    driving: DriveOptions<'_>,
     marked: bool,
 ) -> Result<Driven, Fail> {
     let alloc = rt.alloc();
@@ -109,7 +111,10 @@ fn drive_lines<R: AllocGlobal + Wait>(
 }
 
 // Want of memory is told by the status alone, and behind a first part of what is due.
-fn check_driven<R: AllocGlobal + Abort + Wait>(rt: &R, driving: DriveOptions) -> Result<(), Fail> {
+fn check_driven<R: AllocGlobal + Abort + Wait>(
+    rt: &R,
+    driving: DriveOptions<'_>,
+) -> Result<(), Fail> {
     let due = drive_lines(rt, driving, false)?;
     assert!(rt; due.answer == Ok(1));
     let told = drive_lines(rt, driving, true)?;
@@ -131,4 +136,24 @@ fn drive_texts_by_entries(rt: HostRuntime) -> Result<(), Fail> {
 #[test]
 fn drive_texts_by_commands(rt: HostRuntime) -> Result<(), Fail> {
     check_driven(&rt, BY_COMMANDS)
+}
+
+// A run from where a journal left the cell, with a plate on the feed belt.
+fn check_taken_over<R: AllocGlobal + Abort + Wait>(
+    rt: &R,
+    driving: DriveOptions<'_>,
+) -> Result<(), Fail> {
+    let book = begun(rt.alloc(), 100, 1, 2)?;
+    let from = Some(book.journal());
+    check_driven(rt, DriveOptions { from, ..driving })
+}
+
+#[test]
+fn drive_texts_from_a_journal_by_entries(rt: HostRuntime) -> Result<(), Fail> {
+    check_taken_over(&rt, BY_ENTRIES)
+}
+
+#[test]
+fn drive_texts_from_a_journal_by_commands(rt: HostRuntime) -> Result<(), Fail> {
+    check_taken_over(&rt, BY_COMMANDS)
 }

@@ -1,10 +1,10 @@
 //! Whole runs by their texts, in rounds on one thread and on threads.
-use cell_audit::{AuditError, audit};
+use cell_audit::{AuditError, audit, read_journal};
 use cell_explain::endings::write_ending;
 use cell_journal::Journal;
 use cell_measures::Durations;
 use cell_output::WriteFault;
-use cell_runs::{KeptRun, Left, follow_texts, run_texts_kept};
+use cell_runs::{KeptRun, Left, follow_texts, run_from_read_kept, run_texts_kept};
 use cell_types::Totals;
 use std::alloc::Global;
 use std::io::ErrorKind;
@@ -251,6 +251,44 @@ fn follow_texts_of_a_run(rt: HostRuntime) -> Result<(), Fail> {
     } else {
         let due: &[u8] = b"followed\nadmitted 1\nforged 0\nquarantined 1\ndelivered 0\n";
         assert!(rt; answer == Ok(0) && lines == due);
+    }
+    Ok(())
+}
+
+// The journal of that run, as far as the plate is laid in.
+const BEGUN: &[u8] = b"profile,2,,\nlamp,feed,green,\nadmitted,1,,\n";
+
+#[test]
+fn run_from_a_journal_that_was_read(rt: HostRuntime) -> Result<(), Fail> {
+    let alloc = rt.alloc();
+    let [settings, faults, operator] = SHORT;
+    let [settings, faults, operator] = [
+        settings.as_bytes(),
+        faults.as_bytes(),
+        operator.as_bytes(),
+    ];
+    let before = read_journal(alloc, BEGUN)?;
+    let mut written = Vec::with_capacity(alloc, ROOM)?;
+    let ones = &Durations::ONE;
+    call_begins(alloc);
+    let answer = run_from_read_kept(
+        &rt,
+        &before,
+        settings,
+        faults,
+        operator,
+        ones,
+        false,
+        &mut written,
+    );
+    let status = answer.map(|(status, _)| status);
+    call_ends(alloc, status == Ok(4));
+    let lines = written.as_slice();
+    if status == Ok(4) {
+        assert!(rt; lines.is_empty() || tells_memory(lines));
+    } else {
+        let due: &[u8] = b"finished\nadmitted 1\nforged 0\nquarantined 1\ndelivered 0\n";
+        assert!(rt; status == Ok(0) && lines == due);
     }
     Ok(())
 }

@@ -60,7 +60,7 @@ const REFUSED: [&str; 40] = [
     "cellctl|DisplayHelpOnMissingArgumentOrSubcommand",
 ];
 
-const RUNS: [&str; 10] = [
+const RUNS: [&str; 13] = [
     "cellctl sim --times a.toml cell.toml none.faults none.operator|\
         Sim(Running { journal: false, explain: false, times: Some(\"a.toml\"), \
         paths: Paths { settings: \"cell.toml\", faults: \"none.faults\", operator: \"none.operator\" } })",
@@ -72,18 +72,31 @@ const RUNS: [&str; 10] = [
     "cellctl sim --follow run.journal --journal cell.toml none.faults none.operator|\
         Follow(\"run.journal\", Running { journal: true, explain: false, times: None, \
         paths: Paths { settings: \"cell.toml\", faults: \"none.faults\", operator: \"none.operator\" } })",
+    "cellctl sim --from run.journal --explain cell.toml none.faults none.operator|\
+        SimFrom(Continuing { from: \"run.journal\", follow: None, measures: false, \
+        running: Running { journal: false, explain: true, times: None, \
+        paths: Paths { settings: \"cell.toml\", faults: \"none.faults\", operator: \"none.operator\" } } })",
+    "cellctl sim --measures --from a.journal --follow b.journal cell.toml none.faults none.operator|\
+        SimFrom(Continuing { from: \"a.journal\", follow: Some(\"b.journal\"), measures: true, \
+        running: Running { journal: false, explain: false, times: None, \
+        paths: Paths { settings: \"cell.toml\", faults: \"none.faults\", operator: \"none.operator\" } } })",
     "cellctl sim --measures cell.toml none.faults none.operator|SimMeasured(Running { journal: false, explain: false, \
         times: None, \
         paths: Paths { settings: \"cell.toml\", faults: \"none.faults\", operator: \"none.operator\" } })",
     "cellctl sim --measures --follow run.journal cell.toml none.faults none.operator|\
         Follow(\"run.journal\", Running { journal: false, explain: false, times: None, \
         paths: Paths { settings: \"cell.toml\", faults: \"none.faults\", operator: \"none.operator\" } })",
-    "cellctl drive cell.toml none.faults none.operator|Drive(Driving { raw: false, running: Running { journal: false, \
+    "cellctl drive cell.toml none.faults none.operator|\
+        Drive(Driving { raw: false, from: None, running: Running { journal: false, \
         explain: false, times: None, paths: Paths { settings: \"cell.toml\", faults: \"none.faults\", \
         operator: \"none.operator\" } } })",
     "cellctl drive --raw --explain cell.toml none.faults none.operator|\
-        Drive(Driving { raw: true, running: Running { journal: false, \
+        Drive(Driving { raw: true, from: None, running: Running { journal: false, \
         explain: true, times: None, paths: Paths { settings: \"cell.toml\", faults: \"none.faults\", \
+        operator: \"none.operator\" } } })",
+    "cellctl drive --from run.journal cell.toml none.faults none.operator|\
+        Drive(Driving { raw: false, from: Some(\"run.journal\"), running: Running { journal: false, \
+        explain: false, times: None, paths: Paths { settings: \"cell.toml\", faults: \"none.faults\", \
         operator: \"none.operator\" } } })",
     "cellctl run --explain cell.toml none.faults none.operator|Run(Running { journal: false, explain: true, times: \
         None, \

@@ -1,7 +1,7 @@
 -- Each step adds its rules to the command as the steps before it built it
 use Rattle.std.proofs.Common.{◌≡◌, IfOk, codes, subst}
-use Rattle.clap.specs.Words.{App, app_of, new_app, with_rule}
-use Rattle.cell_command.specs.Shape.{file_rule, filed, flag_rule, flagged}
+use Rattle.clap.specs.Words.{App, app_of, new_app}
+use Rattle.cell_command.specs.Shape.{filed, flagged, in_rounds}
 use Rattle.cell_command.proofs.command.sim_command.Goals as goal
 
 pub returns-clause-app : goal.returns-clause-app
@@ -9,13 +9,6 @@ returns-clause-app c =
     let flags : app_of c.in_ok-flagged.flagged ≡ flagged (new_app (codes "sim")) =
     subst (λ (a : App). app_of c.in_ok-flagged.flagged ≡ flagged a) c.described-command.ensures.app
     c.in_ok-flagged.ensures.app in
-    let follow : app_of c.in_ok-follow.follow ≡ with_rule (flagged (new_app (codes "sim"))) (file_rule (codes "follow"))
-    =
-    subst (λ (a : App). app_of c.in_ok-follow.follow ≡ with_rule a (file_rule (codes "follow"))) flags
-    c.in_ok-follow.ensures.app in
-    let measures : app_of c.in_ok-measures.measures
-    ≡ with_rule (with_rule (flagged (new_app (codes "sim"))) (file_rule (codes "follow")))
-    (flag_rule (codes "measures")) =
-    subst (λ (a : App). app_of c.in_ok-measures.measures ≡ with_rule a (flag_rule (codes "measures"))) follow
-    c.in_ok-measures.ensures.app in
-    subst (λ (a : App). IfOk c.with_files.result (λ made. app_of made ≡ filed a)) measures c.with_files.ensures.app
+    let rounds : app_of c.in_ok-rounds.rounds ≡ in_rounds (flagged (new_app (codes "sim"))) =
+    subst (λ (a : App). app_of c.in_ok-rounds.rounds ≡ in_rounds a) flags c.in_ok-rounds.ensures.app in
+    subst (λ (a : App). IfOk c.with_files.result (λ made. app_of made ≡ filed a)) rounds c.with_files.ensures.app

@@ -1,0 +1,74 @@
+//! The command that runs the simulated cell from where a journal left it.
+ghost use Rattle.std.specs.Prelude.{ℕ, List, IfOk};
+ghost use Rattle.cell_runs.specs.Told.{IsRead};
+ghost use Rattle.cellctl.specs.Carried.{ContinuesFiles, GoesOnFiles, GoesOnTexts};
+
+use crate::orders::{Carried, Sources, sources_in, with_ending, without_ending};
+use cell_audit::Audited;
+use cell_command::{Continuing, Running};
+use cell_orders::{Failure, book_in, wrong};
+use cell_runs::run_from_read_kept;
+use std::io::Write;
+use std::rt::Files;
+use std::sync::Wait;
+
+// Runs the simulated cell from a journal that was read on, by the texts of a run.
+fn continue_sources<R: AllocGlobal + Wait, W: Write>(
+    rt: &R,
+    output: &mut W,
+    before: &Audited,
+    running: Running<'_>,
+    sources: Sources,
+) -> Carried
+    ensures { (text : List ℕ) → IsRead before.now text
+        → GoesOnTexts running.entry.journal (W.contents output.old) (W.contents output.new) result.written }
+{
+    let told = run_from_read_kept(
+        rt,
+        before,
+        sources.settings.as_slice(),
+        sources.faults.as_slice(),
+        sources.operator.as_slice(),
+        &sources.durations,
+        running.journal,
+        output,
+    );
+    with_ending(told, running.explain, sources.faults, sources.operator)
+}
+
+// Runs the simulated cell from the journal in a file on, by what the run's files say.
+fn continue_files<'a, R: AllocGlobal + Files + Wait, W: Write>(
+    rt: &R,
+    output: &mut W,
+    path: &'a str,
+    running: Running<'a>,
+) -> Result<Carried, Failure<'a>>
+    ensures { IfOk result (λ c. GoesOnFiles running.entry (W.contents output.old) (W.contents output.new) c.written) }
+{
+    let sources = match sources_in(rt, output, running)? {
+        Ok(sources) => sources,
+        Err(told) => return Ok(without_ending(told)),
+    };
+    let before = book_in(rt, path)?;
+    Ok(continue_sources(rt, output, &before, running, sources))
+}
+
+/// Runs the simulated cell from where the journal in a file left it, by what the run's files say. They are all read
+/// before any is judged, the journal last. Neither a journal to be followed nor measures go with it.
+pub(crate) fn continue_words<'a, R: AllocGlobal + Files + Wait, W: Write, E: Write>(
+    rt: &R,
+    output: &mut W,
+    errors: &mut E,
+    continuing: Continuing<'a>,
+) -> Result<Carried, Failure<'a>>
+    ensures { IfOk result (λ c. ContinuesFiles continuing.entry (W.contents output.old) (W.contents output.new)
+        (E.contents errors.old) (E.contents errors.new) c.written) }
+{
+    if continuing.follow.is_some() {
+        return Ok(without_ending(wrong(errors, "--from doesn't go with --follow")?));
+    }
+    if continuing.measures {
+        return Ok(without_ending(wrong(errors, "--from doesn't go with --measures")?));
+    }
+    continue_files(rt, output, continuing.from, continuing.running)
+}

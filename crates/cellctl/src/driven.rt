@@ -1,0 +1,104 @@
+//! The command by which a method drives the simulated cell.
+ghost use Rattle.std.specs.Prelude.{ℕ, List, Err, IfOk, MatchResult, option_map};
+ghost use Rattle.cell_audit.specs.Lines.{WritesAnswer, lines_of};
+ghost use Rattle.cell_output.specs.Watched.{WritesPart};
+ghost use Rattle.cell_runs.specs.Told.{IsRead};
+ghost use Rattle.cellctl.specs.Carried.{DrivesFiles, DrivesRead, DrivesSome};
+
+use crate::orders::{Sources, sources_in};
+use cell_audit::{AuditError, Audited, write_answer};
+use cell_command::Driving;
+use cell_drive::{DriveOptions, drive_texts};
+use cell_journal::Journal;
+use cell_orders::{Failure, book_in};
+use cell_output::{WatchedWriter, WriteFault};
+use std::io::{Read, Write};
+use std::rt::Files;
+use std::sync::Wait;
+
+// Tells that a journal is refused or can't be read, for which an audit gave this error, and gives the exit status.
+fn refuse_journal<W: Write>(output: &mut W, why: AuditError) -> Result<u8, WriteFault>
+    ensures { MatchResult result (WritesAnswer (W.contents output.old) (W.contents output.new) (Err why))
+        (λ _. WritesPart (W.contents output.old) (W.contents output.new) (lines_of (Err why))) }
+{
+    write_answer(&mut WatchedWriter::new(output), Err(why))
+}
+
+// Lets a method on the input drive the simulated cell by the texts of a run, from a journal on, if there is one.
+fn drive_sources<R: AllocGlobal + Wait, I: Read + Drop, W: Write, E: Write>(
+    rt: &R,
+    input: I,
+    output: &mut W,
+    errors: &mut E,
+    driving: Driving<'_>,
+    sources: Sources,
+    from: Option<&Journal>,
+) -> Result<u8, WriteFault>
+    ensures { DrivesSome driving.entry.raw (option_map (λ j. j.now.entries) from.entry) (I.remaining input)
+        (W.contents output.old) (W.contents output.new) result }
+{
+    let told = DriveOptions {
+        raw: driving.raw,
+        journal: driving.running.journal,
+        explain: driving.running.explain,
+        durations: sources.durations,
+        from,
+    };
+    drive_texts(
+        rt,
+        sources.settings.as_slice(),
+        sources.faults.as_slice(),
+        sources.operator.as_slice(),
+        told,
+        input,
+        output,
+        errors,
+    )
+}
+
+// The same from a journal that was read on, or it is told that the journal is refused.
+fn drive_read<R: AllocGlobal + Wait, I: Read + Drop, W: Write, E: Write>(
+    rt: &R,
+    input: I,
+    output: &mut W,
+    errors: &mut E,
+    driving: Driving<'_>,
+    sources: Sources,
+    before: &Audited,
+) -> Result<u8, WriteFault>
+    ensures { (text : List ℕ) → IsRead before.now text
+        → DrivesRead driving.entry (I.remaining input) (W.contents output.old) (W.contents output.new) result }
+{
+    match before.answer {
+        Ok(_) => {
+            let from = Some(before.book.journal());
+            drive_sources(rt, input, output, errors, driving, sources, from)
+        }
+        Err(why) => refuse_journal(output, why),
+    }
+}
+
+/// Lets a method on the input drive the simulated cell by what the run's files say, from the journal on that is named,
+/// if one is. They are all read before any is judged, the journal last.
+pub(crate) fn drive_files<'a, R: AllocGlobal + Files + Wait, I: Read + Drop, W: Write, E: Write>(
+    rt: &R,
+    input: I,
+    output: &mut W,
+    errors: &mut E,
+    driving: Driving<'a>,
+) -> Result<Result<u8, WriteFault>, Failure<'a>>
+    ensures { IfOk result (λ written. DrivesFiles driving.entry (I.remaining input) (W.contents output.old)
+        (W.contents output.new) written) }
+{
+    let sources = match sources_in(rt, output, driving.running)? {
+        Ok(sources) => sources,
+        Err(told) => return Ok(told),
+    };
+    match driving.from {
+        Some(path) => {
+            let before = book_in(rt, path)?;
+            Ok(drive_read(rt, input, output, errors, driving, sources, &before))
+        }
+        None => Ok(drive_sources(rt, input, output, errors, driving, sources, None)),
+    }
+}
