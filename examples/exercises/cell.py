@@ -16,6 +16,7 @@ PATIENCE = 100      # so many rounds in which nothing is booked end the run
 shown = {}          # by axis: the poses that its switches show
 present = set()     # the stations that show a plate
 plate = {}          # by station: the number of its plate, by the entries that were booked
+laid = []           # the numbers of the plates that were laid in, by the entries that were booked
 wanted = 0          # how many plates are to come
 
 
@@ -45,21 +46,25 @@ def carry(belt, motion, start, end):
     plate[end] = plate.pop(start)
 
 
+def admit():
+    """Waits for a plate under the green light, and books it in."""
+    while "feed_in" not in present:
+        yield None
+    laid.append(str(len(laid) + 1))
+    yield from book("admitted", laid[-1])
+    plate["feed_in"] = laid[-1]
+
+
 def feed():
-    admitted = 0
     while True:
         if "feed_end" in plate:
             if "table" not in plate and shown["table_lift"] == ["low"] and shown["table_turn"] == ["belt"]:
                 yield from book("claimed", "feed", "z1")
                 yield from carry("feed_belt", "to_table", "feed_end", "table")
                 yield from book("yielded", "feed", "z1")
-        elif admitted < wanted:
+        elif len(laid) < wanted:
             yield from book("lamp", "feed", "green")
-            while "feed_in" not in present:
-                yield None
-            admitted += 1
-            yield from book("admitted", str(admitted))
-            plate["feed_in"] = str(admitted)
+            yield from admit()
             yield from carry("feed_belt", "to_end", "feed_in", "feed_end")
         yield None
 
@@ -83,14 +88,19 @@ def table():
         yield from table_moves(("table_turn", "belt"), ("table_lift", "low"))
 
 
+def deliver():
+    """Waits until the plate is taken under the green light, and books it out."""
+    while "dep_end" in present:
+        yield None
+    yield from book("delivered", plate["dep_end"])
+    del plate["dep_end"]
+
+
 def deposit():
     while True:
         if "dep_end" in plate:
             yield from book("lamp", "deposit", "green")
-            while "dep_end" in present:
-                yield None
-            yield from book("delivered", plate["dep_end"])
-            del plate["dep_end"]
+            yield from deliver()
         elif "dep_in" in plate:
             yield from book("claimed", "deposit", "z5")
             yield from carry("deposit_belt", "to_end", "dep_in", "dep_end")
@@ -117,12 +127,14 @@ def propose(programs, answers):
     return {machine: entry for machine, entry in proposals.items() if entry}
 
 
-def control(**programs):
-    """Controls the cell by the programs of the machines that are named, and by those above. What the cell tells at the end is
+def control(take=None, **programs):
+    """Controls the cell by the programs of the machines that are named, and by those above. `take` is called with the four fields
+    of each entry that the cell tells, as those of the journal from which it goes on. What the cell tells at the end is
     copied to standard error; below it stands what was refused in the last round, if the run isn't finished. What can't be read
     as an entry is told there at once."""
     global wanted
-    programs = {"feed": feed(), "table": table(), **programs, "deposit": deposit()}
+    programs = {"feed": feed(), "table": table(), "deposit": deposit(), **programs}
+    programs["deposit"] = programs.pop("deposit")   # it comes last
     entries, told, answers, idle = {}, {}, {}, 0
     for line in sys.stdin:
         word, first, second, third = line.rstrip("\n").split(",")
@@ -146,3 +158,5 @@ def control(**programs):
             for machine, (answer, name, what, _) in told.items():
                 if first != "finished" and answer == "refused":
                     sys.stderr.write(f"{machine} asks for {entries[machine]} and is refused: {name} {what}\n")
+        elif take:
+            take(word, first, second, third)

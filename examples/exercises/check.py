@@ -4,11 +4,12 @@
     examples/exercises/check.py NUMBER [FILE]
 
 FILE is the answer; where none is given it is the file `mine` with the ending of the exercise's starting file, in its folder. The
-status is 0 if it is solved, else 1, and a line says what is missing. The last exercise has 42 runs, or with `--all` 126. A method
-that owes a line, or its end, for a minute is ended.
+status is 0 if it is solved, else 1, and a line says what is missing. Exercise 6 has 43 runs, or with `--all` 127, and exercise 7
+has 12, or with `--all` 217. A method that owes a line, or its end, for a minute is ended.
 """
 import argparse
 import concurrent.futures
+import contextlib
 import difflib
 import os
 import subprocess
@@ -22,6 +23,7 @@ sys.path.insert(0, str(HERE.parent / "methods"))
 import compare  # noqa: E402
 
 EDITS = 6       # so many lines of the journal may be written anew
+TAKEN_OVER = "press_one,4,no_motion,\n"   # the fault of the run that is taken over
 ENDS = ["finished", "turn limit", "full", "quit", "too many lines", "memory"]     # of a run that a method drives
 
 
@@ -112,24 +114,26 @@ def two_presses(folder, method, asked):
     need(min(counts) >= 2, f"press 1 forged {counts[0]} plates and press 2 {counts[1]}, and each has to forge two at least")
 
 
-def need_five(folder, method, script):
-    """With a fault in a press all plates but one are delivered."""
-    with tempfile.NamedTemporaryFile("w", suffix=".faults") as faults:
-        faults.write(script)
-        faults.flush()
-        run = drive(folder, method, faults.name)
-    when = f'with the fault "{script.strip()}"'
+def need_five(run, when):
+    """All plates but one are delivered."""
     need_told(run, when)
     need(run["delivered"] >= 5, f"{when} {run['delivered']} of 6 plates are delivered, and five have to be at least")
     need_true(run, when)
 
 
-def a_press_fails(folder, method, asked):
-    need_finished(drive(folder, method), 6)
-    swept = compare.sweep("9" if asked.all else "3", (str(folder / "cell.toml"), "/dev/null"))
-    scripts = [compare.script_of(row) for row in swept if row["axis"].startswith("press")]
+@contextlib.contextmanager
+def named(text):
+    """The name of a file with this text."""
+    with tempfile.NamedTemporaryFile("w") as file:
+        file.write(text)
+        file.flush()
+        yield file.name
+
+
+def for_each(needed, things):
+    """Asks what is needed of each thing, some side by side; the first that is missing is told."""
     with concurrent.futures.ThreadPoolExecutor(os.cpu_count()) as pool:
-        runs = [pool.submit(need_five, folder, method, script) for script in scripts]
+        runs = [pool.submit(needed, thing) for thing in things]
         try:
             for run in runs:
                 run.result()
@@ -137,14 +141,39 @@ def a_press_fails(folder, method, asked):
             pool.shutdown(cancel_futures=True)
 
 
-EXERCISES = [repair, serve, find, one_press, two_presses, a_press_fails]
+def a_press_fails(folder, method, asked):
+    def needed(script):
+        with named(script) as faults:
+            need_five(drive(folder, method, faults), f'with the fault "{script.strip()}"')
+
+    need_finished(drive(folder, method), 6)
+    swept = compare.sweep("9" if asked.all else "3", (str(folder / "cell.toml"), "/dev/null"))
+    for_each(needed, [compare.script_of(row) for row in swept if row["axis"].startswith("press")])
+
+
+def take_over(folder, method, asked):
+    """The method takes over after the given journal, and after others of the run of which that one has the first entries."""
+    def needed(count):
+        with named("\n".join(lines[:count + 1]) + "\n") as journal:
+            run = compare.run(str(method), ("--from", journal, str(folder / "cell.toml"), "/dev/null", "/dev/null"))
+        need_five(run, f"after {count} entries")
+
+    with named(TAKEN_OVER) as faults:
+        lines = told("sim", "--journal", folder / "cell.toml", faults, "/dev/null")
+    given = len(Path(folder, "given.journal").read_text().splitlines()) - 1
+    failed = next(count for count, line in enumerate(lines) if line.startswith("declared,"))
+    needed(given)
+    for_each(needed, range(failed, len(lines), 1 if asked.all else 20))
+
+
+EXERCISES = [repair, serve, find, one_press, two_presses, a_press_fails, take_over]
 
 
 def main():
     words = argparse.ArgumentParser(description="Says whether an exercise is solved.")
     words.add_argument("number", type=int, choices=range(1, len(EXERCISES) + 1), help="the exercise's number")
     words.add_argument("file", nargs="?", metavar="FILE", help="the answer; else the file mine in the exercise's folder")
-    words.add_argument("--all", action="store_true", help="of the last exercise every motion of a press, and not the first three")
+    words.add_argument("--all", action="store_true", help="of exercise 6 every motion of a press, and not the first three; of exercise 7 every entry, and not each twentieth")
     asked = words.parse_args()
     folder = next(HERE.glob(f"{asked.number}_*"))
     start = next(folder.glob("start.*"))
