@@ -161,7 +161,7 @@ look_at_layers() {
         { for (i = 2; i <= NF; i++) if (layer[$i] > layer[$1]) print "README.md has " $1 " before " $i ", on which it stands" }
     ' README.md crates.txt
     awk '
-        FNR == NR && /^[1-9] / { for (i = 2; i <= NF && $i ~ /^[a-z]+_[a-z_]+$|^cellctl$/; i++) row[$i] = $1 }
+        FNR == NR && /^[1-9][0-9]* / { for (i = 2; i <= NF && $i ~ /^[a-z]+_[a-z_]+$|^cellctl$/; i++) row[$i] = $1 }
         FNR == NR { next }
         { sub(/:$/, "", $1) }
         $1 ~ /^test_/ { next }

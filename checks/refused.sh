@@ -347,6 +347,7 @@ run_lines() {
     $line answer_is_right 1 nothing sim "${short[@]}"
     $line answer_is_right 1 nothing sim --journal "${short[@]}"
     $line answer_is_right 1 nothing sim --follow "$shared/short.journal" "${short[@]}"
+    $line answer_is_right 1 nothing sim --from "$shared/short.journal" "${short[@]}"
     $line answer_is_right 1 nothing sim --measures "${short[@]}"
     $line answer_is_right 1 nothing sim --measures --journal --times "$times" "${short[@]}"
     $line ending_is_right 1 nothing sim --explain "${run[0]}" "$examples/arm_fails.faults" "${run[2]}"
@@ -357,6 +358,7 @@ run_lines() {
     $line journal_is_right 1 nothing run --journal "$shared/short.toml" "$none" "$none"
     $line driving_is_right 1 method drive "${short[@]}"
     $line driving_is_right 1 method drive --journal --explain --times "$times" "${short[@]}"
+    $line driving_is_right 1 method drive --from "$shared/short.journal" "${short[@]}"
     $line driving_is_right 1 method drive --raw --explain "${short[@]}"
     $line controlling_is_right 1 cell control --explain --wait "${short[0]}" "${short[2]}"
     $line controlling_is_right 1 nothing control --journal "$shared/kept.journal" --resume --sync "${short[0]}" "${short[2]}"
@@ -398,7 +400,8 @@ note_job() {
 }
 
 # The program's table has no command and no option of a command that is in no line. The table is the program's own, as its helps
-# list it.
+# list it. (The last of two that a pipe joins reads all: one that stops at the first match would break the pipe for the other, and
+# that is a failure here.)
 check_lines() {
     local command option _name
     : > "$folder/words"
@@ -411,12 +414,12 @@ check_lines() {
     done < <(options)
     for command in $(commands); do
         while read -r option _name; do
-            if ! grep "^$command " "$folder/words" | grep -q -e " $option\( \|\$\)"; then
+            if ! grep "^$command " "$folder/words" | grep -c -e " $option\( \|\$\)" > /dev/null; then
                 wrong=$((wrong + 1))
                 echo "$command $option: memory is refused to no command line that has it"
             fi
         done < <([ "$command" = help ] || options "$command")
-        if ! grep -v -e ' --help$' "$folder/words" | grep -q "^$command\( \|\$\)"; then
+        if ! grep -v -e ' --help$' "$folder/words" | grep -c "^$command\( \|\$\)" > /dev/null; then
             wrong=$((wrong + 1))
             echo "$command: memory is refused to no command line of it"
         fi

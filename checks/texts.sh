@@ -138,6 +138,7 @@ endless_texts() {
     measure 'a page of it' '<!DOCTYPE html>' 0 8 20 show --html --file <(bytes $((50 * mega)) '\n'; cat first)
     measure 'a page beside it' '<!DOCTYPE html>' 0 8 20 show --html --beside <(bytes $((50 * mega)) '\n'; cat first) --file first
     measure 'a run that follows it' 'followed' 0 12 20 sim --follow <(bytes $((50 * mega)) '\n'; cat first) good none none
+    measure 'a run that goes on from it' 'finished' 0 12 20 sim --from <(bytes $((50 * mega)) '\n'; cat first) good none none
     measure 'blank lines without an end, explained' '' 3 300 20 explain <(yes '')
     measure 'explained on standard input' '' 3 300 20 explain < <(yes '')
     measure 'as a script that is explained' '' 3 300 20 explain --operator <(yes '')
