@@ -8,7 +8,7 @@ _cellctl() {
     else
         case "${COMP_WORDS[1]} $before" in
             'explore --fail') mapfile -t COMPREPLY < <(compgen -W 'feed table robot press1 press2 deposit' -- "$word"); return ;;
-            'show --times' | 'show --beside' | 'show --file' | 'show -f' | 'explain --settings' | 'explain --faults' | 'explain --operator' | 'measure --times' | 'sim --times' | 'sim --follow' | 'sweep --kinds' | 'sweep --motions' | 'explore --limit' | 'drive --times' | 'control --journal' | 'run --times') return ;;
+            'show --times' | 'show --beside' | 'show --file' | 'show -f' | 'explain --settings' | 'explain --faults' | 'explain --operator' | 'measure --times' | 'sim --times' | 'sim --follow' | 'sim --from' | 'sweep --kinds' | 'sweep --motions' | 'explore --limit' | 'drive --times' | 'drive --from' | 'control --journal' | 'run --times') return ;;
         esac
         case ${COMP_WORDS[1]} in
             audit) words='--help' ;;
@@ -17,10 +17,10 @@ _cellctl() {
             explain) words='--settings --faults --operator --help' ;;
             measure) words='--times --csv --help' ;;
             check) words='--help' ;;
-            sim) words='--journal --explain --times --follow --measures --help' ;;
+            sim) words='--journal --explain --times --follow --from --measures --help' ;;
             sweep) words='--kinds --motions --service --csv --help' ;;
             explore) words='--fail --repair --limit --journal --help' ;;
-            drive) words='--raw --journal --explain --times --help' ;;
+            drive) words='--raw --journal --explain --times --from --help' ;;
             control) words='--journal --resume --sync --wait --explain --help' ;;
             run) words='--journal --explain --times --measures --help' ;;
             help) words='audit migrate show explain measure check sim sweep explore drive control run' ;;
