@@ -90,7 +90,7 @@ results() {
     command -v python3 > /dev/null || return
     timeout 300 examples/results.py --quick > "$work/results" || wrong "examples/results.py fails"
     while IFS= read -r line; do
-        grep -qFx "$line" docs/RESULTS.md || wrong "docs/RESULTS.md hasn't the row $line"
+        grep -qFx "$line" docs/METHODS.md || wrong "docs/METHODS.md hasn't the row $line"
     done < <(grep '^|' "$work/results")
 }
 

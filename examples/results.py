@@ -1,5 +1,5 @@
 #!/usr/bin/env python3
-"""Makes the tables of docs/RESULTS.md. From the repository's top:
+"""Makes the tables of docs/METHODS.md. From the repository's top:
 
     examples/results.py [OPTION..] [METHOD..]
 
@@ -50,7 +50,7 @@ def results(methods, asked):
 
 
 def row(*cells):
-    return "| " + " | ".join(map(str, cells)) + " |"
+    return "|" + "|".join(map(str, cells)) + "|"
 
 
 def without_faults(each):
@@ -89,7 +89,7 @@ def show(title, names, rows):
 
 
 def main():
-    parser = argparse.ArgumentParser(description="Makes the tables of docs/RESULTS.md.",
+    parser = argparse.ArgumentParser(description="Makes the tables of docs/METHODS.md.",
                                      epilog="Example: examples/results.py --quick --csv --only careful.py --only guarded.py")
     parser.add_argument("--quick", action="store_true", help="only the rows without a fault")
     compare.add_options(parser)
