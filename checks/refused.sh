@@ -7,8 +7,9 @@
 # The tests of the calls and the command lines run side by side, one a processor. Each command and each option that the program's
 # helps list has to be in a command line that is tried. With `calls` and `program` each of the program's seven threads is refused
 # too, one a run. CELLCTL names another program than the one that was built.
-# Usage: checks/refused.sh [calls|program [COMMAND]|part [NUMBER]]     calls and program by default; with COMMAND its command lines
-# alone; part: each eighth command line, from that of the number on, or by turns: from one further with each commit
+# Usage: checks/refused.sh [calls|program [COMMAND]|part [NUMBER]|table]     calls and program by default; with COMMAND its command
+# lines alone; part: each eighth command line, from that of the number on, or by turns: from one further with each commit; table:
+# both, and writes what came of them into the table of docs/HOSTILE.md
 set -euo pipefail
 # A byte is a letter, also where the program writes others.
 export LC_ALL=C
@@ -26,6 +27,13 @@ wrong=0
 # How many runs were made, and where the files of the program's lines are.
 made=0
 shared=${REFUSE_SHARED:-}
+# The rows of the table, and the runs and the wrong ones that stand in them.
+rows=()
+told_made=0
+told_wrong=0
+page=$here/../docs/HOSTILE.md
+table_begins='<!-- The table is written by checks/refused.sh table. -->'
+table_ends='<!-- The table ends. -->'
 # Of which command alone the lines are tried; how many parts they are in, and which of them is tried.
 only=
 parts=1
@@ -443,6 +451,34 @@ refuse_program() {
     add_tally "$folder/jobs" "$folder/lines.tally"
 }
 
+# A number, its thousands parted by commas.
+parted() {
+    sed -E ':more; s/([0-9])([0-9]{3})($|,)/\1,\2\3/; t more' <<< "$1"
+}
+
+# Notes a row of the table: what was refused, how many runs that took since the last row, and how many were wrong.
+note_row() {
+    rows+=("| $1 | $(parted $((made - told_made))) | $(parted $((wrong - told_wrong))) |")
+    told_made=$made told_wrong=$wrong
+}
+
+# The table has its two marks in the page, in their order.
+find_table() {
+    [ "$(grep -xF -e "$table_begins" -e "$table_ends" "$page")" = "$table_begins$newline$table_ends" ] && return 0
+    echo "refused memory: docs/HOSTILE.md hasn't the two marks of the table" >&2
+    return 1
+}
+
+# Writes the rows into the page, between the marks.
+write_table() {
+    {
+        sed "\|^$table_begins\$|q" "$page"
+        printf '%s\n' '' '| Refused | Runs | Wrong |' '|---|---:|---:|' "${rows[@]}" ''
+        sed -n "\|^$table_ends\$|,\$p" "$page"
+    } > "$folder/page"
+    cat "$folder/page" > "$page"
+}
+
 case ${1:-both} in
     test)
         shift
@@ -469,10 +505,15 @@ case ${1:-both} in
         echo "refused memory: part $part of $parts"
         refuse_program
         ;;
-    both)
+    both | table)
+        [ "${1:-both}" = both ] || find_table
         refuse_calls
+        note_row 'memory: calls'
         refuse_program
+        note_row 'memory: command lines'
         refuse_threads
+        note_row 'a thread: `run`'
+        [ "${1:-both}" = both ] || write_table
         ;;
     *)
         sed -n "s/^# Usage/usage/p" "$0" >&2
