@@ -19,7 +19,7 @@ import contracts
 
 PAGE = f"{contracts.TREE}/docs/PROVED.md"
 BEGIN = "<!-- checks/proved.py make writes this table. -->\n"
-END = "<!-- The table ends here. -->\n"
+END = "<!-- end -->\n"
 MAIN = [
     "cell_progress::laws::never_stuck", "cell_workers::Hall", "cell_ledger::Kept", "cell_rules::laws::legal_is_safe", "cell_workers::run_cell",
     "cell_audit::audit", "plate_book::Book::apply", "cell_turns::turn", "cell_method::drive", "cell_explore::explore_lines",
