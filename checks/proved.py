@@ -11,6 +11,7 @@ another value, `Value` and `view` say as which, and `invariant` what holds of it
 trait. It reads the sources and proves nothing. The definitions themselves: checks/believe.sh CRATE::CALL | CRATE."""
 
 import difflib
+import signal
 import sys
 
 sys.dont_write_bytecode = True
@@ -57,10 +58,11 @@ def tell(crate, lone):
     """Prints a crate's calls and types with their clauses."""
     items = contracts.shown(crate)
     silent = [contracts.path_of(it) for it in items if it.kind == "fn" and not it.facts]
-    print(f"{crate}")
+    print(crate)
     for it in items:
         if it.facts:
-            print(f"  {contracts.path_of(it)}: {clauses(it)}" + "".join(f" | {', '.join(files)}" for files in [cited(it)] if files))
+            files = ", ".join(cited(it))
+            print(f"  {contracts.path_of(it)}: {clauses(it)}" + (f" | {files}" if files else ""))
     if silent:
         print(f"  no clause: {', '.join(silent)}")
     if lone.get(crate):
@@ -104,7 +106,7 @@ def main(words):
         print(__doc__)
         return 0
     if len(words) > 1 or words and words[0] not in contracts.sources():
-        print(f"proved: there is no such crate\n{__doc__}" if len(words) == 1 else __doc__, file=sys.stderr)
+        print("proved: name one crate, or none for all; --help says more", file=sys.stderr)
         return 2
     lone = unreached()
     for crate in words or contracts.product():
@@ -113,4 +115,5 @@ def main(words):
 
 
 if __name__ == "__main__":
+    signal.signal(signal.SIGPIPE, signal.SIG_DFL)
     sys.exit(main(sys.argv[1:]))
