@@ -148,7 +148,7 @@ look_at_layers() {
         FNR == NR && match($0, /^\|\[`[a-z_]+`\]/) { place[substr($0, 4, RLENGTH - 5)] = FNR }
         FNR == NR { next }
         { sub(/:$/, "", $1) }
-        { for (i = 2; i <= NF; i++) if (place[$i] > place[$1]) print "docs/CRATES.md has " $1 " before " $i ", on which it stands" }
+        place[$1] { for (i = 2; i <= NF; i++) if (place[$i] > place[$1]) print "docs/CRATES.md has " $1 " before " $i ", on which it stands" }
     ' docs/CRATES.md crates.txt)
     [ -z "$told" ] || wrong "$told"
 }
