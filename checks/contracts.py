@@ -391,7 +391,7 @@ def type_in(item, name):
 def product():
     """The crates but those that hold tests or what tests use, in the order of crates.txt."""
     names = re.findall(r"^(\w+):", read(f"{TREE}/crates.txt"), re.MULTILINE)
-    return [it for it in names if not it.endswith(("_tests", "_samples"))]
+    return [it for it in names if not it.startswith("test_")]
 
 
 def open_modules(crate):

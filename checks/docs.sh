@@ -1,8 +1,9 @@
 #!/bin/bash
 # Looks whether the documents are true where a script can tell: each command in a block of the kind `console` is run, and
-# prints what stands there; each excerpt of code stands in its file; each link leads somewhere; each crate is in the map, in
-# its layer, and has its README of at most 40 lines; the documents name the kit that KIT names; the index of docs/PROVED.md is
-# what the sources make; the manual page and the completion are what the help texts make, and bash offers what the completion has.
+# prints what stands there; each excerpt of code stands in its file; each link leads somewhere; each crate has its row in
+# docs/CRATES.md, behind those that it stands on, and its README of at most 40 lines; README.md, docs/ and the crates' READMEs
+# have no more words than is aimed at; the documents name the kit that KIT names; the table of docs/PROVED.md is what the sources
+# make; the manual page and the completion are what the help texts make, and bash offers what the completion has.
 # Usage: checks/docs.sh     Build the program first: ./cellctl --prove does. CELLCTL names another one.
 set -u
 here=$(cd "$(dirname "$0")/.." && pwd) || exit 1
@@ -126,52 +127,38 @@ look_at_links() {
     done
 }
 
+# Each crate has a row in docs/CRATES.md and a README.
 look_at_crates() {
-    local crate heading stands
+    local crate heading rows
     for crate in $(sed -n 's/^\([a-z_]*\):.*/\1/p' crates.txt); do
-        stands=$(sed -n "s/^| \[\`$crate\`\](.*| \([^|]*\)|\$/\1/p" docs/CRATES.md | tr -d '`,' | sed 's/ *$//')
-        [ "$crate: $stands" = "$(grep "^$crate:" crates.txt)" ] || [ "$crate:" = "$(grep "^$crate:" crates.txt)$stands" ] ||
-            wrong "docs/CRATES.md tells of $crate that it stands on '$stands'"
+        rows=$(grep -cF "|[\`$crate\`](../crates/$crate/README.md)|" docs/CRATES.md)
+        [ "$rows" = 1 ] || wrong "docs/CRATES.md has $rows rows of $crate"
         [ -f "crates/$crate/README.md" ] || { wrong "there is no crates/$crate/README.md"; continue; }
         for heading in "# $crate" '## What it has' '## Only tested' '## Neither'; do
             grep -qxF "$heading" "crates/$crate/README.md" || wrong "crates/$crate/README.md has no heading '$heading'"
         done
         [ "$(wc -l < "crates/$crate/README.md")" -le 40 ] || wrong "crates/$crate/README.md has more than 40 lines"
     done
-    [ "$(wc -l < README.md)" -le 80 ] || wrong "README.md has more than 80 lines"
 }
 
-# Each crate of the product is in the README's map, behind those that it stands on, and in docs/CRATES.md in the row of its
-# number: one more than the greatest of those.
+# In docs/CRATES.md each crate has its row behind those that it stands on.
 look_at_layers() {
     local told
     told=$(awk '
-        FNR == NR && /^\| `/ {
-            sub(/^\| /, "")
-            sub(/ \|.*/, "")
-            while (match($0, /`[a-z_]+`/)) {
-                layer[substr($0, RSTART + 1, RLENGTH - 2)] = ++place
-                $0 = substr($0, RSTART + RLENGTH)
-            }
-        }
+        FNR == NR && match($0, /^\|\[`[a-z_]+`\]/) { place[substr($0, 4, RLENGTH - 5)] = FNR }
         FNR == NR { next }
         { sub(/:$/, "", $1) }
-        $1 ~ /^test_/ { next }
-        !($1 in layer) { print "README.md has no place for " $1; next }
-        { for (i = 2; i <= NF; i++) if (layer[$i] > layer[$1]) print "README.md has " $1 " before " $i ", on which it stands" }
-    ' README.md crates.txt
-    awk '
-        FNR == NR && /^[1-9][0-9]* / { for (i = 2; i <= NF && $i ~ /^[a-z]+_[a-z_]+$|^cellctl$/; i++) row[$i] = $1 }
-        FNR == NR { next }
-        { sub(/:$/, "", $1) }
-        $1 ~ /^test_/ { next }
-        {
-            level[$1] = 1
-            for (i = 2; i <= NF; i++) if (level[$i] >= level[$1]) level[$1] = level[$i] + 1
-            if (row[$1] != level[$1]) print "docs/CRATES.md has " $1 " in row " row[$1] ", and it belongs in row " level[$1]
-        }
+        place[$1] { for (i = 2; i <= NF; i++) if (place[$i] > place[$1]) print "docs/CRATES.md has " $1 " before " $i ", on which it stands" }
     ' docs/CRATES.md crates.txt)
     [ -z "$told" ] || wrong "$told"
+}
+
+# Documents that are read are short: some files together have so many words at most.
+look_at_length() {
+    local most=$1 what=$2 words
+    shift 2
+    words=$(cat "$@" | wc -w)
+    [ "$words" -le "$most" ] || wrong "$what: $words words, and $most are the most"
 }
 
 look_at_kit() {
@@ -181,9 +168,9 @@ look_at_kit() {
     done
 }
 
-# What stands below the mark is made of the sources.
+# The table of how much one has to believe is made of the sources.
 look_at_proved() {
-    checks/proved.py > "$work/proved" || { wrong "docs/PROVED.md isn't what checks/proved.py makes:"; cat "$work/proved"; }
+    checks/proved.py check > "$work/proved" || { wrong "the table of docs/PROVED.md isn't what checks/proved.py makes:"; cat "$work/proved"; }
 }
 
 # Whether the completion offers a word after others, of which the last one begins as $last.
@@ -210,6 +197,9 @@ look_at_excerpts
 look_at_links
 look_at_crates
 look_at_layers
+look_at_length 600 README.md README.md
+look_at_length 28000 docs/ docs/*.md
+look_at_length 10000 "the crates' READMEs" crates/*/README.md
 look_at_kit
 look_at_proved
 look_at_words

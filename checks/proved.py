@@ -1,12 +1,17 @@
 #!/usr/bin/env python3
-"""Makes the index of docs/PROVED.md of the sources: how much one has to believe of eleven main contracts, and of each crate the
-public calls and types with the names of their clauses and the files of specs/ that these cite. What stands above the index is
-written by hand. Usage: checks/proved.py [make]
+"""Lists what is proved: the public calls and types of a crate, or of all crates of the product, each with the names of its clauses
+and the files of specs/ that define their words; then the calls that no clause speaks of, and the files of specs/ of which no call
+of any crate reaches a definition.
+Usage: checks/proved.py [CRATE]
+       checks/proved.py check    says how the table of docs/PROVED.md differs from the sources, and fails then
+       checks/proved.py make     writes that table
 
-It says how the page differs, and fails then; `make` writes the page."""
+What a call requires stands in brackets. A clause without a name is `one`, since it stands alone. Of a type that contracts see as
+another value, `Value` and `view` say as which, and `invariant` what holds of it. A type with a trait is what the type says of that
+trait. It reads the sources and proves nothing. The definitions themselves: checks/believe.sh CRATE::CALL | CRATE."""
 
 import difflib
-import os
+import signal
 import sys
 
 sys.dont_write_bytecode = True
@@ -14,7 +19,8 @@ import believe
 import contracts
 
 PAGE = f"{contracts.TREE}/docs/PROVED.md"
-MARK = "<!-- The rest is made of the sources by checks/proved.py. -->\n"
+BEGIN = "<!-- checks/proved.py make writes this table. -->\n"
+END = "<!-- end -->\n"
 MAIN = [
     "cell_progress::laws::never_stuck", "cell_workers::Hall", "cell_ledger::Kept", "cell_rules::laws::legal_is_safe", "cell_workers::run_cell",
     "cell_audit::audit", "plate_book::Book::apply", "cell_turns::turn", "cell_method::drive", "cell_explore::explore_lines",
@@ -38,18 +44,6 @@ def clauses(item):
     return " ".join(parts + ([", ".join(given)] if given else []))
 
 
-def rows(crate):
-    """The rows of a crate's calls and types, and the calls that no clause speaks of."""
-    listed, silent = [], []
-    for item in contracts.shown(crate):
-        name = contracts.path_of(item)
-        if item.facts:
-            listed.append((name, clauses(item), ", ".join(cited(item))))
-        elif item.kind == "fn":
-            silent.append(name)
-    return listed, silent
-
-
 def unreached():
     """Of each crate the files of specs/ in which no definition is reached by a call or type of any crate."""
     found = {(it.crate, it.module) for it in believe.reach_of_all().definitions}
@@ -60,42 +54,42 @@ def unreached():
     return lone
 
 
-def made():
-    """The index."""
-    lines = [MARK, "\n", "## How much one has to believe\n"]
-    lines += ["How many definitions the clauses of eleven main contracts reach, std's apart, and how many lines these have.\n"]
-    lines += ["\n", "|Contract|Definitions|Lines|\n", "|---|---|---|\n"]
+def tell(crate, lone):
+    """Prints a crate's calls and types with their clauses."""
+    items = contracts.shown(crate)
+    silent = [contracts.path_of(it) for it in items if it.kind == "fn" and not it.facts]
+    print(crate)
+    for it in items:
+        if it.facts:
+            files = ", ".join(cited(it))
+            print(f"  {contracts.path_of(it)}: {clauses(it)}" + (f" | {files}" if files else ""))
+    if silent:
+        print(f"  no clause: {', '.join(silent)}")
+    if lone.get(crate):
+        print(f"  no call here or above reaches: {', '.join(lone[crate])}")
+    if not any(it.facts for it in items) and not silent:
+        print("  no public call or type of its own")
+
+
+def table():
+    """How much one has to believe of the main contracts."""
+    lines = ["|Contract|Definitions|Lines|\n", "|---|---|---|\n"]
     for call in MAIN:
         reach = believe.Reach(*believe.named(call))
         lines.append(f"|`{call}`|{len(reach.definitions)}|{reach.lines()}|\n")
-    lone = unreached()
-    lines += ["\n", "## Index\n"]
-    lines += ["What a call requires stands in brackets. A clause without a name is `one`, since it stands alone. Of a type\n"]
-    lines += ["that contracts see as another value, `Value` and `view` say as which, and `invariant` what holds of it. A type\n"]
-    lines += ["with a trait is what the type says of that trait. `checks/believe.sh CRATE` parts a crate's definitions into\n"]
-    lines += ["those that callers reach and those for proofs and private functions.\n"]
-    for crate in contracts.product():
-        listed, silent = rows(crate)
-        if not listed and not silent:
-            continue
-        lines += ["\n", f"### [{crate}](../crates/{crate}/README.md)\n"]
-        if listed:
-            lines += ["|Call or type|Clauses|Definitions|\n", "|---|---|---|\n"]
-            lines += [f"|`{name}`|{said}|{files}|\n" for name, said, files in listed]
-        if silent:
-            lines += ["\n"] * bool(listed) + [f"No clause: {', '.join(f'`{it}`' for it in silent)}.\n"]
-        if lone.get(crate):
-            lines += ["\n", f"No call here or above reaches: {', '.join(lone[crate])}.\n"]
     return "".join(lines)
 
 
-def main(words):
-    if words not in ([], ["make"]):
-        print(__doc__, file=sys.stderr)
-        return 2
+def compare(write):
+    """Compares the page with the one that has the table of the sources, or writes that one."""
     page = contracts.read(PAGE)
-    due = page.partition(MARK)[0] + made()
-    if words:
+    before, begin, rest = page.partition(BEGIN)
+    _, end, after = rest.partition(END)
+    if not begin or not end:
+        print(f"proved: docs/PROVED.md lacks the marks of its table: {BEGIN.strip()} {END.strip()}", file=sys.stderr)
+        return 1
+    due = f"{before}{begin}\n{table()}\n{end}{after}"
+    if write:
         with open(PAGE, "w", encoding="utf-8") as out:
             out.write(due)
         return 0
@@ -105,5 +99,21 @@ def main(words):
     return 0 if page == due else 1
 
 
+def main(words):
+    if words in (["check"], ["make"]):
+        return compare(words == ["make"])
+    if words in (["-h"], ["--help"]):
+        print(__doc__)
+        return 0
+    if len(words) > 1 or words and words[0] not in contracts.sources():
+        print("proved: name one crate, or none for all; --help says more", file=sys.stderr)
+        return 2
+    lone = unreached()
+    for crate in words or contracts.product():
+        tell(crate, lone)
+    return 0
+
+
 if __name__ == "__main__":
+    signal.signal(signal.SIGPIPE, signal.SIG_DFL)
     sys.exit(main(sys.argv[1:]))
