@@ -13,12 +13,12 @@ import sys
 TOP = pathlib.Path(__file__).resolve().parent.parent
 PAGES = ["README.md", "docs/LESSON.md", "docs/CELL.md", "docs/METHODS.md"]
 WORDS = 30
-# Sentences that may be longer, ten at most: the page, and how the sentence begins.
+# Sentences that may be longer, ten at most: the page, and how the sentence begins where it is told as too long.
 EXCEPTIONS = []
 
 FENCE = re.compile(r" *(```|~~~)")
 HEADING = re.compile(r"#+ ")
-ITEM = re.compile(r" *(?:[-*+]|\d+[.)]) +")
+ITEM = re.compile(r"^ *(?:[-*+]|\d+[.)]) +")
 END = re.compile(r"[.!?][)\]\"'*_]*(?=\s+[^\sa-z]|\s*$)")
 
 
