@@ -2,8 +2,9 @@
 # Looks whether the documents are true where a script can tell: each command in a block of the kind `console` is run, and
 # prints what stands there; each excerpt of code stands in its file; each link leads somewhere; each crate has its row in
 # docs/CRATES.md, behind those that it stands on, and its README of at most 40 lines; README.md, docs/ and the crates' READMEs
-# have no more words than is aimed at; the documents name the kit that KIT names; the table of docs/PROVED.md is what the sources
-# make; the manual page and the completion are what the help texts make, and bash offers what the completion has.
+# have no more words than is aimed at, and no sentence of the pages that checks/sentences.py names more than 30; the documents
+# name the kit that KIT names; the table of docs/PROVED.md is what the sources make; the manual page and the completion are what
+# the help texts make, and bash offers what the completion has.
 # Usage: checks/docs.sh     Build the program first: ./cellctl --prove does. CELLCTL names another one.
 set -u
 here=$(cd "$(dirname "$0")/.." && pwd) || exit 1
@@ -191,6 +192,11 @@ look_at_words() {
     last= offers sweep cellctl help
 }
 
+# The pages that are read first have short sentences.
+look_at_sentences() {
+    checks/sentences.py > "$work/sentences" || { wrong "there are long sentences:"; cat "$work/sentences"; }
+}
+
 run_commands
 look_at_scripts
 look_at_excerpts
@@ -203,5 +209,6 @@ look_at_length 10000 "the crates' READMEs" crates/*/README.md
 look_at_kit
 look_at_proved
 look_at_words
+look_at_sentences
 echo "documents: $commands commands run; $([ $failed = 0 ] && echo all as they stand || echo some are another)"
 exit $failed
