@@ -564,6 +564,10 @@ def desk():
     due = b"stay,,,\nlamp,feed,green,\nbooked,2,,\nrefused,MachineHealthy,press1,\nrefused,Unreadable,,\ndone,,,\n"
     wanted("the desk's answers", out.startswith(due), out)
     wanted("the desk's stop is kept", journal.read_bytes() == b"profile,2,,\nlamp,feed,green,\nstop_asked,press1,,\n")
+    script = folder / "script"
+    script.write_text("delivered,9,stop,press2\n")
+    got, out, errors = scripted(begun, ["--explain", SETTINGS, script], folder)
+    wanted("what the desk wanted does no line of the script", "line 1, record 1 of the operator's script isn't done: it waits for 9" in errors, errors)
     many = b"drive,1,6,\n" + b"operator,expect,1,\n" * 70 + STILL + b"ok,,,\n" * 2
     got, out, errors = scripted(many, [SETTINGS, NONE], folder)
     counts = (out.count(b"refused,WrongPlate,,\n"), out.count(b"refused,TooMany,,\n"))

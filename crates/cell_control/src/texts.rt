@@ -213,7 +213,7 @@ fn tell_outcome<E: Write>(
     tell(errors, *halt, loss, book.totals())?;
     if explains {
         let end = end_of(*halt);
-        write_ending(alloc, book.journal(), end, plan, b"", operator, errors)?;
+        write_ending(alloc, book.journal(), 0, end, plan, b"", operator, errors)?;
     }
     Ok(status_of(*halt, loss))
 }

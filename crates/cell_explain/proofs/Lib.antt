@@ -12,3 +12,5 @@ pub mod Rows
 pub mod Walks
 pub mod Counted
 pub mod Behind
+pub mod Onward
+pub mod Leaving

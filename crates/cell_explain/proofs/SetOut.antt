@@ -1,6 +1,7 @@
 -- The counting of motions
-use Rattle.std.proofs.Common.{◌≡◌, ◌≢◌, ℕ, ◌+◌, ◌≤◌, ◌<◌, true, false, List, Some, take, set, get_or, length, refl, sym}
-use Rattle.std.proofs.Common.{subst, ◌∙◌, inl, inr, arith, get_or-set_same, get_or-set_other}
+use Rattle.std.proofs.Common.{◌≡◌, ◌≢◌, ℕ, ◌+◌, ◌≤◌, ◌<◌, true, false, List, [], Some, take, set, get_or, length, refl}
+use Rattle.std.proofs.Common.{sym}
+use Rattle.std.proofs.Common.{subst, ◌∙◌, ap, inl, inr, arith, get_or-set_same, get_or-set_other, replicate}
 use Rattle.std.specs.Prelude.{◌==◌, slice_get}
 use Rattle.std.proofs.lemmas.Bool.{cases_Bool}
 use Rattle.std.proofs.lemmas.Bool.Decides.{Decides-eqb}
@@ -8,10 +9,12 @@ use Rattle.std.proofs.lemmas.Grind.{common_steps}
 use Rattle.std.proofs.lemmas.List.Sums.{count_by-le-length}
 use Rattle.cell_types.specs.Same.{axis_number}
 use Rattle.cell_types.specs.declared.words.Axis.{Axis}
+use Rattle.cell_types.specs.declared.words.Axis.TheVariants as axis
 use Rattle.cell_types.specs.declared.words.Pose.{Pose}
 use Rattle.cell_types.specs.declared.words.Entry.{Entry}
 use Rattle.cell_types.specs.declared.words.Entry.TheVariants.{Started}
 use Rattle.cell_explain.specs.Missed.{motions_of, sets_out}
+use Rattle.cell_explain.proofs.Onward.{between}
 use Rattle.cell_explain.proofs.Passed.{count-yes, count-no}
 
 -- another entry lets no axis set out
@@ -47,5 +50,23 @@ pub still-more : (xs : List ℕ) (J : List Entry) (i : ℕ) (e : Entry) → slic
 still-more xs J i e at other counted a = count-no (sets_out a) J i _ e at (no-start e a other) (counted a)
 
 -- an axis set out at most once with each entry
-pub few-motions : (J : List Entry) (a : Axis) (i n : ℕ) → n ≡ motions_of (take i J) a → n ≤ i
-few-motions J a i n is = grind (arith, common_steps, count_by-le-length)
+pub few-motions : (J : List Entry) (a : Axis) (before i n : ℕ) → n ≡ motions_of (between before i J) a → n ≤ i
+few-motions J a before i n is = grind (arith, common_steps, count_by-le-length)
+
+abbrev pub no_motions : List ℕ
+no_motions = replicate 9 0
+
+zeros : (a : Axis) → get_or no_motions (axis_number a) 0 ≡ 0
+zeros axis.FeedBelt = refl
+zeros axis.TableLift = refl
+zeros axis.TableTurn = refl
+zeros axis.RobotTurn = refl
+zeros axis.ArmOne = refl
+zeros axis.ArmTwo = refl
+zeros axis.PressOne = refl
+zeros axis.PressTwo = refl
+zeros axis.DepositBelt = refl
+
+-- before any entry no axis set out
+pub none-set_out : (es : List Entry) → es ≡ [] → (a : Axis) → get_or no_motions (axis_number a) 0 ≡ motions_of es a
+none-set_out es none a = zeros a ∙ sym (ap (λ (J : List Entry). motions_of J a) none)

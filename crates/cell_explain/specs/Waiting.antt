@@ -1,13 +1,9 @@
 -- What is told of the operator's script
-use Rattle.std.specs.Prelude.{ℕ, ◌+◌, Bool, true, false, List, [], ◌∷◌, ◌++◌, Option, Some, None, codes, decimal}
+use Rattle.std.specs.Prelude.{◌≡◌, ℕ, ◌+◌, List, [], ◌∷◌, ◌++◌, Option, Some, None, codes, decimal}
 use Rattle.std.specs.Prelude.{if◌then◌else◌, slice_get}
-use Rattle.std.specs.List.{count_by}
-use Rattle.cell_types.specs.declared.words.Actor.{Actor}
-use Rattle.cell_types.specs.declared.words.Actor.TheVariants as actor
 use Rattle.cell_types.specs.declared.words.Entry.{Entry}
 use Rattle.cell_types.specs.declared.words.Entry.TheVariants.{StopAsked, Quarantined, Repaired, Expected}
 use Rattle.cell_types.specs.declared.words.Station.{Station}
-use Rattle.cell_types.specs.Entries.{actor_of}
 use Rattle.cell_rules.specs.Views.{count_of, plate_of}
 use Rattle.cell_rules.specs.declared.limits.BookLimits.{BookLimits}
 use Rattle.cell_rules.specs.declared.refusal.Refusal.{Refusal}
@@ -17,18 +13,32 @@ use Rattle.operator_desk.specs.declared.line.Trigger.{Trigger}
 use Rattle.operator_desk.specs.declared.line.Trigger.TheVariants as trigger
 use Rattle.operator_desk.specs.declared.line.Task.{Task}
 use Rattle.operator_desk.specs.declared.line.Task.TheVariants as task
-use Rattle.operator_desk.specs.Next.{holds}
+use Rattle.operator_desk.specs.Next.{holds, left_after}
 use Rattle.cell_sentences.specs.Names.{station_name, the_machine}
 use Rattle.cell_sentences.specs.Sentences.{refusal_sentence}
 use Rattle.cell_explain.specs.Words.{are, plates, were}
 
-abbrev pub is_operator : Actor → Bool
-is_operator actor.Operator = true
-is_operator (actor.Machine m) = false
+-- the task of which an entry of the operator is
+abbrev pub task_of : Entry → Option Task
+task_of (StopAsked m) = Some (task.Stop m)
+task_of (Quarantined k s) = Some (task.Clear s)
+task_of (Repaired m) = Some (task.Repair m)
+task_of (Expected k) = Some (task.Expect k)
+task_of _ = None
 
--- how many lines of the script are done: as many as there are entries of the operator's
-abbrev pub lines_done : List Entry → ℕ
-lines_done J = count_by (λ e. is_operator (actor_of e)) J
+-- the first of these lines asks for an entry
+abbrev pub AskFor : List Line → Entry → Type 0
+AskFor [] e = ⊥
+AskFor (line ∷ rest) e = task_of e ≡ Some line.task
+
+-- these of a script's lines are left after some entries: before the first all are; an entry that the first line left
+-- asks for does that line; and any other entry does none
+pub data Leaves (script : List Line) : List Entry → List Line → Type 0 where
+  all : Leaves script [] script
+  does : {J : List Entry} {lines : List Line} (e : Entry) → Leaves script J lines → AskFor lines e
+      → Leaves script (J ++ e ∷ []) (left_after lines)
+  passes : {J : List Entry} {lines : List Line} (e : Entry) → Leaves script J lines → (AskFor lines e → ⊥)
+      → Leaves script (J ++ e ∷ []) lines
 
 -- that so many plates are waited for, of which so many are there
 abbrev pub plates_wait : ℕ → List ℕ → ℕ → List ℕ → List ℕ
@@ -79,7 +89,7 @@ undone_line l J at n (Some line) = codes "line "
     ++ (decimal at ++ (codes ", record "
     ++ (decimal n ++ (codes " of the operator's script isn't done: " ++ line_wait l J line))))
 
--- what is told of the script: its first line that isn't done, which stands in this line of its text, and what that
--- waits for
-abbrev pub waiting_of : BookLimits → List Entry → ℕ → List Line → List ℕ
-waiting_of l J at lines = undone_line l J at (lines_done J + 1) (slice_get lines (lines_done J))
+-- what is told of the script, of which so many lines are done: the first that isn't, which stands in this line of its
+-- text, and what that waits for
+abbrev pub waiting_of : BookLimits → List Entry → ℕ → ℕ → List Line → List ℕ
+waiting_of l J n at lines = undone_line l J at (n + 1) (slice_get lines n)

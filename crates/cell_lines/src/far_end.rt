@@ -269,7 +269,8 @@ impl<R: TellsFault, W: Write, E: Write> FarEnd<R, W, E> {
     pub fn begin(&mut self, plates: u32) -> Result<(), Gone>
         ensures begins { OnOk result (Begins (stand_of R.remaining W.contents self.old)
             (stand_of R.remaining W.contents self.new)) }
-        ensures silent { W.contents self.new.writer ≡ W.contents self.old.writer }
+        ensures silent { (stand_of R.remaining W.contents self.new).text
+            ≡ (stand_of R.remaining W.contents self.old).text }
         ensures lost { IsErr result → is_some self.new.loss ≡ true }
     {
         match self.next_said()? {
@@ -364,7 +365,8 @@ impl<R: TellsFault, W: Write, E: Write> FarEnd<R, W, E> {
     pub fn finish(self) -> (W, E, Option<Loss>)
     where
         R: Drop,
-        ensures written { WritesSome (closing_text self.loss) (W.contents self.writer) (W.contents result.0) }
+        ensures written { WritesSome (closing_text self.loss) (stand_of R.remaining W.contents self).text
+            (W.contents result.0) }
     {
         let mut far = self;
         far.close();

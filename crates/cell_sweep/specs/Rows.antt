@@ -16,9 +16,7 @@ use Rattle.cell_runs.specs.Rounds.{IsRun}
 use Rattle.cell_runs.specs.Runs.{limits_of, word_of as end_word}
 use Rattle.cell_runs.specs.declared.inputs.Inputs.{Inputs}
 use Rattle.cell_runs.specs.declared.inputs.InputError.{InputError}
-use Rattle.cell_explain.specs.Endings.{ending_of}
-use Rattle.cell_explain.specs.Places.{HasLine}
-use Rattle.cell_explain.specs.Waiting.{lines_done}
+use Rattle.cell_explain.specs.Endings.{IsUndone, ending_of}
 use Rattle.cell_measures.specs.Sums.{last_of}
 use Rattle.cell_measures.specs.Times.{times}
 use Rattle.cell_measures.specs.declared.durations.Durations.{Durations}
@@ -58,10 +56,10 @@ first_line (b ∷ bs) = if b == 10 then [] else b ∷ first_line bs
 abbrev pub ones : Durations
 ones = record { rows = replicate 9 (replicate 18 1) }
 
--- the first line of why a run ended so, with the line of the first record of the operator's script that isn't done
+-- the first line of why a run ended so, with the first line of the operator's script that isn't done
 abbrev pub IsWait : List Entry → End → Plan → List ℕ → List ℕ → List ℕ → Type 0
 IsWait J e plan faults operator told =
-    (at : ℕ) × HasLine operator (lines_done J) at × (told ≡ first_line (ending_of J e plan faults operator at))
+    (n : ℕ) × (at : ℕ) × IsUndone operator J n at × (told ≡ first_line (ending_of J 0 e plan faults operator n at))
 
 -- what is told of a run: its end, its totals, when its last entry ends, and the first line of why it ended so
 pub record IsToldOf (t : Told) (operator : List ℕ) (plan : Plan) (J : List Entry) (e : End) : Type 0 where

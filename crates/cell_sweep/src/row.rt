@@ -62,6 +62,7 @@ fn wait_of(alloc: Global, ran: &Ran, faults: &[u8], operator: &[u8]) -> io::Resu
     write_ending(
         alloc,
         outcome.book.journal(),
+        0,
         outcome.end,
         &ran.plan,
         faults,

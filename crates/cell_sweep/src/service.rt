@@ -124,7 +124,7 @@ fn served_further(
     script: &[Line],
     ran: &mut Ran,
 ) -> Result<Option<Vec<Line>>, AllocError> {
-    let done = lines_done(ran.outcome.book.journal()) as usize;
+    let done = lines_done(ran.outcome.book.journal(), 0, script) as usize;
     let added = plan_service(alloc, ran)?;
     if added.is_empty() {
         return Ok(None);

@@ -153,7 +153,7 @@ fn counts_of<R: AllocGlobal + Wait>(rt: &R, task: &Task<'_>) -> Result<[u32; 9],
     }
     let operator = script_for(rt, task, b"")?;
     let ran = run_texts(rt, task.settings, b"", operator.as_slice())?;
-    Ok(motions(ran.outcome.book.journal()))
+    Ok(motions(ran.outcome.book.journal(), 0))
 }
 
 // Tells how many runs are done. The line is written over by what follows; whether it could be written says nothing.

@@ -33,7 +33,14 @@ fn continue_sources<R: AllocGlobal + Wait, W: Write>(
         running.journal,
         output,
     );
-    with_ending(told, running.explain, sources.faults, sources.operator)
+    let entries = before.book.journal().len();
+    with_ending(
+        told,
+        entries,
+        running.explain,
+        sources.faults,
+        sources.operator,
+    )
 }
 
 // Runs the simulated cell from the journal in a file on, by what the run's files say.

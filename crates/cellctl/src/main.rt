@@ -103,6 +103,7 @@ fn finish<W: Write, E: Write>(
         write_ending(
             alloc,
             &ending.run.journal,
+            ending.before,
             ending.run.end,
             &ending.run.plan,
             ending.faults.as_slice(),

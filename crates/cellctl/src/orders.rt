@@ -42,6 +42,8 @@ pub(crate) struct Carried {
 #[derive(Drop)]
 pub(crate) struct Ending {
     pub(crate) run: KeptRun,
+    /// How many entries the journal had before the run.
+    pub(crate) before: u32,
     pub(crate) faults: Vec<u8>,
     pub(crate) operator: Vec<u8>,
 }
@@ -106,9 +108,11 @@ pub(crate) fn sources_in<'a, R: AllocGlobal + Files, W: Write>(
     }
 }
 
-/// What was done where a run was written so. Its end is to be explained, if that is wanted and a run is left.
+/// What was done where a run was written so, whose journal had so many entries before. Its end is to be explained, if
+/// that is wanted and a run is left.
 pub(crate) fn with_ending(
     ran: Result<(u8, Left), WriteFault>,
+    before: u32,
     explain: bool,
     faults: Vec<u8>,
     operator: Vec<u8>,
@@ -124,6 +128,7 @@ pub(crate) fn with_ending(
     let ending = match left {
         Left::Run(run) if explain => Some(Ending {
             run,
+            before,
             faults,
             operator,
         }),
@@ -157,7 +162,7 @@ fn run_sources<R: AllocGlobal + Threads + Wait + Sync, W: Write>(
         running.journal,
         output,
     );
-    with_ending(ran, running.explain, sources.faults, sources.operator)
+    with_ending(ran, 0, running.explain, sources.faults, sources.operator)
 }
 
 // Runs the simulated cell by what its files say, on threads or in rounds. The files are all read before any is judged.
@@ -266,7 +271,7 @@ fn measure_sources<R: AllocGlobal + Threads + Wait + Sync, W: Write>(
         return without_ending(Err(WriteFault));
     };
     let told = Ok((both, left));
-    with_ending(told, running.explain, sources.faults, sources.operator)
+    with_ending(told, 0, running.explain, sources.faults, sources.operator)
 }
 
 // Runs the simulated cell by what its files say, on threads or in rounds, and tells what is measured of it. The files
@@ -307,7 +312,7 @@ fn follow_sources<R: AllocGlobal + Wait, W: Write>(
         running.journal,
         output,
     );
-    with_ending(told, running.explain, sources.faults, sources.operator)
+    with_ending(told, 0, running.explain, sources.faults, sources.operator)
 }
 
 // Follows the journal in a file by what the run's files say.

@@ -42,13 +42,21 @@ const RUNS: [(&str, &str, &str, &str); 3] = [
     ("x", "", "faults unreadable 1\n", ""),
 ];
 
-// What is said of the run that is left, if one is.
-fn said_of(rt: &impl Abort, alloc: Global, left: &Left, faults: &[u8], script: &[u8]) -> Vec<u8> {
+// What is said of the run that is left, if one is, whose journal had so many entries before.
+fn said_of(
+    rt: &impl Abort,
+    alloc: Global,
+    left: &Left,
+    before: u32,
+    faults: &[u8],
+    script: &[u8],
+) -> Vec<u8> {
     let mut said = Vec::new(alloc);
     if let Left::Run(run) = left {
         let answer = write_ending(
             alloc,
             &run.journal,
+            before,
             run.end,
             &run.plan,
             faults,
@@ -92,7 +100,7 @@ fn check_run<R: AllocGlobal + Abort + Threads + Wait + Sync>(
         matches!(&left, Left::Run(_)) != wanted.is_empty(),
         "what is left of {operator}"
     );
-    let said = said_of(rt, alloc, &left, faults, script);
+    let said = said_of(rt, alloc, &left, 0, faults, script);
     check_said(rt, operator, said.as_slice(), wanted);
 }
 
@@ -170,5 +178,51 @@ const COUNTED: [(&str, &str, u8, &str, &str); 3] = [
 fn plates_are_counted_and_a_record_waits_by_its_number(rt: HostRuntime) {
     for &(faults, operator, status, lines, wanted) in &COUNTED {
         check_run(&rt, "plates = 4", faults, operator, status, lines, wanted);
+    }
+}
+
+// What is said of the run of four plates of which one is laid back, by another script than its own, and as if its
+// journal had had so many entries before the run: none, or more than it has.
+const FROM: [(u32, &str, &str); 4] = [
+    (
+        0,
+        "always,,stop,press1\n",
+        "1 plate was laid back\nline 1, record 1 of the operator's script isn't done: nothing refuses it\n",
+    ),
+    (0, "failed,feed,repair,feed\n", "1 plate was laid back\n"),
+    (
+        u32::MAX - 1,
+        LAID_BACK,
+        "1 plate was laid back\nline 1, record 1 of the operator's script isn't done: it waits for a failure of the \
+         feed belt\nthe fault in motion 2 of the feed belt was never reached: it set out 0 times\n",
+    ),
+    (
+        u32::MAX,
+        "",
+        "1 plate was laid back\nthe fault in motion 2 of the feed belt was never reached: it set out 0 times\n",
+    ),
+];
+
+#[test]
+fn an_entry_counts_for_a_line_that_asks_for_it_and_none_from_before_the_run(rt: HostRuntime) {
+    let alloc = rt.alloc();
+    let fault = "feed_belt,2,no_motion,".as_bytes();
+    let mut written = Vec::new(alloc);
+    let ran = run_texts_kept(
+        &rt,
+        "plates = 4".as_bytes(),
+        fault,
+        LAID_BACK.as_bytes(),
+        &Durations::ONE,
+        false,
+        false,
+        &mut written,
+    );
+    let Ok((_, left)) = ran else {
+        panic!(&rt; "no writer failed");
+    };
+    for &(before, script, wanted) in &FROM {
+        let said = said_of(&rt, alloc, &left, before, fault, script.as_bytes());
+        check_said(&rt, script, said.as_slice(), wanted);
     }
 }

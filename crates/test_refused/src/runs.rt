@@ -316,6 +316,7 @@ fn ending(
     let answer = write_ending(
         alloc,
         &run.journal,
+        0,
         run.end,
         &run.plan,
         faults.as_bytes(),

@@ -8,7 +8,7 @@ use crate::endings::counts::{write_laid_back, write_unadmitted};
 use crate::endings::failures::write_failures;
 use crate::endings::faults::write_faults;
 use crate::endings::limit::write_limit;
-use crate::endings::operator::{undone_at, write_operator};
+use crate::endings::operator::write_operator;
 use crate::endings::plates::write_plates;
 use cell_journal::Journal;
 use cell_ports::Plan;
@@ -48,11 +48,13 @@ fn write_run<W: Write>(writer: &mut W, book: &Book, end: End, plan: &Plan) -> Re
 /// for the first record of the operator's script that isn't done, with its line and what it waits for; and for each
 /// fault whose motion was never reached.
 ///
-/// The scripts are those of the run; one that can't be read has no lines. An error is the writer's, or that memory was
-/// refused, or that the journal isn't legal by the plan's limits.
+/// The journal had so many entries `before` the run, which count for neither script. The scripts are those of the run;
+/// one that can't be read has no lines. An error is the writer's, or that memory was refused, or that the journal isn't
+/// legal by the plan's limits.
 pub fn write_ending<W: Write>(
     alloc: Global,
     journal: &Journal,
+    before: u32,
     end: End,
     plan: &Plan,
     faults: &[u8],
@@ -60,7 +62,7 @@ pub fn write_ending<W: Write>(
     writer: &mut W,
 ) -> Result<()>
     // What is written is the ending of the journal, the run's end and plan, and the scripts.
-    ensures text { OnOk result (TellsEnding journal.now.entries end plan.now faults.now operator.now
+    ensures text { OnOk result (TellsEnding journal.now.entries before end plan.now faults.now operator.now
         (W.contents writer.old) (W.contents writer.new)) }
     // It is written of legal journals alone.
     ensures legal { OnOk result (legal greatest journal.now.entries ≡ true) }
@@ -72,7 +74,6 @@ pub fn write_ending<W: Write>(
     write_run(writer, &book, end, plan)?;
     write_failures(writer, &book)?;
     write_plates(writer, &book)?;
-    let at = undone_at(journal, operator);
-    write_operator(alloc, writer, &book, operator, at)?;
-    write_faults(alloc, writer, &book, faults)
+    write_operator(alloc, writer, &book, before, operator)?;
+    write_faults(alloc, writer, &book, before, faults)
 }

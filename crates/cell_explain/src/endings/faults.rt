@@ -1,5 +1,5 @@
 //! The faults whose motions were never reached.
-ghost use Rattle.std.specs.Prelude.{◌≡◌, OnOk, slice_index};
+ghost use Rattle.std.specs.Prelude.{◌≡◌, OnOk, drop, slice_index};
 ghost use Rattle.std.specs.Io.KnownBytes.{Appends};
 ghost use Rattle.cell_types.specs.Same.{axis_number};
 ghost use Rattle.cell_types.specs.declared.words.Axis.{Axis};
@@ -17,12 +17,12 @@ use plate_book::Book;
 use std::alloc::{AllocError, Global};
 use std::io::{Error, Result, Write};
 
-/// How often each axis set out in a journal, by the axes' numbers.
-pub fn motions(journal: &Journal) -> [u32; 9]
-    ensures { (a : Axis) → slice_index result (axis_number a) ≡ motions_of journal.now.entries a }
+/// How often each axis set out by a journal's entries from a place on, by the axes' numbers.
+pub fn motions(journal: &Journal, before: u32) -> [u32; 9]
+    ensures { (a : Axis) → slice_index result (axis_number a) ≡ motions_of (drop before journal.now.entries) a }
 {
     let mut counts = [0u32; 9];
-    for place in 0..journal.len() {
+    for place in before..journal.len() {
         if let Entry::Started { axis, .. } = journal.at(place) {
             counts[axis_number(axis)] += 1;
         }
@@ -54,22 +54,24 @@ fn write_fault<W: Write>(writer: &mut W, planned: &PlannedFault, count: u32) -> 
     }
 }
 
-/// Writes the faults whose motions were never reached. The motions of an axis are counted from 1.
+/// Writes the faults whose motions were never reached by the entries from a place on. The motions of an axis are
+/// counted from 1.
 pub(crate) fn write_faults<W: Write>(
     alloc: Global,
     writer: &mut W,
     book: &Book,
+    before: u32,
     faults: &[u8],
 ) -> Result<()>
     ensures { OnOk result (Appends (W.contents writer.old) (W.contents writer.new)
-        (missed_of book.now.entries (script_lines next_fault faults.now))) }
+        (missed_of (drop before book.now.entries) (script_lines next_fault faults.now))) }
 {
     let planned = match read_script::<PlannedFault>(alloc, faults) {
         Ok(planned) => planned,
         Err(LineError::OutOfMemory) => return Err(Error::from(AllocError)),
         Err(_) => return Ok(()),
     };
-    let counts = motions(book.journal());
+    let counts = motions(book.journal(), before);
     for fault in &planned {
         write_fault(writer, fault, counts[axis_number(fault.axis)])?;
     }

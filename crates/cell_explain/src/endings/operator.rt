@@ -1,38 +1,56 @@
 //! The first record of the operator's script that isn't done.
-ghost use Rattle.std.specs.Prelude.{◌≡◌, ◌≤◌, OnOk, length};
+ghost use Rattle.std.specs.Prelude.{◌≡◌, ◌≤◌, ◌<◌, ℕ, IfOk, OnOk, drop, false, length, true};
 ghost use Rattle.std.specs.Io.KnownBytes.{Appends};
 ghost use Rattle.operator_desk.specs.Lines.{line_of};
 ghost use Rattle.cell_rules.specs.Legal.{first_of};
-ghost use Rattle.cell_explain.specs.Waiting.{is_operator, line_wait, lines_done, refusal_line, task_wait, trigger_wait};
-ghost use Rattle.cell_explain.specs.Waiting.{undone_line, waiting_of};
-ghost use Rattle.cell_explain.specs.Endings.{script_lines};
-ghost use Rattle.cell_explain.specs.Places.{HasLine};
+ghost use Rattle.cell_explain.specs.Waiting.{AskFor, Leaves, line_wait, refusal_line, task_of, task_wait};
+ghost use Rattle.cell_explain.specs.Waiting.{trigger_wait, undone_line, waiting_of};
+ghost use Rattle.cell_explain.specs.Endings.{IsUndone, script_lines};
 
 use crate::endings::words::{are, plates, were};
 use crate::places::record_of;
 use cell_journal::Journal;
 use cell_rows::{LineError, read_script};
 use cell_sentences::{RefusalSentence, station_name, the_machine};
-use cell_types::{Actor, Entry, actor_of};
+use cell_types::Entry;
 use operator_desk::{Line, Task, Trigger, holds};
 use plate_book::Book;
 use std::alloc::{AllocError, Global};
 use std::io::{Error, Result, Write};
 
-fn is_operator(actor: Actor) -> bool
-    ensures { result ≡ is_operator actor }
+// The task of which an entry of the operator is.
+fn task_of(entry: Entry) -> Option<Task>
+    ensures { result ≡ task_of entry }
 {
-    matches!(actor, Actor::Operator)
+    match entry {
+        Entry::StopAsked { machine } => Some(Task::Stop(machine)),
+        Entry::Quarantined { src, .. } => Some(Task::Clear(src)),
+        Entry::Repaired { machine } => Some(Task::Repair(machine)),
+        Entry::Expected { plate } => Some(Task::Expect(plate)),
+        _ => None,
+    }
 }
 
-/// How many lines of the operator's script are done in a journal: as many as there are entries of his.
-pub fn lines_done(journal: &Journal) -> u32
-    ensures value { result ≡ lines_done journal.now.entries }
+// Whether the first line that is left asks for an entry, where so many are done.
+fn is_asked_for(lines: &[Line], done: u32, entry: Entry) -> bool
+    ensures asked { result ≡ true → AskFor (drop done lines.now) entry }
+    ensures other { result ≡ false → AskFor (drop done lines.now) entry → ⊥ }
+{
+    match lines.get(done as usize) {
+        Some(line) => task_of(entry) == Some(line.task),
+        None => false,
+    }
+}
+
+/// How many lines of the operator's script are done by a journal's entries from a place on: an entry does the first
+/// line that is left, if that asks for it; and any other entry does none, as one of the cell's desk.
+pub fn lines_done(journal: &Journal, before: u32, lines: &[Line]) -> u32
+    ensures done { Leaves lines.now (drop before journal.now.entries) (drop result lines.now) }
     ensures few { result ≤ length journal.now.entries }
 {
     let mut done: u32 = 0;
-    for place in 0..journal.len() {
-        if is_operator(actor_of(journal.at(place))) {
+    for place in before..journal.len() {
+        if is_asked_for(lines, done, journal.at(place)) {
             done += 1;
         }
     }
@@ -142,31 +160,47 @@ fn write_undone<W: Write>(
     }
 }
 
-/// The line of the operator's script in which the first record begins that isn't done.
-pub(crate) fn undone_at(journal: &Journal, operator: &[u8]) -> usize
-    ensures { HasLine operator.now (lines_done journal.now.entries) result }
+// The lines of the operator's script; one that can't be read has none.
+fn lines_in(alloc: Global, operator: &[u8]) -> Result<Vec<Line>>
+    ensures { IfOk result (λ lines. lines.items ≡ script_lines line_of operator.now) }
 {
-    record_of(operator, lines_done(journal)).line
+    match read_script::<Line>(alloc, operator) {
+        Ok(lines) => Ok(lines),
+        Err(LineError::OutOfMemory) => Err(Error::from(AllocError)),
+        Err(_) => Ok(Vec::new(alloc)),
+    }
 }
 
-/// Writes the first record of the operator's script that isn't done, by its line and its number, and what it waits for.
-/// The records are done in their order, each with an entry of the operator's.
+// Writes the first of these lines that isn't done, where so many are, by the line of the text.
+fn write_first<W: Write>(
+    writer: &mut W,
+    book: &Book,
+    done: u32,
+    at: usize,
+    lines: &[Line],
+) -> Result<()>
+    ensures { OnOk result (Appends (W.contents writer.old) (W.contents writer.new)
+        (waiting_of book.now.limits book.now.entries done at lines.now)) }
+{
+    let number = u64::from(done) + 1;
+    write_undone(writer, book, at, number, lines.get(done as usize).copied())
+}
+
+/// Writes the first record of the operator's script that isn't done by the entries from a place on, by its line and its
+/// number, and what it waits for. The records are done in their order, each with an entry of the operator's.
 pub(crate) fn write_operator<W: Write>(
     alloc: Global,
     writer: &mut W,
     book: &Book,
+    before: u32,
     operator: &[u8],
-    at: usize,
 ) -> Result<()>
-    ensures { OnOk result (Appends (W.contents writer.old) (W.contents writer.new)
-        (waiting_of book.now.limits book.now.entries at (script_lines line_of operator.now))) }
+    ensures { OnOk result ((n : ℕ) × (at : ℕ) × IsUndone operator.now (drop before book.now.entries) n at
+        × Appends (W.contents writer.old) (W.contents writer.new)
+        (waiting_of book.now.limits book.now.entries n at (script_lines line_of operator.now))) }
 {
-    let lines = match read_script::<Line>(alloc, operator) {
-        Ok(lines) => lines,
-        Err(LineError::OutOfMemory) => return Err(Error::from(AllocError)),
-        Err(_) => return Ok(()),
-    };
-    let done = lines_done(book.journal());
-    let number = u64::from(done) + 1;
-    write_undone(writer, book, at, number, lines.get(done as usize).copied())
+    let lines = lines_in(alloc, operator)?;
+    let done = lines_done(book.journal(), before, lines.as_slice());
+    let at = record_of(operator, done).line;
+    write_first(writer, book, done, at, lines.as_slice())
 }

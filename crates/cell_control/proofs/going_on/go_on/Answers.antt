@@ -6,7 +6,8 @@ use Rattle.cell_rows.specs.Scripts.{lines_of}
 use Rattle.operator_desk.specs.Lines.{line_of}
 use Rattle.operator_desk.specs.Next.{left_after}
 use Rattle.operator_desk.specs.declared.line.Line.{Line}
-use Rattle.cell_control.proofs.Going.{drop-next, left-due}
+use Rattle.cell_explain.proofs.Leaving.{drop-next}
+use Rattle.cell_control.proofs.Going.{left-due}
 use Rattle.cell_control.proofs.going_on.go_on.Goals as goal
 
 pub loop-line-init : goal.loop-line-init
@@ -30,5 +31,5 @@ returns c =
       λ says. left-due c.args.operator.now c.args.script.now read c.loop-line.script J n m is
           c.loop-line.invariant.left
           (subst (λ (lines : List Line). lines_of line_of (rows_of c.args.operator.now) ≡ Ok lines)
-          (sym c.as_slice.ensures.value) c.in-Ok.ensures.exact) says c.lines_done-line-end.ensures,
+          (sym c.as_slice.ensures.value) c.in-Ok.ensures.exact) says c.lines_done-line-end.ensures.done,
     )

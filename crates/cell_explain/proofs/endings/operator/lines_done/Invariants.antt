@@ -1,13 +1,15 @@
--- The loop that counts the operator's entries
-use Rattle.std.proofs.Common.{◌≡◌, ◌≤◌, take}
-use Rattle.std.specs.List.{count_by}
-use Rattle.cell_types.specs.Entries.{actor_of}
-use Rattle.cell_explain.specs.Waiting.{is_operator}
+-- The loop over a journal's entries from a place on
+use Rattle.std.proofs.Common.{◌≤◌, ◌-◌, drop, length}
+use Rattle.cell_explain.specs.Waiting.{Leaves}
+use Rattle.cell_explain.proofs.Onward.{between}
 use Rattle.cell_explain.proofs.endings.operator.lines_done.Given as goal
 
--- the operator's entries so far are counted, and as they are no more than all, the count has room
+-- after the entries so far the lines from the first that isn't done on are left, and as no more are done than entries
+-- came, the count has room
 abbrev pub invariant-loop-place : goal.invariant-loop-place
 invariant-loop-place l = record {
-  counted : l.done ≡ count_by (λ e. is_operator (actor_of e)) (take l.place l.journal.entries);
-  few : l.done ≤ l.place;
+  left : Leaves l.lines (between l.before l.place l.journal.entries) (drop l.done l.lines);
+  few : l.done ≤ l.place - l.before;
+  from : l.before ≤ l.place;
+  within : l.place - l.before ≤ length l.journal.entries;
 }
