@@ -11,7 +11,7 @@ ghost use Rattle.cell_command.specs.Shape.{several_rule, show, showing, sim, sim
 ghost use Rattle.cell_command.specs.Shape.{with_input};
 
 use crate::help::{
-    ABOUT, AFTER, AHEAD_HELP, AUDIT_ABOUT, AUDIT_EXAMPLE, AUDIT_HELP, BESIDE_HELP, CHECK_ABOUT,
+    ABOUT, AFTER, AHEAD_HELP, ANIMATE_HELP, AUDIT_ABOUT, AUDIT_EXAMPLE, AUDIT_HELP, BESIDE_HELP, CHECK_ABOUT,
     CHECK_EXAMPLE, CHECK_HELP, CONTROL_ABOUT, CONTROL_EXAMPLE, CONTROL_HELP, CONTROL_USAGE,
     CSV_HELP, DRIVE_ABOUT, DRIVE_EXAMPLE, DRIVE_HELP, ENTRY_HELP, EXPLAIN_ABOUT, EXPLAIN_EXAMPLE,
     EXPLAIN_HELP, EXPLAIN_USAGE, EXPLORE_ABOUT, EXPLORE_EXAMPLE, EXPLORE_HELP, FAIL_HELP,
@@ -198,7 +198,8 @@ fn pictured_command<'a>(alloc: Global) -> Result<Command<'a>, AllocError>
     with_flag(alloc, svg, "html", HTML_HELP)
 }
 
-// The same with the flag for other signs and the options for durations and for a journal that is shown beside.
+// The same with the flag for other signs and the options for durations, for a journal that is shown beside and for one
+// that plays.
 #[tactic(auto, unfolding(crate::specs::Shape::accompanied))]
 fn accompanied_command<'a>(alloc: Global) -> Result<Command<'a>, AllocError>
     ensures app { IfOk result (λ c. app_of c ≡ accompanied) }
@@ -207,7 +208,8 @@ fn accompanied_command<'a>(alloc: Global) -> Result<Command<'a>, AllocError>
     let pictured = pictured_command(alloc)?;
     let unicode = with_flag(alloc, pictured, "unicode", UNICODE_HELP)?;
     let timed = with_times(alloc, unicode)?;
-    with_file(alloc, timed, "beside", "OTHER", BESIDE_HELP)
+    let beside = with_file(alloc, timed, "beside", "OTHER", BESIDE_HELP)?;
+    with_file(alloc, beside, "animate", "JOURNAL", ANIMATE_HELP)
 }
 
 #[tactic(auto, unfolding(crate::specs::Shape::show))]
