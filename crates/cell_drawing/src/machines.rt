@@ -35,8 +35,18 @@ pub fn draw_body<W: Write>(out: &mut W, machine: Machine, outline: Outline) -> i
         Machine::Feed => ink_rectangle(out, belt_rectangle(Belt::Feed), BELT, outline),
         Machine::Deposit => ink_rectangle(out, belt_rectangle(Belt::Deposit), BELT, outline),
         Machine::Table => ink_circle(out, plate_spot(Station::Table), 42, STEEL, outline),
-        Machine::Press1 => ink_rectangle(out, square(plate_spot(Station::Press1), 42), STEEL, outline),
-        Machine::Press2 => ink_rectangle(out, square(plate_spot(Station::Press2), 42), STEEL, outline),
+        Machine::Press1 => ink_rectangle(
+            out,
+            square(plate_spot(Station::Press1), 42),
+            STEEL,
+            outline,
+        ),
+        Machine::Press2 => ink_rectangle(
+            out,
+            square(plate_spot(Station::Press2), 42),
+            STEEL,
+            outline,
+        ),
         Machine::Robot => ink_circle(out, CENTRE, 18, "#b8c1cf", outline),
     }
 }

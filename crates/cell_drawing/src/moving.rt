@@ -105,11 +105,7 @@ pub fn draw_moving<W: Write>(
     }
 }
 
-fn draw_reel<W: Write>(
-    out: &mut W,
-    reel: Reel<'_>,
-    answer: Option<AuditError>,
-) -> io::Result<()> {
+fn draw_reel<W: Write>(out: &mut W, reel: Reel<'_>, answer: Option<AuditError>) -> io::Result<()> {
     draw_sheet(out)?;
     write_style(out, reel)?;
     draw_ground(out)?;

@@ -22,10 +22,7 @@ pub fn plate_spot(station: Station) -> Spot {
 /// A square round a spot.
 pub fn square(centre: Spot, half: u32) -> Rectangle {
     Rectangle {
-        corner: xy(
-            centre.x.saturating_sub(half),
-            centre.y.saturating_sub(half),
-        ),
+        corner: xy(centre.x.saturating_sub(half), centre.y.saturating_sub(half)),
         width: half.saturating_mul(2),
         height: half.saturating_mul(2),
     }

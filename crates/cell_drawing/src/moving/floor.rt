@@ -29,7 +29,7 @@ fn opening() -> Facts {
 }
 
 // Begins what changes as a part does. It turns or grows round a spot.
-fn open<W: Write>(out: &mut W, part: Part, round: Spot) -> io::Result<()> {
+fn begin<W: Write>(out: &mut W, part: Part, round: Spot) -> io::Result<()> {
     let way = if part.is_even() { "E" } else { "S" };
     let Spot { x, y } = round;
     write!(out, "<g class=\"{way} {part}\"")?;
@@ -44,13 +44,13 @@ fn open<W: Write>(out: &mut W, part: Part, round: Spot) -> io::Result<()> {
 }
 
 // Ends what was begun last.
-fn close<W: Write>(out: &mut W) -> io::Result<()> {
+fn end<W: Write>(out: &mut W) -> io::Result<()> {
     writeln!(out, "</g>")
 }
 
 // Writes the texts that follow each other in a part, one below the other, the first so far below the present origin.
 fn draw_texts<W: Write>(out: &mut W, reel: Reel<'_>, part: Part, first: u32) -> io::Result<()> {
-    open(out, part, CENTRE)?;
+    begin(out, part, CENTRE)?;
     let mut y = first;
     if let Some(label) = part.first_label() {
         writeln!(out, "<text y=\"{y}\">{label}</text>")?;
@@ -59,13 +59,14 @@ fn draw_texts<W: Write>(out: &mut W, reel: Reel<'_>, part: Part, first: u32) -> 
     let mut player = Player::at_opening();
     for place in 0..reel.entries {
         if let Some(entry) = reel.journal.get(place) {
-            if let Some(label) = part.label(&player.play(entry)) {
+            let moment = player.play(entry);
+            if let Some(label) = part.label(&moment) {
                 writeln!(out, "<text y=\"{y}\">{label}</text>")?;
                 y = y.saturating_add(ROW);
             }
         }
     }
-    close(out)
+    end(out)
 }
 
 // The plate of a station, if it is forged or if it isn't, with the numbers of all that come there so.
@@ -78,15 +79,15 @@ fn draw_plate<W: Write>(
 ) -> io::Result<()> {
     let (_, letters, _) = plate_inks(forged);
     let Spot { x, y } = at;
-    open(out, Part::Plate(station, forged), at)?;
+    begin(out, Part::Plate(station, forged), at)?;
     ink_tile(out, at, forged)?;
     writeln!(
         out,
         "<g transform=\"translate({x} {y})\" clip-path=\"url(#plate)\" text-anchor=\"middle\" fill=\"{letters}\">"
     )?;
     draw_texts(out, reel, Part::Number(station, forged), 5)?;
-    close(out)?;
-    close(out)
+    end(out)?;
+    end(out)
 }
 
 // The plate of a station, which an axis moves: in a press one that isn't forged and one that is.
@@ -97,7 +98,7 @@ fn draw_carried<W: Write>(
     station: Station,
 ) -> io::Result<()> {
     let at = plate_spot(station);
-    open(out, Part::Moved(axis), at)?;
+    begin(out, Part::Moved(axis), at)?;
     match station {
         Station::Press1 | Station::Press2 => {
             draw_plate(out, reel, station, false, at)?;
@@ -105,7 +106,7 @@ fn draw_carried<W: Write>(
         }
         _ => draw_plate(out, reel, station, !is_before_press(station), at)?,
     }
-    close(out)
+    end(out)
 }
 
 /// Draws all plates but those of the robot's arms.
@@ -129,54 +130,54 @@ fn draw_machine<W: Write>(out: &mut W, machine: Machine) -> io::Result<()> {
     let mut facts = opening();
     draw_body(out, machine, LINE)?;
     draw_name(out, &facts, machine)?;
-    open(out, Part::Asked(machine), CENTRE)?;
+    begin(out, Part::Asked(machine), CENTRE)?;
     facts.asked = [true; 6];
     draw_name(out, &facts, machine)?;
-    close(out)?;
-    open(out, Part::Failed(machine), CENTRE)?;
+    end(out)?;
+    begin(out, Part::Failed(machine), CENTRE)?;
     facts.failed = [true; 6];
     draw_body(out, machine, Outline { failed: true })?;
     draw_name(out, &facts, machine)?;
-    close(out)
+    end(out)
 }
 
 // A belt's light, and the arrow of its motion.
 fn draw_signs<W: Write>(out: &mut W, belt: Belt, axis: Axis) -> io::Result<()> {
-    open(out, Part::Lamp(belt, Colour::Red), CENTRE)?;
+    begin(out, Part::Lamp(belt, Colour::Red), CENTRE)?;
     draw_light(out, belt, Colour::Red)?;
-    close(out)?;
-    open(out, Part::Lamp(belt, Colour::Green), CENTRE)?;
+    end(out)?;
+    begin(out, Part::Lamp(belt, Colour::Green), CENTRE)?;
     draw_light(out, belt, Colour::Green)?;
-    close(out)?;
-    open(out, Part::Going(axis), CENTRE)?;
+    end(out)?;
+    begin(out, Part::Going(axis), CENTRE)?;
     draw_flow(out, belt)?;
-    close(out)
+    end(out)
 }
 
 // The bed of a press, which glows while it forges, and its height.
 fn draw_bed<W: Write>(out: &mut W, press: Press) -> io::Result<()> {
     let middle = plate_spot(press.station);
-    open(out, Part::Moved(press.axis), middle)?;
+    begin(out, Part::Moved(press.axis), middle)?;
     ink_rectangle(out, square(middle, 30), "#c5ccd8", LINE)?;
-    open(out, Part::Glow(press), middle)?;
+    begin(out, Part::Glow(press), middle)?;
     ink_rectangle(out, square(middle, 30), "#ff9a3c", LINE)?;
-    close(out)?;
-    close(out)?;
+    end(out)?;
+    end(out)?;
     draw_scale(out, press)?;
-    open(out, Part::Height(press), middle)?;
+    begin(out, Part::Height(press), middle)?;
     ink_circle(out, height_spot(press, Pose::Middle), 6, "#222222", LINE)?;
-    close(out)
+    end(out)
 }
 
 // The ring and the pointer of the table.
 fn draw_disc<W: Write>(out: &mut W) -> io::Result<()> {
     let middle = plate_spot(Station::Table);
-    open(out, Part::Moved(Axis::TableLift), middle)?;
+    begin(out, Part::Moved(Axis::TableLift), middle)?;
     ink_circle(out, middle, 35, RING, LINE)?;
-    close(out)?;
-    open(out, Part::Moved(Axis::TableTurn), middle)?;
+    end(out)?;
+    begin(out, Part::Moved(Axis::TableTurn), middle)?;
     draw_pointer(out, Pose::Belt)?;
-    close(out)
+    end(out)
 }
 
 // The places of plates.
@@ -193,9 +194,9 @@ fn draw_places<W: Write>(out: &mut W) -> io::Result<()> {
 fn draw_zones<W: Write>(out: &mut W) -> io::Result<()> {
     for zone in ZONES {
         draw_zone(out, zone, false)?;
-        open(out, Part::Held(zone), CENTRE)?;
+        begin(out, Part::Held(zone), CENTRE)?;
         draw_zone(out, zone, true)?;
-        close(out)?;
+        end(out)?;
     }
     Ok(())
 }
@@ -217,30 +218,39 @@ pub fn draw_floor<W: Write>(out: &mut W) -> io::Result<()> {
     draw_zones(out)
 }
 
+// A spot below the robot's middle, behind it from an arm's number.
+fn behind(number: Spot) -> Spot {
+    xy(
+        CENTRE.x.saturating_mul(3).saturating_sub(number.x) / 2,
+        CENTRE.y.saturating_mul(3).saturating_sub(number.y) / 2,
+    )
+}
+
 // An arm with its plate, which stands upright as its number does.
 fn draw_arm<W: Write>(out: &mut W, reel: Reel<'_>, arm: Arm) -> io::Result<()> {
-    let end = tip(arm, Pose::Table1, Pose::In);
+    let hand = tip(arm, Pose::Table1, Pose::In);
     let number = number_spot(arm, Pose::Table1);
     let station = station_of_arm(arm);
-    ink_line(out, CENTRE, end, 14)?;
-    open(out, Part::Moved(axis_of_arm(arm)), CENTRE)?;
-    draw_rod(out, end)?;
-    open(out, Part::Upright, end)?;
-    draw_plate(out, reel, station, !is_before_press(station), end)?;
-    close(out)?;
-    close(out)?;
-    open(out, Part::Upright, number)?;
+    ink_line(out, CENTRE, hand, 14)?;
+    begin(out, Part::Moved(axis_of_arm(arm)), CENTRE)?;
+    ink_line(out, behind(number), CENTRE, 10)?;
+    draw_rod(out, hand)?;
+    begin(out, Part::Upright, hand)?;
+    draw_plate(out, reel, station, !is_before_press(station), hand)?;
+    end(out)?;
+    end(out)?;
+    begin(out, Part::Upright, number)?;
     draw_number(out, number, arm)?;
-    close(out)
+    end(out)
 }
 
 /// Draws the robot with the plates of its arms.
 pub fn draw_robot<W: Write>(out: &mut W, reel: Reel<'_>) -> io::Result<()> {
-    open(out, Part::Moved(Axis::RobotTurn), CENTRE)?;
+    begin(out, Part::Moved(Axis::RobotTurn), CENTRE)?;
     for arm in ARMS {
         draw_arm(out, reel, arm)?;
     }
-    close(out)?;
+    end(out)?;
     draw_machine(out, Machine::Robot)
 }
 
@@ -258,7 +268,7 @@ pub fn draw_words<W: Write>(out: &mut W, reel: Reel<'_>) -> io::Result<()> {
          <g transform=\"translate(20 46)\" clip-path=\"url(#told)\">"
     )?;
     draw_texts(out, reel, Part::Sentence, 0)?;
-    close(out)?;
+    end(out)?;
     for (y, word, count) in [
         (84, "admitted", Count::Admitted),
         (101, "forged", Count::Forged),
@@ -271,7 +281,7 @@ pub fn draw_words<W: Write>(out: &mut W, reel: Reel<'_>) -> io::Result<()> {
             "<g transform=\"translate(165 {y})\" clip-path=\"url(#count)\" text-anchor=\"end\">"
         )?;
         draw_texts(out, reel, Part::Counted(count), 0)?;
-        close(out)?;
+        end(out)?;
     }
     Ok(())
 }

@@ -202,7 +202,8 @@ pub fn write_keys<W: Write>(out: &mut W, reel: Reel<'_>, part: Part) -> io::Resu
     let mut player = Player::at_opening();
     for place in 0..reel.entries {
         if let Some(entry) = reel.journal.get(place) {
-            follow(out, &mut track, &player.play(entry))?;
+            let moment = player.play(entry);
+            follow(out, &mut track, &moment)?;
         }
     }
     let Some(last) = track.last else {

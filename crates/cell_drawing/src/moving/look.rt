@@ -10,8 +10,8 @@ use std::fmt;
 pub enum Look {
     /// Moved as far as the second spot is from the first.
     Moved(Spot, Spot),
-    /// Made larger or smaller.
-    Sized(&'static str),
+    /// So many hundredths as large.
+    Sized(u32),
     /// Turned by so many degrees, as the clock goes.
     Turned(i64),
     /// Its rows are moved up by so many units.
@@ -28,7 +28,10 @@ impl fmt::Display for Look {
                 let y = i64::from(to.y).saturating_sub(i64::from(from.y));
                 write!(f, "transform:translate({x}px,{y}px)")
             }
-            Look::Sized(size) => write!(f, "transform:scale({size})"),
+            Look::Sized(size) => {
+                let (whole, rest) = (size / 100, size % 100);
+                write!(f, "transform:scale({whole}.{rest:02})")
+            }
             Look::Turned(degrees) => write!(f, "transform:rotate({degrees}deg)"),
             Look::Raised(units) => write!(f, "transform:translateY(-{units}px)"),
             Look::Shown(true) => write!(f, "opacity:1"),
@@ -61,10 +64,10 @@ pub fn look_of(axis: Axis, pose: Pose) -> Look {
         (Axis::ArmTwo, _) => reaching(Arm::Arm2, pose),
         (Axis::TableTurn, Pose::Robot) => Look::Turned(180),
         (Axis::TableTurn | Axis::RobotTurn, _) => Look::Turned(0),
-        (_, Pose::High) => Look::Sized("1.1"),
-        (_, Pose::Top) => Look::Sized("1.12"),
-        (_, Pose::Bottom) => Look::Sized(".88"),
-        _ => Look::Sized("1"),
+        (_, Pose::High) => Look::Sized(110),
+        (_, Pose::Top) => Look::Sized(112),
+        (_, Pose::Bottom) => Look::Sized(88),
+        _ => Look::Sized(100),
     }
 }
 

@@ -1,5 +1,5 @@
 //! A journal as it is played: what each entry changes, and when.
-ghost use Rattle.std.specs.Prelude.{◌≤◌};
+ghost use Rattle.cell_journal.specs.Snapshots.{IsCounted, state_of};
 
 use cell_journal::{Journal, Snapshot};
 use cell_picture::{Facts, facts_of};
@@ -59,8 +59,6 @@ pub struct Player {
 }
 
 impl Player {
-    ghost use Rattle.cell_journal.specs.Snapshots.{IsCounted, state_of};
-
     /// The cell at the opening.
     pub fn at_opening() -> Player {
         Player {
