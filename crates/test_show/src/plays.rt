@@ -54,7 +54,9 @@ fn played(rt: &impl Abort, alloc: Global, records: &[&str], entries: u32) -> Str
 fn plays_each_entry_at_its_time(rt: HostRuntime) {
     let file = played(&rt, rt.alloc(), &FEED, 7);
     let picture = file.as_str();
-    assert!(rt; picture.starts_with("<svg xmlns=\"http://www.w3.org/2000/svg\" viewBox=\"0 0 800 480\""));
+    assert!(rt;
+        picture.starts_with("<svg xmlns=\"http://www.w3.org/2000/svg\" viewBox=\"0 0 800 480\"")
+    );
     assert!(rt; picture.ends_with("</svg>\n"));
     for part in &PLAYED {
         assert!(rt; picture.find(*part).is_some(), "{part}");
@@ -81,7 +83,10 @@ fn plays_up_to_the_entry_that_is_refused(rt: HostRuntime) {
     assert!(rt; answer == Ok(1));
     let file = String::from_utf8(bytes).ok().expect(&rt, "text");
     assert!(rt; file.as_str().find("1 entry</text>").is_some());
-    assert!(rt; file.as_str().ends_with(">refused 2 LampAlready feed</text>\n</svg>\n"));
+    assert!(rt;
+        file.as_str()
+            .ends_with(">refused 2 LampAlready feed</text>\n</svg>\n")
+    );
 }
 
 // After one plate the machines that aren't at home go there.
@@ -121,13 +126,7 @@ fn six_plates_play_in_few_bytes(rt: HostRuntime) {
         push_records(&rt, rt.alloc(), &mut text, &HOME, plate);
     }
     let mut bytes = Vec::new(rt.alloc());
-    let answer = show_journal(
-        rt.alloc(),
-        text.as_bytes(),
-        Form::Moving,
-        None,
-        &mut bytes,
-    );
+    let answer = show_journal(rt.alloc(), text.as_bytes(), Form::Moving, None, &mut bytes);
     assert!(rt; answer == Ok(0));
     assert!(rt; bytes.len() < 300_000);
     let file = String::from_utf8(bytes).ok().expect(&rt, "text");

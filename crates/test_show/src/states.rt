@@ -1,7 +1,7 @@
 //! The states that are drawn, and writers that fail while they are.
 use cell_audit::AuditError;
-use cell_journal::Snapshot;
 use cell_drawing::draw_picture;
+use cell_journal::Snapshot;
 use cell_picture::{Facts, Scene, ShownPlate, draw_text, facts_after, facts_of};
 use cell_show::Form;
 use cell_types::{AxisState, Cause, Colour, Entry, Machine, PlateId, Pose, Totals};

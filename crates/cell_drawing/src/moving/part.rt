@@ -9,7 +9,7 @@ use cell_types::{
 use std::fmt;
 
 /// A count that is shown.
-#[derive(Clone, Copy, PartialEq, Eq)]
+#[derive(Clone, Copy)]
 pub enum Count {
     Admitted,
     Forged,
@@ -18,7 +18,7 @@ pub enum Count {
 }
 
 /// A part of a drawing that changes. It is shown by its name, which is that of its class and of its keyframes.
-#[derive(Clone, Copy, PartialEq, Eq)]
+#[derive(Clone, Copy)]
 pub enum Part {
     /// What an axis moves.
     Moved(Axis),
