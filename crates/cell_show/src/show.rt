@@ -280,8 +280,8 @@ pub fn show_rows<R: TellsFault, W: Write>(
 ///
 /// A journal that is refused or can't be read is shown up to its last good entry, with the audit's line below, status
 /// 1. Where the reader fails (status 3) or memory is refused (status 4) nothing is written; nor where the journal has
-/// fewer entries than that, or too many for a page, a chart or a picture in which they play. That status 3 comes only where a failed read was noted
-/// is a clause of `show_rows`, of which this is the case of a new reader of rows.
+/// fewer entries than that, or too many for a page, a chart or a picture in which they play. That status 3 comes only
+/// where a failed read was noted is a clause of `show_rows`, of which this is the case of a new reader of rows.
 pub fn show_journal<R: Read + Drop, W: Write>(
     alloc: Global,
     reader: R,

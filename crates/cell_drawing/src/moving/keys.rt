@@ -116,8 +116,8 @@ fn look_at(part: Part, axis: Axis, pose: Pose, turned: i64) -> Look {
     }
 }
 
-// Writes the keyframes of a motion: where it sets out and where it ends, and that a glow goes out and a belt carries the
-// next plate from its start.
+// Writes the keyframes of a motion: where it sets out and where it ends, and that a glow goes out and a belt carries
+// the next plate from its start.
 fn write_motion<W: Write>(
     out: &mut W,
     track: &mut Track,
@@ -188,8 +188,8 @@ fn follow<W: Write>(out: &mut W, track: &mut Track, moment: &Moment) -> io::Resu
     }
 }
 
-/// Writes the keyframes of a part, and that they are its own; nothing, if it doesn't change. What moves evenly ends as it
-/// looks last, since it would else go back to how it was drawn.
+/// Writes the keyframes of a part, and that they are its own; nothing, if it doesn't change. What moves evenly ends as
+/// it looks last, since it would else go back to how it was drawn.
 pub fn write_keys<W: Write>(out: &mut W, reel: Reel<'_>, part: Part) -> io::Result<()> {
     let mut track = Track {
         part,
