@@ -137,6 +137,7 @@ endless_texts() {
     measure 'a picture of it' 'After 0 entries: the opening' 0 8 20 show --file <(bytes $((50 * mega)) '\n'; cat first)
     measure 'a page of it' '<!DOCTYPE html>' 0 8 20 show --html --file <(bytes $((50 * mega)) '\n'; cat first)
     measure 'a page beside it' '<!DOCTYPE html>' 0 8 20 show --html --beside <(bytes $((50 * mega)) '\n'; cat first) --file first
+    measure 'a picture in which it plays' '<svg xmlns="http://www.w3.org/2000/svg" viewBox="0 0 800 480' 0 8 20 show --svg --animate <(bytes $((50 * mega)) '\n'; cat first)
     measure 'a run that follows it' 'followed' 0 12 20 sim --follow <(bytes $((50 * mega)) '\n'; cat first) good none none
     measure 'a run that goes on from it' 'finished' 0 12 20 sim --from <(bytes $((50 * mega)) '\n'; cat first) good none none
     measure 'blank lines without an end, explained' '' 3 300 20 explain <(yes '')
@@ -182,7 +183,7 @@ odd_names() {
 # Each command with a stack of 512 KB.
 small_stack() {
     printf 'profile,1,,\n' > journal
-    for words in 'audit' 'migrate' 'show' 'show --svg' 'show --html' 'explain' 'explain --settings good' 'measure journal' \
+    for words in 'audit' 'migrate' 'show' 'show --svg' 'show --svg --animate journal' 'show --html' 'explain' 'explain --settings good' 'measure journal' \
         'check good' 'sim --explain good none none' 'run good none none'; do
         # The words of a command are parted at blanks.
         # shellcheck disable=SC2086
@@ -212,7 +213,7 @@ unwritten() {
 outputs_that_fail() {
     printf 'profile,1,,\n' > journal
     for words in 'audit' 'migrate' 'show' 'show --svg' 'show --html' 'explain' 'explain --settings good' '--help' '--version' 'check good' \
-        'audit journal' 'migrate journal' 'show --file journal' 'explain journal' 'measure journal' 'measure --csv journal' 'sim good none none' 'sim --explain good none none' \
+        'audit journal' 'migrate journal' 'show --file journal' 'show --svg --animate journal' 'explain journal' 'measure journal' 'measure --csv journal' 'sim good none none' 'sim --explain good none none' \
         'sim --journal good none none' 'sim --measures good none none' 'run good none none' 'run --journal good none none' 'run --measures good none none' \
         'drive good none none' 'drive --raw good none none' 'explore 1' 'explore --journal 1'; do
         # The words of a command are parted at blanks.
@@ -238,7 +239,7 @@ files_that_fail() {
     ln -s circle circle
     long=$(printf 'n%.0s' {1..300})
     escape=$'\e[31m\xc2\x9b'
-    for words in 'audit' 'migrate' 'show --file' 'show 3 -f' 'show --html --file' 'explain' 'explain --settings' 'explain --faults' \
+    for words in 'audit' 'migrate' 'show --file' 'show 3 -f' 'show --html --file' 'show --svg --animate' 'explain' 'explain --settings' 'explain --faults' \
         'explain --operator' 'measure' 'measure none' 'measure none --times' 'check' 'sim good none' 'run good none'; do
         while read -r file reason; do
             # The words of a command are parted at blanks.

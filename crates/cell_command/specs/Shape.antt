@@ -48,10 +48,11 @@ journal_rule = record (file_rule (codes "file")) { short = Some 102 }
 unfoldable pub pictured : App
 pictured = with_rule (with_rule (new_app (codes "show")) (flag_rule (codes "svg"))) (flag_rule (codes "html"))
 
--- the same with the flag for other signs and the options for durations and for another journal, which is shown beside
+-- the same with the flag for other signs and the options for durations, for another journal, which is shown beside, and
+-- for one that plays
 unfoldable pub accompanied : App
-accompanied = with_rule (with_rule (with_rule pictured (flag_rule (codes "unicode"))) times_rule)
-    (file_rule (codes "beside"))
+accompanied = with_rule (with_rule (with_rule (with_rule pictured (flag_rule (codes "unicode"))) times_rule)
+    (file_rule (codes "beside"))) (file_rule (codes "animate"))
 
 -- the same with the option for a file, and how many entries are shown, which may be given
 unfoldable pub show : App

@@ -11,17 +11,17 @@ ghost use Rattle.cell_command.specs.Shape.{several_rule, show, showing, sim, sim
 ghost use Rattle.cell_command.specs.Shape.{with_input};
 
 use crate::help::{
-    ABOUT, AFTER, AHEAD_HELP, AUDIT_ABOUT, AUDIT_EXAMPLE, AUDIT_HELP, BESIDE_HELP, CHECK_ABOUT,
-    CHECK_EXAMPLE, CHECK_HELP, CONTROL_ABOUT, CONTROL_EXAMPLE, CONTROL_HELP, CONTROL_USAGE,
-    CSV_HELP, DRIVE_ABOUT, DRIVE_EXAMPLE, DRIVE_HELP, ENTRY_HELP, EXPLAIN_ABOUT, EXPLAIN_EXAMPLE,
-    EXPLAIN_HELP, EXPLAIN_USAGE, EXPLORE_ABOUT, EXPLORE_EXAMPLE, EXPLORE_HELP, FAIL_HELP,
-    FAULTS_HELP, FILE_HELP, FOLLOW_HELP, FROM_HELP, HTML_HELP, JOURNAL_HELP, JOURNALS_HELP,
-    KINDS_HELP, LEAST_HELP, LIMIT_HELP, MEASURE_ABOUT, MEASURE_EXAMPLE, MEASURE_HELP,
-    MEASURES_HELP, MIGRATE_ABOUT, MIGRATE_EXAMPLE, MIGRATE_HELP, MOTIONS_HELP, OPERATOR_HELP,
-    PLATES_HELP, RAW_HELP, REPAIR_HELP, RESUME_HELP, RUN_ABOUT, RUN_EXAMPLE, RUN_HELP, RUNS_HELP,
-    SERVICE_HELP, SETTINGS_HELP, SHOW_ABOUT, SHOW_EXAMPLE, SHOW_HELP, SHOW_USAGE, SIM_ABOUT,
-    SIM_EXAMPLE, SIM_HELP, SVG_HELP, SWEEP_ABOUT, SWEEP_EXAMPLE, SWEEP_HELP, SYNC_HELP, TIMES_HELP,
-    UNICODE_HELP, VERSION, WAIT_HELP, WAY_HELP, WHY_HELP,
+    ABOUT, AFTER, AHEAD_HELP, ANIMATE_HELP, AUDIT_ABOUT, AUDIT_EXAMPLE, AUDIT_HELP, BESIDE_HELP,
+    CHECK_ABOUT, CHECK_EXAMPLE, CHECK_HELP, CONTROL_ABOUT, CONTROL_EXAMPLE, CONTROL_HELP,
+    CONTROL_USAGE, CSV_HELP, DRIVE_ABOUT, DRIVE_EXAMPLE, DRIVE_HELP, ENTRY_HELP, EXPLAIN_ABOUT,
+    EXPLAIN_EXAMPLE, EXPLAIN_HELP, EXPLAIN_USAGE, EXPLORE_ABOUT, EXPLORE_EXAMPLE, EXPLORE_HELP,
+    FAIL_HELP, FAULTS_HELP, FILE_HELP, FOLLOW_HELP, FROM_HELP, HTML_HELP, JOURNAL_HELP,
+    JOURNALS_HELP, KINDS_HELP, LEAST_HELP, LIMIT_HELP, MEASURE_ABOUT, MEASURE_EXAMPLE,
+    MEASURE_HELP, MEASURES_HELP, MIGRATE_ABOUT, MIGRATE_EXAMPLE, MIGRATE_HELP, MOTIONS_HELP,
+    OPERATOR_HELP, PLATES_HELP, RAW_HELP, REPAIR_HELP, RESUME_HELP, RUN_ABOUT, RUN_EXAMPLE,
+    RUN_HELP, RUNS_HELP, SERVICE_HELP, SETTINGS_HELP, SHOW_ABOUT, SHOW_EXAMPLE, SHOW_HELP,
+    SHOW_USAGE, SIM_ABOUT, SIM_EXAMPLE, SIM_HELP, SVG_HELP, SWEEP_ABOUT, SWEEP_EXAMPLE, SWEEP_HELP,
+    SYNC_HELP, TIMES_HELP, UNICODE_HELP, VERSION, WAIT_HELP, WAY_HELP, WHY_HELP,
 };
 use clap::{Arg, ArgAction, Command};
 use std::alloc::{AllocError, Global};
@@ -198,7 +198,8 @@ fn pictured_command<'a>(alloc: Global) -> Result<Command<'a>, AllocError>
     with_flag(alloc, svg, "html", HTML_HELP)
 }
 
-// The same with the flag for other signs and the options for durations and for a journal that is shown beside.
+// The same with the flag for other signs and the options for durations, for a journal that is shown beside and for one
+// that plays.
 #[tactic(auto, unfolding(crate::specs::Shape::accompanied))]
 fn accompanied_command<'a>(alloc: Global) -> Result<Command<'a>, AllocError>
     ensures app { IfOk result (λ c. app_of c ≡ accompanied) }
@@ -207,7 +208,8 @@ fn accompanied_command<'a>(alloc: Global) -> Result<Command<'a>, AllocError>
     let pictured = pictured_command(alloc)?;
     let unicode = with_flag(alloc, pictured, "unicode", UNICODE_HELP)?;
     let timed = with_times(alloc, unicode)?;
-    with_file(alloc, timed, "beside", "OTHER", BESIDE_HELP)
+    let beside = with_file(alloc, timed, "beside", "OTHER", BESIDE_HELP)?;
+    with_file(alloc, beside, "animate", "JOURNAL", ANIMATE_HELP)
 }
 
 #[tactic(auto, unfolding(crate::specs::Shape::show))]

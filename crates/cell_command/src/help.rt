@@ -360,7 +360,8 @@ pub(crate) const SHOW_ABOUT: &str = "Draw the cell as a journal's first entries 
 pub(crate) const SHOW_USAGE: &str = "\
 cellctl show [--svg | --html | --unicode] [--file FILE] [ENTRY]
        cellctl show (--svg | --html) --times FILE [--file FILE] [ENTRY]
-       cellctl show --html --beside OTHER [--times FILE] [--file FILE] [ENTRY]";
+       cellctl show --html --beside OTHER [--times FILE] [--file FILE] [ENTRY]
+       cellctl show --svg --animate JOURNAL [ENTRY]";
 
 pub(crate) const SHOW_HELP: &str = "\
 Reads a journal's text from FILE, or on standard input where no file is named,
@@ -380,6 +381,8 @@ where motions take what FILE says (see the command measure), and with --html
 --times FILE the page has such a picture of all entries below the states. With
 --html --beside OTHER two such pages stand side by side in one, that of the
 journal and that of the journal in the file OTHER, and are stepped together.
+With --svg --animate JOURNAL the picture moves: the first ENTRY entries of the
+journal in the file JOURNAL, which has at most 20000, play in a loop.
 
 A journal that is refused or can't be read is shown up to its last good entry,
 and below stands the line of the command audit. The page has the entry that is
@@ -434,6 +437,8 @@ pub(crate) const SVG_HELP: &str = "Print one picture file in SVG";
 pub(crate) const HTML_HELP: &str = "Print one page in HTML with all states";
 
 pub(crate) const BESIDE_HELP: &str = "The file with a journal to be shown beside it";
+
+pub(crate) const ANIMATE_HELP: &str = "Let the entries of this journal play in the picture";
 
 pub(crate) const UNICODE_HELP: &str = "Draw with signs beyond ASCII";
 

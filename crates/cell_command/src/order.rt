@@ -65,8 +65,8 @@ pub struct Controlling<'a> {
 }
 
 /// How a journal is to be shown: which flags are given, the file with the durations of motions, if there is one, that
-/// of another journal, which is shown beside it, if there is one, the file that has the journal, if it isn't on
-/// standard input, and the number of entries as it is written.
+/// of another journal, which is shown beside it, if there is one, that of the journal, if it is to play, the file that
+/// has the journal, if it isn't on standard input, and the number of entries as it is written.
 #[derive(Clone, Copy, Debug, PartialEq, Eq)]
 pub struct Showing<'a> {
     pub svg: bool,
@@ -74,6 +74,7 @@ pub struct Showing<'a> {
     pub unicode: bool,
     pub times: Option<&'a str>,
     pub beside: Option<&'a str>,
+    pub animate: Option<&'a str>,
     pub file: Option<&'a str>,
     pub entry: Option<&'a str>,
 }
@@ -260,6 +261,7 @@ fn show_words<'a>(matches: &ArgMatches<'a>) -> Showing<'a>
         unicode: flag(matches, "unicode"),
         times: value(matches, "times"),
         beside: value(matches, "beside"),
+        animate: value(matches, "animate"),
         file: value(matches, "file"),
         entry: value(matches, "entry"),
     }

@@ -88,11 +88,34 @@ IsTimed times asked (timed.Refused line) = IsGiven times
 IsTimed times asked timed.Loose = IsLoose times (Some asked)
 
 -- the flags ask for one form, in which a journal is shown; or the durations are refused; or the flags are wrong
-abbrev pub ShowsWords : Showing → Option (List ℕ) → Option (List ℕ) → Option (List ℕ) → Option (List ℕ)
+abbrev pub ShowsStill : Showing → Option (List ℕ) → Option (List ℕ) → Option (List ℕ) → Option (List ℕ)
     → Option (List ℕ) → ℕ → Type 0
-ShowsWords showing input old new old_errors new_errors status =
+ShowsStill showing input old new old_errors new_errors status =
     ShowsEntry showing input old new old_errors new_errors status
     ⊎ ((IsGiven showing.times × TellsTimes old new (Ok status))
     ⊎ (IsWrong old new old_errors new_errors status × ((form_of showing.svg showing.html showing.unicode ≡ None)
     ⊎ (IsLoose showing.times (form_of showing.svg showing.html showing.unicode)
     ⊎ IsAlone showing.beside (form_of showing.svg showing.html showing.unicode)))))
+
+-- something is asked for that doesn't go with a journal that plays: no picture, or not it alone, or another option
+abbrev pub IsMixed : Showing → Type 0
+IsMixed showing = (form_of showing.svg showing.html showing.unicode ≢ Some form.Picture)
+    ⊎ (IsGiven showing.times ⊎ (IsGiven showing.beside ⊎ IsGiven showing.file))
+
+-- a picture is asked for, in which the journal of a file plays; or something is asked for that doesn't go with it
+abbrev pub Plays : Bor (List ℕ) → Showing → Option (List ℕ) → Option (List ℕ) → Option (List ℕ) → Option (List ℕ)
+    → Option (List ℕ) → ℕ → Type 0
+Plays path showing input old new old_errors new_errors status =
+    ShowsEntry (record showing { file = Some path }) input old new old_errors new_errors status
+    ⊎ (IsWrong old new old_errors new_errors status × IsMixed showing)
+
+-- what is written where a journal is to play, and where it isn't
+abbrev pub ShowsAsked : Option (Bor (List ℕ)) → Showing → Option (List ℕ) → Option (List ℕ) → Option (List ℕ)
+    → Option (List ℕ) → Option (List ℕ) → ℕ → Type 0
+ShowsAsked None showing = ShowsStill showing
+ShowsAsked (Some path) showing = Plays path showing
+
+-- a journal is shown, or plays, by the words of the command line
+abbrev pub ShowsWords : Showing → Option (List ℕ) → Option (List ℕ) → Option (List ℕ) → Option (List ℕ)
+    → Option (List ℕ) → ℕ → Type 0
+ShowsWords showing = ShowsAsked showing.animate showing

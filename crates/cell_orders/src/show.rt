@@ -3,7 +3,8 @@ ghost use Rattle.std.specs.Prelude.{◌≡◌, ◌≢◌, ◌<◌, ◌≤◌, �
 ghost use Rattle.cell_rows.specs.Rows.{rows_of};
 ghost use Rattle.cell_audit.specs.Migrated.{rows_in};
 ghost use Rattle.cell_show.specs.Shown.{AsksPast, HasEntry, ShownOf, TellsEntries, TellsStatus};
-ghost use Rattle.cell_orders.specs.Shows.{IsAlone, IsAsked, IsTimed, Shows, ShowsEntry, ShowsSome, ShowsWords, form_of};
+ghost use Rattle.cell_orders.specs.Shows.{IsAlone, IsAsked, IsMixed, IsTimed, Plays, Shows, ShowsEntry, ShowsSome};
+ghost use Rattle.cell_orders.specs.Shows.{ShowsStill, ShowsWords, form_of};
 ghost use Rattle.cell_orders.specs.Texts.{OfText};
 
 use crate::failure::Failure;
@@ -280,15 +281,15 @@ fn is_alone(beside: Option<&str>, form: Form) -> bool
     }
 }
 
-/// Shows a journal, as the words of the command line ask.
-pub fn show_words<'a, R: AllocGlobal + Files, I: Read + Drop, W: Write, E: Write>(
+// Shows a journal that doesn't play, as the words of the command line ask.
+fn show_still<'a, R: AllocGlobal + Files, I: Read + Drop, W: Write, E: Write>(
     rt: &R,
     input: I,
     output: &mut W,
     errors: &mut E,
     showing: Showing<'a>,
 ) -> Result<Result<u8, WriteFault>, Failure<'a>>
-    ensures { IfOk result (λ written. IfOk written (ShowsWords showing.entry (I.remaining input) (W.contents output.old)
+    ensures { IfOk result (λ written. IfOk written (ShowsStill showing.entry (I.remaining input) (W.contents output.old)
         (W.contents output.new) (E.contents errors.old) (E.contents errors.new))) }
 {
     let Some(form) = form_of(&showing) else {
@@ -304,5 +305,56 @@ pub fn show_words<'a, R: AllocGlobal + Files, I: Read + Drop, W: Write, E: Write
         Timed::Form(form) => show_entry(rt, input, output, errors, form, showing),
         Timed::Refused(line) => Ok(tell_times(output, line.as_str())),
         Timed::Loose => Ok(wrong(errors, "--times goes with --svg or --html")?),
+    }
+}
+
+// Whether a picture is asked for, and nothing that doesn't go with a journal that plays in it.
+fn may_play(showing: &Showing<'_>) -> bool
+    ensures { result ≢ true → IsMixed showing.now }
+{
+    match form_of(showing) {
+        Some(Form::Picture) => {
+            showing.times.is_none() && showing.beside.is_none() && showing.file.is_none()
+        }
+        _ => false,
+    }
+}
+
+// Shows the journal in a file as it plays, as the words of the command line ask.
+fn show_moving<'a, R: AllocGlobal + Files, I: Read + Drop, W: Write, E: Write>(
+    rt: &R,
+    input: I,
+    output: &mut W,
+    errors: &mut E,
+    showing: Showing<'a>,
+    path: &'a str,
+) -> Result<Result<u8, WriteFault>, Failure<'a>>
+    ensures { IfOk result (λ written. IfOk written (Plays path.entry showing.entry (I.remaining input)
+        (W.contents output.old) (W.contents output.new) (E.contents errors.old) (E.contents errors.new))) }
+{
+    if !may_play(&showing) {
+        return Ok(wrong(errors, "--animate goes with --svg alone")?);
+    }
+    let played = Showing {
+        file: Some(path),
+        ..showing
+    };
+    show_entry(rt, input, output, errors, Form::Moving, played)
+}
+
+/// Shows a journal, as the words of the command line ask.
+pub fn show_words<'a, R: AllocGlobal + Files, I: Read + Drop, W: Write, E: Write>(
+    rt: &R,
+    input: I,
+    output: &mut W,
+    errors: &mut E,
+    showing: Showing<'a>,
+) -> Result<Result<u8, WriteFault>, Failure<'a>>
+    ensures { IfOk result (λ written. IfOk written (ShowsWords showing.entry (I.remaining input) (W.contents output.old)
+        (W.contents output.new) (E.contents errors.old) (E.contents errors.new))) }
+{
+    match showing.animate {
+        None => show_still(rt, input, output, errors, showing),
+        Some(path) => show_moving(rt, input, output, errors, showing, path),
     }
 }

@@ -1,19 +1,15 @@
-//! Pictures of the cell: what they show of a journal's state, the picture as text, and the picture as one SVG file.
+//! What a picture of the cell shows of a journal's state, and the picture as text.
 #![tactic(auto)]
 
 mod facts;
-mod ink;
-mod machines;
 mod parts;
-mod picture;
-mod robot;
 mod scene;
 mod sheet;
 mod text;
 mod views;
 
 pub use facts::{Facts, ShownPlate, facts_of};
-pub use picture::draw_picture;
+pub use parts::{axis_at, holder_at, is_asked, is_failed, lamp_at, plate_at};
 pub use scene::{AnswerLine, Scene};
 pub use text::{draw_text, draw_text_watched};
 pub use views::facts_after;

@@ -118,6 +118,7 @@ abbrev pub HasBound : Form → Type 0
 HasBound form.Page = ⊤
 HasBound (form.Chart durations) = ⊤
 HasBound (form.TimedPage durations) = ⊤
+HasBound form.Moving = ⊤
 HasBound _ = ⊥
 
 -- the word for so many entries

@@ -12,7 +12,7 @@ use std::fmt;
 pub enum ShowError {
     /// The journal has only so many entries before the first that can't be read or isn't allowed. Nothing was written.
     NoSuchEntry(u32),
-    /// The journal has more entries than a page or a chart shows. Nothing was written.
+    /// The journal has more entries than a page, a chart or a picture in which they play shows. Nothing was written.
     TooManyEntries,
     /// The writer failed. A first part may be written.
     WriteFault,

@@ -4,6 +4,7 @@
 mod beside;
 pub mod chart;
 mod error;
+pub mod moving;
 pub mod page;
 mod show;
 

@@ -9,11 +9,13 @@ ghost use Rattle.cell_show.specs.Shown.{IsRefused, ShowsPage, ShowsSome};
 
 use crate::ShowError;
 use crate::chart::{ChartError, draw_chart};
+use crate::moving::write_moving;
 use crate::page::write_page;
 use cell_audit::{AuditError, read_rows};
+use cell_drawing::draw_picture;
 use cell_measures::Durations;
 use cell_output::status;
-use cell_picture::{Scene, draw_picture, draw_text, facts_after};
+use cell_picture::{Scene, draw_text, facts_after};
 use cell_rows::{RowReader, TellsFault, Watched};
 use cell_types::{Entry, Totals, read_fields};
 use plate_book::Book;
@@ -35,6 +37,8 @@ pub enum Form {
     Chart(Durations),
     /// As one page with all states, in HTML, and in it all entries on an axis of time, in which motions take so long.
     TimedPage(Durations),
+    /// As one picture file in which the entries play, in SVG.
+    Moving,
 }
 
 // The status of an audit's answer.
@@ -168,6 +172,22 @@ fn draw_timed_page<W: Write>(
     Ok(true)
 }
 
+// Writes the first entries of a book as they play.
+fn draw_entries<W: Write>(
+    writer: &mut W,
+    book: &Book,
+    entries: u32,
+    answer: Option<AuditError>,
+) -> Result<bool, ShowError>
+    ensures entry { (n : ℕ) → result ≢ Err (ShowError.NoSuchEntry n) }
+    ensures long { result ≡ Err ShowError.TooManyEntries → 20000 < length book.now.entries }
+    ensures nothing { IfErr result (λ e. e ≢ ShowError.WriteFault → writer.new ≡ writer.old) }
+    ensures memory { result ≢ Ok false }
+{
+    write_moving(writer, book.journal(), entries, answer)?;
+    Ok(true)
+}
+
 // Writes what the first entries of a book left, and says whether there was memory for it.
 fn draw<W: Write>(
     alloc: Global,
@@ -205,6 +225,7 @@ fn draw<W: Write>(
         Form::TimedPage(durations) => {
             return draw_timed_page(alloc, writer, durations, book, answer, stopped);
         }
+        Form::Moving => return draw_entries(writer, book, entries, answer),
     }
     Ok(true)
 }
@@ -255,12 +276,12 @@ pub fn show_rows<R: TellsFault, W: Write>(
 }
 
 /// Shows the cell as the first `entry` entries of the journal on the reader left it, or all of them where `entry` is
-/// `None`, and gives the exit status. A page has all states.
+/// `None`, and gives the exit status. A page has all states; where the entries play those do.
 ///
 /// A journal that is refused or can't be read is shown up to its last good entry, with the audit's line below, status
 /// 1. Where the reader fails (status 3) or memory is refused (status 4) nothing is written; nor where the journal has
-/// fewer entries than that, or too many for a page or a chart. That status 3 comes only where a failed read was noted
-/// is a clause of `show_rows`, of which this is the case of a new reader of rows.
+/// fewer entries than that, or too many for a page, a chart or a picture in which they play. That status 3 comes only
+/// where a failed read was noted is a clause of `show_rows`, of which this is the case of a new reader of rows.
 pub fn show_journal<R: Read + Drop, W: Write>(
     alloc: Global,
     reader: R,
@@ -280,7 +301,7 @@ pub fn show_journal<R: Read + Drop, W: Write>(
     ensures past { IfErr result (AsksPast entry) }
     // There are as many good entries as are told, or too many for a page.
     ensures entries { IfErr result (λ why. IfSome (rows_in (R.remaining reader)) (TellsEntries why)) }
-    // Only a page or a chart has too many entries.
+    // Only a page, a chart or a picture in which entries play has too many entries.
     ensures bound { result ≡ Err ShowError.TooManyEntries → HasBound form }
     ensures nothing { IfErr result (λ e. e ≢ ShowError.WriteFault → writer.new ≡ writer.old) }
     // Where the reader doesn't tell its bytes, all this is so of some text.

@@ -97,6 +97,11 @@ fn show_journal_as_chart(rt: HostRuntime) -> Result<(), Fail> {
 }
 
 #[test]
+fn show_journal_as_it_plays(rt: HostRuntime) -> Result<(), Fail> {
+    check_show(&rt, Form::Moving)
+}
+
+#[test]
 fn show_journal_as_page_with_chart(rt: HostRuntime) -> Result<(), Fail> {
     check_show(&rt, Form::TimedPage(Durations::ONE))
 }

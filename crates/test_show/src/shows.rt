@@ -320,6 +320,7 @@ fn tells_that_the_writer_failed(rt: HostRuntime) {
         Form::Page,
         Form::Chart(Durations::ONE),
         Form::TimedPage(Durations::ONE),
+        Form::Moving,
     ] {
         for &left in &[0, 1, 500] {
             is_cut(&rt, rt.alloc(), form, left);

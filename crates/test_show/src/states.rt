@@ -1,7 +1,8 @@
 //! The states that are drawn, and writers that fail while they are.
 use cell_audit::AuditError;
+use cell_drawing::draw_picture;
 use cell_journal::Snapshot;
-use cell_picture::{Facts, Scene, ShownPlate, draw_picture, draw_text, facts_after, facts_of};
+use cell_picture::{Facts, Scene, ShownPlate, draw_text, facts_after, facts_of};
 use cell_show::Form;
 use cell_types::{AxisState, Cause, Colour, Entry, Machine, PlateId, Pose, Totals};
 use plate_book::{Book, Refusal};
@@ -87,7 +88,7 @@ fn draws<W: Write>(writer: &mut W, scene: &Scene, form: Form) -> bool {
     match form {
         Form::Text => draw_text(writer, scene, false).is_ok(),
         Form::Unicode => draw_text(writer, scene, true).is_ok(),
-        Form::Picture | Form::Page | Form::Chart(_) | Form::TimedPage(_) => {
+        Form::Picture | Form::Page | Form::Chart(_) | Form::TimedPage(_) | Form::Moving => {
             draw_picture(writer, scene).is_ok()
         }
     }

@@ -3,7 +3,8 @@ ghost use Rattle.std.specs.Prelude.{◌≡◌, Err, OnOk};
 ghost use Rattle.cell_show.specs.Page.{AppendsSome};
 
 use crate::page::PageError;
-use cell_picture::{Scene, draw_picture, facts_after};
+use cell_drawing::draw_picture;
+use cell_picture::{Scene, facts_after};
 use plate_book::Book;
 use std::io::Write;
 

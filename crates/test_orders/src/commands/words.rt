@@ -17,7 +17,7 @@ const ORDERS: [&str; 7] = [
     "cellctl check settings.toml|Check(\"settings.toml\")",
 ];
 
-const REFUSED: [&str; 40] = [
+const REFUSED: [&str; 41] = [
     "cellctl brew|InvalidSubcommand",
     "cellctl run|MissingRequiredArgument",
     "cellctl sim|MissingRequiredArgument",
@@ -36,6 +36,7 @@ const REFUSED: [&str; 40] = [
     "cellctl migrate one.journal two.journal|UnknownArgument",
     "cellctl show 1 2|UnknownArgument",
     "cellctl show --file|InvalidValue",
+    "cellctl show --svg --animate|InvalidValue",
     "cellctl show -f a -f b|ArgumentConflict",
     "cellctl explain one.journal two.journal|UnknownArgument",
     "cellctl measure|MissingRequiredArgument",
@@ -106,30 +107,40 @@ const RUNS: [&str; 13] = [
         paths: Paths { settings: \"cell.toml\", faults: \"none.faults\", operator: \"none.operator\" } })",
 ];
 
-const SHOWN: [&str; 9] = [
+const SHOWN: [&str; 11] = [
     "cellctl show --svg --times a.toml|\
-        Show(Showing { svg: true, html: false, unicode: false, times: Some(\"a.toml\"), beside: None, file: None, \
-        entry: None })",
+        Show(Showing { svg: true, html: false, unicode: false, times: Some(\"a.toml\"), beside: None, animate: None, \
+        file: None, entry: None })",
     "cellctl show --html --beside b.journal --file a.journal|\
-        Show(Showing { svg: false, html: true, unicode: false, times: None, beside: Some(\"b.journal\"), file: \
-        Some(\"a.journal\"), entry: None })",
-    "cellctl show --svg 20|Show(Showing { svg: true, html: false, unicode: false, times: None, beside: None, file: \
-        None, entry: Some(\"20\") })",
-    "cellctl show|Show(Showing { svg: false, html: false, unicode: false, times: None, beside: None, file: None, \
-        entry: None })",
+        Show(Showing { svg: false, html: true, unicode: false, times: None, beside: Some(\"b.journal\"), animate: \
+        None, file: Some(\"a.journal\"), entry: None })",
+    "cellctl show --svg 20|\
+        Show(Showing { svg: true, html: false, unicode: false, times: None, beside: None, animate: None, file: None, \
+        entry: Some(\"20\") })",
+    "cellctl show --svg --animate a.journal|\
+        Show(Showing { svg: true, html: false, unicode: false, times: None, beside: None, animate: \
+        Some(\"a.journal\"), file: None, entry: None })",
+    "cellctl show --animate=a.journal --svg 20|\
+        Show(Showing { svg: true, html: false, unicode: false, times: None, beside: None, animate: \
+        Some(\"a.journal\"), file: None, entry: Some(\"20\") })",
+    "cellctl show|\
+        Show(Showing { svg: false, html: false, unicode: false, times: None, beside: None, animate: None, file: \
+        None, entry: None })",
     "cellctl show whole.journal|\
-        Show(Showing { svg: false, html: false, unicode: false, times: None, beside: None, file: None, entry: \
-        Some(\"whole.journal\") })",
+        Show(Showing { svg: false, html: false, unicode: false, times: None, beside: None, animate: None, file: \
+        None, entry: Some(\"whole.journal\") })",
     "cellctl show --file whole.journal|\
-        Show(Showing { svg: false, html: false, unicode: false, times: None, beside: None, file: \
+        Show(Showing { svg: false, html: false, unicode: false, times: None, beside: None, animate: None, file: \
         Some(\"whole.journal\"), entry: None })",
-    "cellctl show --html --file=20|Show(Showing { svg: false, html: true, unicode: false, times: None, beside: None, \
-        file: Some(\"20\"), entry: None })",
-    "cellctl show -f 20 30|Show(Showing { svg: false, html: false, unicode: false, times: None, beside: None, file: \
+    "cellctl show --html --file=20|\
+        Show(Showing { svg: false, html: true, unicode: false, times: None, beside: None, animate: None, file: \
+        Some(\"20\"), entry: None })",
+    "cellctl show -f 20 30|\
+        Show(Showing { svg: false, html: false, unicode: false, times: None, beside: None, animate: None, file: \
         Some(\"20\"), entry: Some(\"30\") })",
     "cellctl show --unicode 30 -f20|\
-        Show(Showing { svg: false, html: false, unicode: true, times: None, beside: None, file: Some(\"20\"), entry: \
-        Some(\"30\") })",
+        Show(Showing { svg: false, html: false, unicode: true, times: None, beside: None, animate: None, file: \
+        Some(\"20\"), entry: Some(\"30\") })",
 ];
 
 const EXPLAINED: [&str; 5] = [

@@ -2,7 +2,7 @@
 use Rattle.std.proofs.Common.{refl, inl, inr, rules}
 use Rattle.std.specs.Prelude.{codes}
 use Rattle.cell_orders.proofs.Arguments.{wrong-told}
-use Rattle.cell_orders.proofs.show.show_words.Goals as goal
+use Rattle.cell_orders.proofs.show.show_still.Goals as goal
 
 pub returns-in_default : goal.returns-in_default
 returns-in_default g c =

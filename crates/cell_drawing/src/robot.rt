@@ -1,13 +1,11 @@
 //! The robot of a drawing.
-use crate::Facts;
 use crate::ink::{Outline, Spot, Way, ink_circle, ink_line, ink_plate, ink_text, xy};
-use crate::machines::{draw_name, outline_of};
-use crate::parts::{axis_at, plate_at};
-use cell_types::{Arm, Axis, AxisState, Machine, Pose, axis_of_arm, station_of_arm};
+use crate::machines::{draw_body, draw_name, outline_of};
+use crate::spots::CENTRE;
+use cell_picture::{Facts, axis_at, plate_at};
+use cell_types::{Arm, Axis, Machine, Pose, axis_of_arm, station_of_arm};
 use std::io;
 use std::io::Write;
-
-const CENTRE: Spot = Spot { x: 400, y: 250 };
 
 /// A way in which an arm points, seen from above. Press 1 is up, press 2 down, the table left, the deposit belt right.
 #[derive(Clone, Copy)]
@@ -56,27 +54,46 @@ fn spot_at(bearing: Bearing, straight: u32, slanted: u32) -> Spot {
     }
 }
 
-// The end of an arm: where it is out, over what it faces.
-fn tip(bearing: Bearing, state: AxisState) -> Spot {
-    match state.at {
+/// The end of an arm where the robot's turn and the arm have these poses: where it is out, over what it faces.
+pub fn tip(arm: Arm, turn: Pose, pose: Pose) -> Spot {
+    let bearing = bearing_of(arm, turn);
+    match pose {
         Pose::Out => spot_at(bearing, 150, 106),
         _ => spot_at(bearing, 70, 49),
     }
 }
 
-fn draw_arm<W: Write>(out: &mut W, facts: &Facts, arm: Arm, number: u32) -> io::Result<()> {
-    let turn = axis_at(facts, Axis::RobotTurn);
-    let bearing = bearing_of(arm, turn.at);
-    let end = tip(bearing, axis_at(facts, axis_of_arm(arm)));
+/// Where an arm's number stands where the robot's turn has a pose.
+pub fn number_spot(arm: Arm, turn: Pose) -> Spot {
+    spot_at(bearing_of(arm, turn), 34, 24)
+}
+
+/// Draws an arm to its end.
+pub fn draw_rod<W: Write>(out: &mut W, end: Spot) -> io::Result<()> {
     ink_line(out, CENTRE, end, 10)?;
-    ink_circle(out, end, 8, "#ffffff", Outline { failed: false })?;
-    let Spot { x, y } = spot_at(bearing, 34, 24);
-    ink_circle(out, xy(x, y), 9, "#ffffff", Outline { failed: false })?;
+    ink_circle(out, end, 8, "#ffffff", Outline { failed: false })
+}
+
+/// Draws an arm's number.
+pub fn draw_number<W: Write>(out: &mut W, at: Spot, arm: Arm) -> io::Result<()> {
+    let number = match arm {
+        Arm::Arm1 => 1,
+        Arm::Arm2 => 2,
+    };
+    ink_circle(out, at, 9, "#ffffff", Outline { failed: false })?;
     writeln!(
         out,
-        "<text x=\"{x}\" y=\"{}\" font-size=\"12\" text-anchor=\"middle\">{number}</text>",
-        y.saturating_add(4)
-    )?;
+        "<text x=\"{}\" y=\"{}\" font-size=\"12\" text-anchor=\"middle\">{number}</text>",
+        at.x,
+        at.y.saturating_add(4)
+    )
+}
+
+fn draw_arm<W: Write>(out: &mut W, facts: &Facts, arm: Arm) -> io::Result<()> {
+    let turn = axis_at(facts, Axis::RobotTurn).at;
+    let end = tip(arm, turn, axis_at(facts, axis_of_arm(arm)).at);
+    draw_rod(out, end)?;
+    draw_number(out, number_spot(arm, turn), arm)?;
     match plate_at(facts, station_of_arm(arm)) {
         Some(shown) => ink_plate(out, end, shown),
         None => Ok(()),
@@ -85,16 +102,10 @@ fn draw_arm<W: Write>(out: &mut W, facts: &Facts, arm: Arm, number: u32) -> io::
 
 /// Draws the robot, its arms and their plates.
 pub fn draw_robot<W: Write>(out: &mut W, facts: &Facts) -> io::Result<()> {
-    draw_arm(out, facts, Arm::Arm1, 1)?;
-    draw_arm(out, facts, Arm::Arm2, 2)?;
-    ink_circle(
-        out,
-        CENTRE,
-        18,
-        "#b8c1cf",
-        outline_of(facts, Machine::Robot),
-    )?;
-    draw_name(out, facts, Machine::Robot, xy(482, 299))?;
+    draw_arm(out, facts, Arm::Arm1)?;
+    draw_arm(out, facts, Arm::Arm2)?;
+    draw_body(out, Machine::Robot, outline_of(facts, Machine::Robot))?;
+    draw_name(out, facts, Machine::Robot)?;
     let first = Way(axis_at(facts, Axis::ArmOne));
     ink_text(out, xy(482, 316), format_args!("arm 1 {first}"))?;
     let second = Way(axis_at(facts, Axis::ArmTwo));

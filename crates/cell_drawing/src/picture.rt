@@ -1,10 +1,10 @@
 //! The picture of the cell as one SVG file.
 use crate::ink::{Spot, ink_bold, ink_place, ink_right, ink_text, xy};
-use crate::machines::{draw_deposit, draw_feed, draw_presses, draw_table, draw_zone};
-use crate::parts::holder_at;
+use crate::machines::{draw_belts, draw_presses, draw_table, draw_zone};
 use crate::robot::draw_robot;
-use crate::{AnswerLine, Facts, Scene, ShownPlate};
+use cell_audit::AuditError;
 use cell_output::WriteFault;
+use cell_picture::{AnswerLine, Facts, Scene, ShownPlate, holder_at};
 use cell_sentences::EntrySentence;
 use cell_types::texts::{machine_word, zone_word};
 use cell_types::{PlateId, ZONES, Zone, owner, visitor};
@@ -25,24 +25,28 @@ pub fn draw_picture<W: Write>(writer: &mut W, scene: &Scene) -> Result<(), Write
 
 fn draw_scene<W: Write>(out: &mut W, scene: &Scene) -> io::Result<()> {
     let facts = scene.facts;
-    writeln!(
-        out,
-        "<svg xmlns=\"http://www.w3.org/2000/svg\" viewBox=\"0 0 800 480\" width=\"800\" height=\"480\" \
-         font-family=\"Helvetica, Arial, sans-serif\" font-size=\"13\" fill=\"#111111\">"
-    )?;
+    draw_sheet(out)?;
     writeln!(out, "<rect width=\"800\" height=\"480\" fill=\"#ffffff\"/>")?;
     draw_heading(out, scene)?;
     draw_totals(out, facts)?;
     draw_waiting(out, facts)?;
-    draw_feed(out, facts)?;
-    draw_deposit(out, facts)?;
+    draw_belts(out, facts)?;
     draw_presses(out, facts)?;
     draw_table(out, facts)?;
     draw_robot(out, facts)?;
     draw_holders(out, facts)?;
     draw_legend(out)?;
-    draw_answer(out, scene)?;
+    draw_answer(out, scene.answer)?;
     writeln!(out, "</svg>")
+}
+
+/// Begins a file of 800 by 480 units.
+pub fn draw_sheet<W: Write>(out: &mut W) -> io::Result<()> {
+    writeln!(
+        out,
+        "<svg xmlns=\"http://www.w3.org/2000/svg\" viewBox=\"0 0 800 480\" width=\"800\" height=\"480\" \
+         font-family=\"Helvetica, Arial, sans-serif\" font-size=\"13\" fill=\"#111111\">"
+    )
 }
 
 fn draw_heading<W: Write>(out: &mut W, scene: &Scene) -> io::Result<()> {
@@ -137,14 +141,15 @@ fn draw_sample<W: Write>(out: &mut W, at: Spot, forged: bool, says: &str) -> io:
     )
 }
 
-// What the plates' signs mean.
-fn draw_legend<W: Write>(out: &mut W) -> io::Result<()> {
+/// What the plates' signs mean.
+pub fn draw_legend<W: Write>(out: &mut W) -> io::Result<()> {
     draw_sample(out, xy(678, 386), false, "not forged")?;
     draw_sample(out, xy(678, 418), true, "forged")
 }
 
-fn draw_answer<W: Write>(out: &mut W, scene: &Scene) -> io::Result<()> {
-    match scene.answer {
+/// The line of an answer.
+pub fn draw_answer<W: Write>(out: &mut W, answer: Option<AuditError>) -> io::Result<()> {
+    match answer {
         Some(answer) => {
             let line = AnswerLine(answer);
             writeln!(

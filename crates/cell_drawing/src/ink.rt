@@ -1,5 +1,5 @@
 //! The shapes and texts of a drawing, in SVG's elements.
-use crate::ShownPlate;
+use cell_picture::ShownPlate;
 use cell_types::AxisState;
 use cell_types::texts::pose_word;
 use std::fmt::Display;
@@ -121,20 +121,32 @@ pub fn ink_rectangle<W: Write>(
     )
 }
 
-/// Draws a plate round a xy, with its number: white where it isn't forged, dark and with a star where it is.
-pub fn ink_plate<W: Write>(out: &mut W, centre: Spot, shown: ShownPlate) -> io::Result<()> {
-    let (fill, letters, star) = if shown.forged {
+/// The colours of a plate and of its number, and the sign behind the number: a plate is white where it isn't forged,
+/// dark and with a star where it is.
+pub fn plate_inks(forged: bool) -> (&'static str, &'static str, &'static str) {
+    if forged {
         ("#8a3b00", "#ffffff", "*")
     } else {
         ("#ffffff", "#000000", "")
-    };
+    }
+}
+
+/// Draws a plate round a spot, without its number.
+pub fn ink_tile<W: Write>(out: &mut W, centre: Spot, forged: bool) -> io::Result<()> {
+    let (fill, _, _) = plate_inks(forged);
     writeln!(
         out,
         "<rect x=\"{}\" y=\"{}\" width=\"46\" height=\"26\" rx=\"5\" fill=\"{fill}\" stroke=\"#000000\" \
             stroke-width=\"1.5\"/>",
         centre.x.saturating_sub(23),
         centre.y.saturating_sub(13)
-    )?;
+    )
+}
+
+/// Draws a plate round a spot, with its number.
+pub fn ink_plate<W: Write>(out: &mut W, centre: Spot, shown: ShownPlate) -> io::Result<()> {
+    let (_, letters, star) = plate_inks(shown.forged);
+    ink_tile(out, centre, shown.forged)?;
     writeln!(
         out,
         "<text x=\"{}\" y=\"{}\" font-size=\"10\" text-anchor=\"middle\" fill=\"{letters}\">{}{star}</text>",
