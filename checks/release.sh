@@ -2,8 +2,13 @@
 # Compares the released program with the one that was built here, by the gate or by ./cellctl: where the release was made of
 # these sources with this kit, both have to have the same bytes. Where the sources have moved on, or another kit makes other
 # bytes, it says so.
-# Usage: checks/release.sh [make]     make: makes a release of the program that was built
+# Usage: checks/release.sh [make | archive [FOLDER]]     make: makes a release of the program that was built; archive: makes an
+# archive of the released one (checks/archive.sh)
 here=$(cd "$(dirname "$0")/.." && pwd) || exit 1
+if [ "$1" = archive ]; then
+    shift
+    exec "$here/checks/archive.sh" "$@"
+fi
 built=$here/crates/cellctl/out/cellctl
 name=cellctl-x86_64-linux
 sources=$("$here/checks/sources.sh") || exit 1
