@@ -138,6 +138,7 @@ endless_texts() {
     measure 'a page of it' '<!DOCTYPE html>' 0 8 20 show --html --file <(bytes $((50 * mega)) '\n'; cat first)
     measure 'a page beside it' '<!DOCTYPE html>' 0 8 20 show --html --beside <(bytes $((50 * mega)) '\n'; cat first) --file first
     measure 'a picture in which it plays' '<svg xmlns="http://www.w3.org/2000/svg" viewBox="0 0 800 480' 0 8 20 show --svg --animate <(bytes $((50 * mega)) '\n'; cat first)
+    measure 'a picture in which 20,000 entries play' '<svg xmlns="http://www.w3.org/2000/svg" viewBox="0 0 800 480' 0 16 20 show --svg --animate <(cat first; yes $'claimed,robot,z3,\nyielded,robot,z3,' | head -n 20000)
     measure 'a run that follows it' 'followed' 0 12 20 sim --follow <(bytes $((50 * mega)) '\n'; cat first) good none none
     measure 'a run that goes on from it' 'finished' 0 12 20 sim --from <(bytes $((50 * mega)) '\n'; cat first) good none none
     measure 'blank lines without an end, explained' '' 3 300 20 explain <(yes '')
@@ -315,6 +316,18 @@ words_back() {
     done
 }
 
+# Options that don't go with a journal that plays. Nothing is printed.
+lone_options() {
+    for words in 'show' 'show 1' 'show --html' 'show --svg --html' 'show --svg --unicode' 'show --svg --times none' 'show --svg -f legal' \
+        'show --svg --beside legal'; do
+        # The words of a command are parted at blanks.
+        # shellcheck disable=SC2086
+        "$cellctl" $words --animate legal > said 2> told < /dev/null
+        ended "cellctl $words --animate legal" $? 2 'error: --animate goes with --svg alone'
+        [ ! -s said ] || differs "cellctl $words --animate legal" 'nothing on standard output'
+    done
+}
+
 # Words of explore that ask nothing, and why. Nothing is printed.
 wrong_questions() {
     local numbers='error: STATES is a whole number from 1 to 4294967295'
@@ -348,6 +361,7 @@ outputs_that_fail
 files_that_fail
 named_files
 words_back
+lone_options
 wrong_questions
 if [ ${#wrong[@]} = 0 ]; then
     echo 'hostile texts and outputs: all as due'

@@ -98,16 +98,16 @@ ShowsStill showing input old new old_errors new_errors status =
     ⊎ IsAlone showing.beside (form_of showing.svg showing.html showing.unicode)))))
 
 -- something is asked for that doesn't go with a journal that plays: no picture, or not it alone, or another option
-abbrev pub IsMixed : Showing → Type 0
-IsMixed showing = (form_of showing.svg showing.html showing.unicode ≢ Some form.Picture)
-    ⊎ (IsGiven showing.times ⊎ (IsGiven showing.beside ⊎ IsGiven showing.file))
+abbrev pub IsMixed : Option Form → Option (Bor (List ℕ)) → Option (Bor (List ℕ)) → Option (Bor (List ℕ)) → Type 0
+IsMixed asked times beside file = (asked ≢ Some form.Picture) ⊎ (IsGiven times ⊎ (IsGiven beside ⊎ IsGiven file))
 
 -- a picture is asked for, in which the journal of a file plays; or something is asked for that doesn't go with it
 abbrev pub Plays : Bor (List ℕ) → Showing → Option (List ℕ) → Option (List ℕ) → Option (List ℕ) → Option (List ℕ)
     → Option (List ℕ) → ℕ → Type 0
 Plays path showing input old new old_errors new_errors status =
     ShowsEntry (record showing { file = Some path }) input old new old_errors new_errors status
-    ⊎ (IsWrong old new old_errors new_errors status × IsMixed showing)
+    ⊎ (IsWrong old new old_errors new_errors status
+    × IsMixed (form_of showing.svg showing.html showing.unicode) showing.times showing.beside showing.file)
 
 -- what is written where a journal is to play, and where it isn't
 abbrev pub ShowsAsked : Option (Bor (List ℕ)) → Showing → Option (List ℕ) → Option (List ℕ) → Option (List ℕ)

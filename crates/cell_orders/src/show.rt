@@ -308,15 +308,19 @@ fn show_still<'a, R: AllocGlobal + Files, I: Read + Drop, W: Write, E: Write>(
     }
 }
 
-// Whether a picture is asked for, and nothing that doesn't go with a journal that plays in it.
-fn may_play(showing: &Showing<'_>) -> bool
-    ensures { result ≢ true → IsMixed showing.now }
+// Whether something is asked for that doesn't go with a journal that plays: no picture, or not it alone, or another
+// option.
+fn is_mixed(
+    form: Option<Form>,
+    times: Option<&str>,
+    beside: Option<&str>,
+    file: Option<&str>,
+) -> bool
+    ensures { result ≡ true → IsMixed form times.entry beside.entry file.entry }
 {
-    match form_of(showing) {
-        Some(Form::Picture) => {
-            showing.times.is_none() && showing.beside.is_none() && showing.file.is_none()
-        }
-        _ => false,
+    match form {
+        Some(Form::Picture) => times.is_some() || beside.is_some() || file.is_some(),
+        _ => true,
     }
 }
 
@@ -332,7 +336,8 @@ fn show_moving<'a, R: AllocGlobal + Files, I: Read + Drop, W: Write, E: Write>(
     ensures { IfOk result (λ written. IfOk written (Plays path.entry showing.entry (I.remaining input)
         (W.contents output.old) (W.contents output.new) (E.contents errors.old) (E.contents errors.new))) }
 {
-    if !may_play(&showing) {
+    let form = form_of(&showing);
+    if is_mixed(form, showing.times, showing.beside, showing.file) {
         return Ok(wrong(errors, "--animate goes with --svg alone")?);
     }
     let played = Showing {
