@@ -1,6 +1,7 @@
 #!/usr/bin/env python3
 """Tries the edits of edits/: changes of the code, mostly of one line, after which it does another thing than its contract
-says, so that the prover has to refuse them. Usage: checks/edits.sh [changed | all | tried | CRATE..]
+says, so that the prover has to refuse them. edits/CRATE.edits has those of a crate, each below a heading with its name: the file
+that it changes, and pairs of an old and a new line. Usage: checks/edits.sh [changed | all | tried | CRATE..]
 
   changed   (no word) those whose digest isn't in edits/TRIED
   all       those of every crate
@@ -31,11 +32,25 @@ EDITS = f"{rooms.TREE}/edits"
 TRIED = f"{EDITS}/TRIED"
 
 
+@functools.cache
+def texts_of(crate):
+    """The edits of a crate by their names: what stands below each heading of its file. A line that belongs to none, or a second
+    edit of a name, is an error, since it would be tried by nobody."""
+    file, texts, name = f"{EDITS}/{crate}.edits", {}, None
+    for number, line in enumerate(read(file).splitlines() if os.path.isfile(file) else [], 1):
+        if line.startswith("# ") and line[2:] not in texts:
+            name = line[2:]
+            texts[name] = ""
+        elif name and re.match("(file|old|new):", line):
+            texts[name] += f"{line}\n"
+        elif line:
+            sys.exit(f"{file}, line {number}: neither the heading of another edit nor a line of one")
+    return texts
+
+
 def edits_of(crate):
-    """The edits of a crate, by the paths of their files."""
-    folder = f"{EDITS}/{crate}"
-    names = sorted(os.listdir(folder)) if os.path.isdir(folder) else []
-    return [f"{folder}/{it}" for it in names if it.endswith(".edit")]
+    """The edits of a crate, each as the crate's name, a slash and its own."""
+    return [f"{crate}/{it}" for it in sorted(texts_of(crate))]
 
 
 def folded(text):
@@ -94,17 +109,18 @@ def read(file):
         return text.read()
 
 
-def name_of(edit):
-    """The name of an edit in edits/TRIED."""
-    return f"{os.path.basename(os.path.dirname(edit))}/{os.path.basename(edit).removesuffix('.edit')}"
+def text_of(edit):
+    """The lines of an edit, as `rt must-fail` reads them."""
+    crate, name = edit.split("/")
+    return texts_of(crate)[name]
 
 
 def digest_of(edit):
     """A digest over an edit and all that it depends on in its crate."""
-    crate = f"{rooms.TREE}/crates/{os.path.basename(os.path.dirname(edit))}"
-    changed = f"{crate}/{re.search(r'^file: (.*)$', read(edit), re.MULTILINE)[1]}"
+    crate = f"{rooms.TREE}/crates/{edit.split('/')[0]}"
+    changed = f"{crate}/{re.search(r'^file: (.*)$', text_of(edit), re.MULTILINE)[1]}"
     walks = [walk for part in rooms.PARTS for walk in os.walk(f"{crate}/{part}")]
-    parts = [read(edit)]
+    parts = [text_of(edit)]
     for file in sorted(f"{at}/{it}" for at, _, names in walks for it in names):
         text = read(file)
         if not file.startswith(f"{crate}/src/"):
@@ -126,7 +142,7 @@ def read_tried():
 def note_tried(digests):
     """Notes the digests at which edits were refused, and none for those that weren't."""
     tried = {**read_tried(), **digests}
-    there = {name_of(edit) for crate in rooms.read_crates() for edit in edits_of(crate)}
+    there = {edit for crate in rooms.read_crates() for edit in edits_of(crate)}
     with open(f"{TRIED}.new", "w", encoding="utf-8") as lines:
         lines.writelines(f"{name} {tried[name]}\n" for name in sorted(tried) if tried[name] and name in there)
     os.replace(f"{TRIED}.new", TRIED)
@@ -139,7 +155,8 @@ def try_crate(crates, name, edits, jobs, place):
     rooms.open_room(room, crates, [name])
     os.makedirs(f"{room}/crates/{name}/must-fail")
     for edit in edits:
-        shutil.copy(edit, f"{room}/crates/{name}/must-fail")
+        with open(f"{room}/crates/{name}/must-fail/{edit.split('/')[1]}.edit", "w", encoding="utf-8") as lines:
+            lines.write(text_of(edit))
     kept = f"{rooms.TREE}/crates/{name}/out/incremental"
     if os.path.isdir(kept):
         rooms.link(kept, f"{room}/crates/{name}/out/incremental")
@@ -155,11 +172,11 @@ def try_all(due):
     with tempfile.TemporaryDirectory(prefix="edits-") as place:
 
         def task(name, jobs):
-            digests = {name_of(edit): digest_of(edit) for edit in due[name]}
+            digests = {edit: digest_of(edit) for edit in due[name]}
             said = try_crate(crates, name, due[name], jobs, place)
             refused = re.findall(rf"^(?:rt: )?must-fail ({name}/\S+): refused, as it must be", said, re.MULTILINE)
             refused = {it.removesuffix(".edit") for it in refused}
-            now = {name_of(edit): digest_of(edit) for edit in due[name]}
+            now = {edit: digest_of(edit) for edit in due[name]}
             with printing:
                 print(said, end="")
                 print(f"edits: {name}: {len(refused)} of {len(digests)} refused, after {clock}", flush=True)
@@ -177,7 +194,7 @@ def try_all(due):
 def main(words):
     named = [it for it in sorted(rooms.read_crates()) if edits_of(it)]
     tried = read_tried()
-    changed = {it: [edit for edit in edits_of(it) if tried.get(name_of(edit)) != digest_of(edit)] for it in named}
+    changed = {it: [edit for edit in edits_of(it) if tried.get(edit) != digest_of(edit)] for it in named}
     changed = {it: edits for it, edits in changed.items() if edits}
     if words == ["tried"]:
         for it, edits in changed.items():
