@@ -10,7 +10,7 @@ copy=$(mktemp -d)
 trap 'rm -rf "$copy"' EXIT
 mkdir "$copy/crates"
 cp "$here/../HANDLES" "$copy"
-for crate in cell_types cell_rules cell_journal plate_book; do
+for crate in cell_types cell_rules cell_journal cell_reads plate_book; do
     cp -a "$here/../crates/$crate" "$copy/crates"
     grep "^$crate:" "$here/../crates.txt" >> "$copy/crates.txt"
 done

@@ -8,9 +8,9 @@ here=$(cd "$(dirname "$0")/.." && pwd)
 copy=$(mktemp -d)
 trap 'rm -r "$copy"' EXIT
 tar -C "$here" --exclude=out -cf - HANDLES KIT cellctl crates crates.txt | tar -C "$copy" -xf -
-robot=$copy/crates/cell_useful/src/robot.rt
-sed -i '/fn is_ready/,/^    }/s/self\.is_healthy(press\.machine)/true/' "$robot"
-if cmp -s "$robot" "$here/crates/cell_useful/src/robot.rt"; then
+router=$copy/crates/cell_machines/src/router.rt
+sed -i '/fn is_ready/,/^}/s/!cell\.is_failed(press)/true/' "$router"
+if cmp -s "$router" "$here/crates/cell_machines/src/router.rt"; then
     echo "lockup: the rule to be left out doesn't stand there" >&2
     exit 1
 fi

@@ -27,12 +27,8 @@ END
 
 router() {
     leave_out cell_machines/specs/Router.antt 'not (c.failed m) && (not (c.occupied s) && (rests_at' 'not (c.occupied s) && ((rests_at'
-    leave_out cell_machines/src/router.rt '!book.failed(press)
-        && !is_occupied' '!is_occupied'
-    leave_out cell_useful/src/robot.rt 'self.is_healthy(press.machine)
-            && !self.is_occupied(press.station)
-            && self.rests_at' '!self.is_occupied(press.station)
-            && self.rests_at'
+    leave_out cell_machines/src/router.rt '!cell.is_failed(press)
+        && !cell.is_occupied' '!cell.is_occupied'
 }
 
 zone() {
@@ -40,12 +36,7 @@ zone() {
     station.Press1' 'is_done c axis.PressOne station.Press1'
     leave_out cell_machines/specs/Presses.antt 'is_done c axis.PressTwo station.Press2 || is_waiting c axis.PressTwo
     station.Press2' 'is_done c axis.PressTwo station.Press2'
-    leave_out cell_machines/specs/Presses.antt '(is_done c p.axis p.station || is_waiting c p.axis p.station, Y' '(is_done c p.axis p.station, Y'
-    leave_out cell_machines/src/presses.rt 'is_done(book, axis, station) || is_waiting(book, axis, station)' 'is_done(book, axis, station)'
-    leave_out cell_useful/specs/Rows.antt '(is_done c p.axis p.station || is_waiting c p.axis p.station) && passes' 'is_done c p.axis p.station && passes'
-    leave_out cell_useful/src/presses.rt '((is_done (situation self.now) press.axis press.station || is_waiting (situation self.now)
-            press.axis press.station) && passes' '(is_done (situation self.now) press.axis press.station && passes'
-    leave_out cell_useful/src/presses.rt '(self.is_done(press) || self.is_waiting(press))' 'self.is_done(press)'
+    leave_out cell_machines/src/presses.rt 'is_done($cell, $axis, $station) || is_waiting($cell, $axis, $station)' 'is_done($cell, $axis, $station)'
 }
 
 # Proves a crate of the copy, and tells what was said if it isn't proved.

@@ -1,89 +1,144 @@
 //! What the two belts do next.
-ghost use Rattle.std.specs.Prelude.{◌≡◌, ◌&&◌, true};
+ghost use Rattle.std.specs.Prelude.{ℕ, ◌≡◌};
 ghost use Rattle.cell_types.specs.declared.words.Entry.TheVariants.{Started};
 ghost use Rattle.cell_types.specs.declared.words.Axis.TheVariants as axes;
 ghost use Rattle.cell_types.specs.declared.words.Pose.TheVariants as poses;
 ghost use Rattle.cell_types.specs.declared.words.Machine.TheVariants as machines;
-ghost use Rattle.cell_rules.specs.Situations.{situation_of};
+ghost use Rattle.cell_rules.specs.declared.limits.BookLimits.{BookLimits};
 ghost use Rattle.cell_machines.specs.Room.{is_refused_otherwise};
 ghost use Rattle.cell_machines.specs.Feed.{is_table_waiting};
 ghost use Rattle.cell_machines.specs.Deposit.{is_to_convey};
-ghost use Rattle.cell_machines.specs.Candidates.{rows, first_bookable};
+ghost use Rattle.cell_machines.specs.Candidates.{first_row, useful_rows};
 
-use crate::entries::{claimed, lamp, started, yielded};
-use crate::rows::{any_of, first_bookable, is_moving, is_next};
-use crate::{
-    deposit_light_wanted, feed_light_wanted, is_at_rest, is_held_by, is_occupied, rests_at,
-};
+use crate::lights::{deposit_light, feed_light};
+use crate::reads::is_at_rest;
+use crate::rows::{claimed, first_of, lamp, rows_of, started, yielded};
+use cell_reads::{Reads, start_refusal};
+use cell_rules::BookLimits;
 use cell_types::{Axis, Belt, Colour, Entry, Machine, Pose, Station, Zone};
-use plate_book::Book;
 
-fn is_table_waiting(book: &Book) -> bool
-    ensures { result ≡ is_table_waiting (situation_of book.now.entries) }
+fn is_table_waiting<C: Reads>(cell: &C) -> bool
+    ensures { result ≡ is_table_waiting (C.situation cell.now) }
 {
-    is_at_rest(book, Axis::FeedBelt)
-        && is_occupied(book, Station::FeedEnd)
-        && rests_at(book, Axis::TableLift, Pose::Low)
-        && rests_at(book, Axis::TableTurn, Pose::Belt)
-        && !is_occupied(book, Station::Table)
+    is_at_rest(cell, Axis::FeedBelt)
+        && cell.is_occupied(Station::FeedEnd)
+        && cell.rests_at(Axis::TableLift, Pose::Low)
+        && cell.rests_at(Axis::TableTurn, Pose::Belt)
+        && !cell.is_occupied(Station::Table)
 }
 
 /// Whether something other than the journal's room keeps the feed belt from going to the table.
-#[tactic(auto, unfolding(crate::specs::Room::is_refused_otherwise))]
-fn is_way_to_table_shut(book: &Book) -> bool
-    ensures { result ≡ is_refused_otherwise book.now.limits (situation_of book.now.entries)
+#[tactic(auto, using(crate::proofs::Shut::shut_law))]
+#[inline(always)]
+fn is_way_to_table_shut<C: Reads>(cell: &C) -> bool
+    ensures { (limits : BookLimits) → result ≡ is_refused_otherwise limits (C.situation cell.now)
         (Started axes.FeedBelt poses.ToTable) }
 {
-    any_of(&[
-        book.failed(Machine::Feed),
-        book.failed(Machine::Table),
-        is_moving(book, Axis::FeedBelt),
-        !rests_at(book, Axis::TableLift, Pose::Low),
-        !rests_at(book, Axis::TableTurn, Pose::Belt),
-        !is_held_by(book, Machine::Feed, Zone::Z1),
-        !is_occupied(book, Station::FeedEnd),
-        is_occupied(book, Station::Table),
-    ])
+    start_refusal(cell, Axis::FeedBelt, Pose::ToTable).is_some()
 }
 
-/// What Feed does next. It gives the table's zone up before it asks for another plate.
-#[tactic(auto, unfolding(crate::specs::Candidates::rows, crate::specs::Candidates::candidates, crate::specs::Candidates::first_bookable))]
-pub fn propose_feed(book: &Book, plan: u32) -> Option<Entry>
-    ensures { result ≡ first_bookable book.now.limits (situation_of book.now.entries)
-        (rows book.now.limits (situation_of book.now.entries) plan machines.Feed) }
-{
-    let light = feed_light_wanted(book, plan);
-    first_bookable! { book;
-        is_way_to_table_shut(book) => yielded(Machine::Feed, Zone::Z1),
-        true => started(Axis::FeedBelt, Pose::ToTable),
-        true => started(Axis::FeedBelt, Pose::ToEnd),
-        is_table_waiting(book) => claimed(Machine::Feed, Zone::Z1),
-        Colour::Red == light => lamp(Belt::Feed, Colour::Red),
-        Colour::Green == light => lamp(Belt::Feed, Colour::Green),
-    }
+// What Feed may ever want, each entry with whether it is useful. It gives the table's zone up before it asks for
+// another plate.
+macro_rules! feed_table {
+    ($each:ident, $cell:expr, $limits:expr, $plan:expr) => {{
+        let light = feed_light($cell, $plan);
+        $each! {
+            yielded(
+                $cell,
+                $limits,
+                is_way_to_table_shut($cell),
+                Machine::Feed,
+                Zone::Z1,
+            ),
+            started($cell, $limits, true, Axis::FeedBelt, Pose::ToTable),
+            started($cell, $limits, true, Axis::FeedBelt, Pose::ToEnd),
+            claimed(
+                $cell,
+                $limits,
+                is_table_waiting($cell),
+                Machine::Feed,
+                Zone::Z1,
+            ),
+            lamp($cell, $limits, Colour::Red == light, Belt::Feed, Colour::Red),
+            lamp(
+                $cell,
+                $limits,
+                Colour::Green == light,
+                Belt::Feed,
+                Colour::Green,
+            ),
+        }
+    }};
 }
 
-fn is_to_convey(book: &Book) -> bool
-    ensures { result ≡ is_to_convey (situation_of book.now.entries) }
+/// What Feed may ever want, each entry with whether it is useful.
+#[tactic(auto, unfolding(crate::specs::Candidates::useful_rows, crate::specs::Candidates::candidates, crate::specs::Useful::is_useful_now))]
+#[inline(always)]
+pub fn feed_rows<C: Reads>(cell: &C, limits: BookLimits, plan: u32) -> [(bool, Entry); 6]
+    ensures { result ≡ useful_rows limits (C.situation cell.now) plan machines.Feed }
 {
-    is_at_rest(book, Axis::DepositBelt)
-        && is_occupied(book, Station::DepIn)
-        && !is_occupied(book, Station::DepEnd)
+    feed_table!(rows_of, cell, limits, plan)
 }
 
-/// What Deposit does next. It gives its zone up to the robot before it asks for its plate to be taken.
-#[tactic(auto, unfolding(crate::specs::Candidates::rows, crate::specs::Candidates::candidates, crate::specs::Candidates::first_bookable))]
-pub fn propose_deposit(book: &Book, plan: u32) -> Option<Entry>
-    ensures { result ≡ first_bookable book.now.limits (situation_of book.now.entries)
-        (rows book.now.limits (situation_of book.now.entries) plan machines.Deposit) }
+/// The first of them that is useful.
+#[tactic(auto, unfolding(crate::specs::Candidates::useful_rows, crate::specs::Candidates::candidates, crate::specs::Useful::is_useful_now, crate::specs::Candidates::first_row))]
+#[inline(always)]
+pub fn propose_feed<C: Reads>(cell: &C, limits: BookLimits, plan: u32) -> Option<Entry>
+    ensures { result ≡ first_row (useful_rows limits (C.situation cell.now) plan machines.Feed) }
 {
-    let light = deposit_light_wanted(book);
-    let convey = is_to_convey(book);
-    first_bookable! { book;
-        !convey => yielded(Machine::Deposit, Zone::Z5),
-        convey => started(Axis::DepositBelt, Pose::ToEnd),
-        convey => claimed(Machine::Deposit, Zone::Z5),
-        Colour::Red == light => lamp(Belt::Deposit, Colour::Red),
-        Colour::Green == light => lamp(Belt::Deposit, Colour::Green),
-    }
+    feed_table!(first_of, cell, limits, plan)
+}
+
+fn is_to_convey<C: Reads>(cell: &C) -> bool
+    ensures { result ≡ is_to_convey (C.situation cell.now) }
+{
+    is_at_rest(cell, Axis::DepositBelt)
+        && cell.is_occupied(Station::DepIn)
+        && !cell.is_occupied(Station::DepEnd)
+}
+
+// What Deposit may ever want, each entry with whether it is useful. It gives its zone up to the robot before it asks
+// for its plate to be taken.
+macro_rules! deposit_table {
+    ($each:ident, $cell:expr, $limits:expr) => {{
+        let light = deposit_light($cell);
+        let convey = is_to_convey($cell);
+        $each! {
+            yielded($cell, $limits, !convey, Machine::Deposit, Zone::Z5),
+            started($cell, $limits, convey, Axis::DepositBelt, Pose::ToEnd),
+            claimed($cell, $limits, convey, Machine::Deposit, Zone::Z5),
+            lamp(
+                $cell,
+                $limits,
+                Colour::Red == light,
+                Belt::Deposit,
+                Colour::Red,
+            ),
+            lamp(
+                $cell,
+                $limits,
+                Colour::Green == light,
+                Belt::Deposit,
+                Colour::Green,
+            ),
+        }
+    }};
+}
+
+/// What Deposit may ever want, each entry with whether it is useful.
+#[tactic(auto, unfolding(crate::specs::Candidates::useful_rows, crate::specs::Candidates::candidates, crate::specs::Useful::is_useful_now))]
+#[inline(always)]
+pub fn deposit_rows<C: Reads>(cell: &C, limits: BookLimits) -> [(bool, Entry); 5]
+    ensures { (plan : ℕ) → result ≡ useful_rows limits (C.situation cell.now) plan machines.Deposit }
+{
+    deposit_table!(rows_of, cell, limits)
+}
+
+/// The first of them that is useful.
+#[tactic(auto, unfolding(crate::specs::Candidates::useful_rows, crate::specs::Candidates::candidates, crate::specs::Useful::is_useful_now, crate::specs::Candidates::first_row))]
+#[inline(always)]
+pub fn propose_deposit<C: Reads>(cell: &C, limits: BookLimits) -> Option<Entry>
+    ensures { (plan : ℕ) → result ≡ first_row (useful_rows limits (C.situation cell.now) plan machines.Deposit) }
+{
+    deposit_table!(first_of, cell, limits)
 }

@@ -2,19 +2,24 @@
 #![tactic(auto)]
 
 mod belts;
-mod entries;
 mod jobs;
 pub mod laws;
-pub mod lights;
+mod lights;
+mod policy;
 mod presses;
 mod proposals;
-pub mod reads;
+mod reads;
 mod robot;
-pub mod router;
+mod router;
 mod rows;
 mod table;
 
-pub use lights::{deposit_light_wanted, feed_light_wanted};
+pub use belts::{deposit_rows, feed_rows};
+pub use policy::{
+    choose_press, deposit_light_wanted, feed_light_wanted, is_at_rest, is_held_by, is_occupied,
+    rests_at,
+};
+pub use presses::{press1_rows, press2_rows};
 pub use proposals::propose;
-pub use reads::{is_at_rest, is_held_by, is_occupied, rests_at};
-pub use router::choose_press;
+pub use robot::{arms_in_rows, arms_out_rows, claim_rows, drop_at, grip, turn_rows, yield_rows};
+pub use table::table_rows;

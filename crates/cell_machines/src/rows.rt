@@ -1,105 +1,157 @@
-//! The first entry of a list that is wanted and bookable.
-ghost use Rattle.std.specs.Prelude.{◌≡◌, ◌&&◌, [], ◌∷◌, Bool, true, false, is_some};
-ghost use Rattle.std.specs.List.{list_any};
-ghost use Rattle.cell_rules.specs.Situations.{situation_of};
-ghost use Rattle.cell_machines.specs.Room.{is_bookable, lacks_its_need};
-ghost use Rattle.cell_machines.specs.Candidates.{first_bookable};
+//! Rows of a machine's table: each an entry with whether it is wanted and bookable.
+ghost use Rattle.std.specs.Prelude.{◌≡◌, ◌&&◌, nat_le};
+ghost use Rattle.cell_machines.specs.Room.{is_bookable, is_none_or_full};
+ghost use Rattle.cell_types.specs.declared.words.Entry.TheVariants.{Lamp, Claimed, Yielded, Started};
+ghost use Rattle.cell_machines.specs.Candidates.{first_row};
 
-use crate::{is_held_by, is_occupied};
-use cell_types::{Axis, Entry, Machine, Pose, Station, Zone};
-use plate_book::{Book, Refusal};
-
-/// Whether one look at the book refuses an entry: the zone that is given up isn't held, the light has that colour
-/// already, or the feed belt has no plate to carry on, or may not carry it to the table.
-#[inline(always)]
-fn lacks_its_need(book: &Book, entry: &Entry) -> bool
-    ensures { result ≡ lacks_its_need (situation_of book.now.entries) entry.now }
-{
-    match *entry {
-        Entry::Yielded { machine, zone } => !is_held_by(book, machine, zone),
-        Entry::Lamp { belt, colour } => book.lamp(belt) == colour,
-        Entry::Started {
-            axis: Axis::FeedBelt,
-            to: Pose::ToEnd,
-        } => !is_occupied(book, Station::FeedIn),
-        Entry::Started {
-            axis: Axis::FeedBelt,
-            to: Pose::ToTable,
-        } => !is_held_by(book, Machine::Feed, Zone::Z1),
-        _ => false,
-    }
-}
-
-/// Whether one look at the book tells that an entry isn't bookable, which spares most calls of `allows`. At a full
-/// journal none is out of question, since every entry is then refused for the room alone.
-#[tactic(auto, using(crate::proofs::Needs::needs_law))]
-#[inline(always)]
-fn is_out_of_question(book: &Book, entry: &Entry) -> bool
-    ensures { result ≡ true → is_bookable book.now.limits (situation_of book.now.entries) entry.now ≡ false }
-{
-    lacks_its_need(book, entry) && !book.journal().is_full_for(entry)
-}
+use cell_reads::{Reads, claim_refusal, lamp_refusal, refusal, start_refusal, yield_refusal};
+use cell_rules::{BookLimits, Refusal};
+use cell_types::{Axis, Belt, Colour, Entry, Machine, Pose, Zone};
 
 /// Whether an entry is allowed, or only the journal's room is lacking.
 #[tactic(auto, unfolding(crate::specs::Room::is_bookable))]
 #[inline(always)]
-fn is_bookable(book: &Book, entry: Entry) -> bool
-    ensures { result ≡ is_bookable book.now.limits (situation_of book.now.entries) entry }
+pub fn is_bookable<C: Reads>(cell: &C, limits: BookLimits, entry: Entry) -> bool
+    ensures { result ≡ is_bookable limits (C.situation cell.now) entry }
 {
-    if is_out_of_question(book, &entry) {
-        return false;
-    }
-    match book.allows(entry) {
-        Ok(()) => true,
-        Err(Refusal::JournalFull) => true,
-        Err(_) => false,
+    match refusal(cell, limits, entry) {
+        None => true,
+        Some(Refusal::JournalFull) => true,
+        Some(_) => false,
     }
 }
 
-/// Whether an entry is wanted and bookable.
+/// An entry, with whether it is wanted and bookable.
 #[inline(always)]
-pub fn is_next(book: &Book, wanted: bool, entry: Entry) -> bool
-    ensures { result ≡ (wanted && is_bookable book.now.limits (situation_of book.now.entries) entry) }
+pub fn row<C: Reads>(cell: &C, limits: BookLimits, wanted: bool, entry: Entry) -> (bool, Entry)
+    ensures { result ≡ (wanted && is_bookable limits (C.situation cell.now) entry, entry) }
 {
-    wanted && is_bookable(book, entry)
+    let kept = entry;
+    (wanted && is_bookable(cell, limits, entry), kept)
 }
 
-/// An entry, where it is wanted and bookable.
-#[tactic(auto, unfolding(crate::specs::Candidates::first_bookable))]
-pub fn if_next(book: &Book, wanted: bool, entry: Entry) -> Option<Entry>
-    ensures { result ≡ first_bookable book.now.limits (situation_of book.now.entries) ((wanted, entry) ∷ []) }
+/// Whether the journal has no room for an entry, a Declared apart.
+#[inline(always)]
+fn is_full<C: Reads>(cell: &C, limits: BookLimits) -> bool
+    ensures { result ≡ nat_le limits.entries (C.situation cell.now).entries }
 {
-    let next = entry;
-    if is_next(book, wanted, entry) {
-        Some(next)
-    } else {
-        None
+    limits.entries <= cell.entries()
+}
+
+/// Whether there is no refusal, or only the journal's room is lacking.
+#[inline(always)]
+fn is_none_or_full(refusal: &Option<Refusal>) -> bool
+    ensures { result ≡ is_none_or_full refusal.now }
+{
+    matches!(refusal, None | Some(Refusal::JournalFull))
+}
+
+/// The same of an entry by its kind, so that its tests alone are asked.
+#[tactic(auto, unfolding(crate::specs::Room::is_bookable, cell_rules::specs::First::first_true))]
+#[inline(always)]
+pub fn lamp<C: Reads>(
+    cell: &C,
+    limits: BookLimits,
+    wanted: bool,
+    belt: Belt,
+    colour: Colour,
+) -> (bool, Entry)
+    ensures { result ≡ (wanted && is_bookable limits (C.situation cell.now) (Lamp belt colour), Lamp belt colour) }
+{
+    let may = wanted
+        && (is_full(cell, limits) || is_none_or_full(&lamp_refusal(cell, belt, colour)));
+    (may, Entry::Lamp { belt, colour })
+}
+
+/// The same of an entry by its kind, so that its tests alone are asked.
+#[tactic(auto, unfolding(crate::specs::Room::is_bookable, cell_rules::specs::First::first_true))]
+#[inline(always)]
+pub fn claimed<C: Reads>(
+    cell: &C,
+    limits: BookLimits,
+    wanted: bool,
+    machine: Machine,
+    zone: Zone,
+) -> (bool, Entry)
+    ensures { result ≡ (
+      wanted && is_bookable limits (C.situation cell.now) (Claimed machine zone),
+      Claimed machine zone,
+    ) }
+{
+    let may = wanted
+        && (is_full(cell, limits) || is_none_or_full(&claim_refusal(cell, machine, zone)));
+    (may, Entry::Claimed { machine, zone })
+}
+
+/// The same of an entry by its kind, so that its tests alone are asked.
+#[tactic(auto, unfolding(crate::specs::Room::is_bookable, cell_rules::specs::First::first_true))]
+#[inline(always)]
+pub fn yielded<C: Reads>(
+    cell: &C,
+    limits: BookLimits,
+    wanted: bool,
+    machine: Machine,
+    zone: Zone,
+) -> (bool, Entry)
+    ensures { result ≡ (
+      wanted && is_bookable limits (C.situation cell.now) (Yielded machine zone),
+      Yielded machine zone,
+    ) }
+{
+    let may = wanted
+        && (is_full(cell, limits) || is_none_or_full(&yield_refusal(cell, machine, zone)));
+    (may, Entry::Yielded { machine, zone })
+}
+
+/// The same of an entry by its kind, so that its tests alone are asked.
+#[tactic(auto, unfolding(crate::specs::Room::is_bookable, cell_rules::specs::First::first_true))]
+#[inline(always)]
+pub fn started<C: Reads>(
+    cell: &C,
+    limits: BookLimits,
+    wanted: bool,
+    axis: Axis,
+    to: Pose,
+) -> (bool, Entry)
+    ensures { result ≡ (wanted && is_bookable limits (C.situation cell.now) (Started axis to), Started axis to) }
+{
+    let may = wanted && (is_full(cell, limits) || is_none_or_full(&start_refusal(cell, axis, to)));
+    (may, Entry::Started { axis, to })
+}
+
+/// The entry of the first row that holds.
+#[tactic(auto, unfolding(crate::specs::Candidates::first_row))]
+#[inline(always)]
+pub fn first_row(rows: &[(bool, Entry)]) -> Option<Entry>
+    ensures { result ≡ first_row rows.now }
+{
+    for row in rows {
+        if row.0 {
+            return Some(row.1);
+        }
     }
+    None
 }
 
-/// Answers the first of the entries that is wanted and bookable, or None: `first_bookable!(book; WANTED => ENTRY, ..)`.
-/// What an entry is wanted by is asked only where none before it is answered, and each entry is laid out by itself.
-macro_rules! first_bookable {
-    ($book:expr; $($wanted:expr => $entry:expr),+ $(,)?) => {{
+/// All rows of a table.
+macro_rules! rows_of {
+    ($($row:expr),+ $(,)?) => {
+        [$($row),+]
+    };
+}
+
+/// Answers the entry of the first row that holds, or None. A row is worked out only if none before it holds.
+macro_rules! first_of {
+    ($($row:expr),+ $(,)?) => {{
         $(
-            if is_next($book, $wanted, $entry) {
-                return Some($entry);
+            let row = $row;
+            if row.0 {
+                return Some(row.1);
             }
         )+
         None
     }};
 }
 
-pub(crate) use first_bookable;
-
-pub fn any_of(tests: &[bool]) -> bool
-    ensures { result ≡ list_any (λ (b : Bool). b) tests.now }
-{
-    tests.iter().any(|test| *test)
-}
-
-pub fn is_moving(book: &Book, axis: Axis) -> bool
-    ensures { result ≡ is_some ((situation_of book.now.entries).going axis) }
-{
-    book.pose(axis).going.is_some()
-}
+pub(crate) use first_of;
+pub(crate) use rows_of;

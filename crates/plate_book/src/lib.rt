@@ -2,17 +2,14 @@
 #![tactic(auto)]
 
 pub mod book;
-mod checks;
-mod conditions;
 mod lists;
-mod moves;
 pub mod open_error;
 pub mod records;
 mod registers;
-mod rules;
 mod visits;
 
 pub use book::Book;
 pub use cell_rules::{BookLimits, Refusal, laws};
 pub use open_error::OpenError;
 pub use records::Records;
+pub use registers::Registers;

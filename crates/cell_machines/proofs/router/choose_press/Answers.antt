@@ -1,6 +1,0 @@
-use Rattle.cell_machines.proofs.Choice.{choice}
-use Rattle.cell_rules.specs.Situations.{situation_of}
-use Rattle.cell_machines.proofs.router.choose_press.Goals as goal
-
-pub returns-clause-best : goal.returns-clause-best
-returns-clause-best c = choice (situation_of c.args.book.now.entries) _ c.find_press.ensures
