@@ -1,6 +1,7 @@
 -- What one step does, whatever the watches fit
 use Rattle.std.specs.Prelude.{◌≡◌, Bool, true, Option, None, List, ◌++◌, option_to_list, is_some, IfSome}
 use Rattle.std.specs.Option.{option_and_then}
+use Rattle.std.specs.Borrow.{MutBor}
 use Rattle.cell_types.specs.declared.words.Machine.{Machine}
 use Rattle.cell_types.specs.declared.words.Actor.{Actor}
 use Rattle.cell_types.specs.declared.words.Entry.{Entry}
@@ -17,6 +18,10 @@ use Rattle.cell_turns.specs.declared.watch.Watch.{Watch}
 use Rattle.cell_turns.specs.Minds.{Mind, FitsMind}
 use Rattle.cell_turns.specs.Turns.{IsDecided, IsTurnedAway, mind_after}
 use Rattle.cell_turns.specs.Schedules.{mind_sent}
+
+-- the same is lent as before
+abbrev pub IsSameLoan : {A : Type 0} → MutBor A → MutBor A → Type 0
+IsSameLoan old new = new.ghost_name ≡ old.ghost_name
 
 -- a turn of m that wasn't refused, and its command
 pub record TurnedAt (p : Plan) (m : Machine) (r : Option Reading) (before after : History) (w w' : Watch) : Type 0 where

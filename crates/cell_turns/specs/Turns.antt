@@ -26,9 +26,10 @@ use Rattle.cell_turns.specs.declared.watch.Watch.{Watch}
 use Rattle.cell_turns.specs.declared.turns.decide.Ruling.{Ruling}
 use Rattle.cell_turns.specs.declared.turns.decide.Ruling.TheVariants.{Nothing, Books, PastLast, Proposes}
 use Rattle.cell_turns.specs.Signs.{shows_sign}
-use Rattle.cell_turns.specs.Minds.{Mind, FitsMind, remembered}
+use Rattle.cell_turns.specs.Minds.{Mind, FitsMind, has_failed_command, remembered}
 use Rattle.cell_turns.specs.Observed.{axis_noted, rest_noted}
 use Rattle.cell_turns.specs.Rulings.{ruling}
+use Rattle.cell_turns.specs.Sent.{is_command_fault}
 
 -- what is proposed: a useful entry, and none only where no entry is useful
 abbrev pub IsProposed : BookLimits → List Entry → Machine → ℕ → Option Entry → Type 0
@@ -104,6 +105,19 @@ abbrev pub IsExcused : BookLimits → List Entry → Machine → Plan → Option
 IsExcused l J m p r w (Refused why) =
     ((s : Mind) → FitsMind w s → IsTurnedAway l J m p s r why) × ((why ≡ JournalFull) ⊎ (why ≡ PlateLimit))
 IsExcused l J m p r w NoMemory = Unit {0}
+
+-- a turn of m that wasn't refused, and booked e: why, and what it did
+pub record TurnBooks (m : Machine) (p : Plan) (r : Option Reading) (e : Option Entry) (before after : History)
+    (es es' : List Entry) (h h' : Held) (w w' : Watch) : Type 0 where
+  pub decided : (s : Mind) → FitsMind w s → IsDecided before.limits before.entries m p s r e
+  pub actor : IfSome e (λ x. actor_of x ≡ actor.Machine m)
+  pub allowed : IfSome e (λ x. first_of before.limits before.entries x ≡ None)
+  pub journal : after ≡ record { limits = before.limits; entries = before.entries ++ option_to_list e }
+  pub list : es' ≡ es ++ option_to_list e
+  pub shares : h' ≡ held h.parts (plus h.counts (count_of (option_to_list e)))
+  pub fits : (s : Mind) → FitsMind w s → FitsMind w' (mind_after before.entries m p s r e)
+  pub fault : IfSome e (λ x. is_command_fault x ≡ has_failed_command w)
+  pub flag : has_failed_command w' ≡ (is_none e && has_failed_command w)
 
 -- a turn of m that answered c: what it booked, if anything, and what it did
 pub record Turned (m : Machine) (p : Plan) (r : Option Reading) (c : Option Command) (before after : History)

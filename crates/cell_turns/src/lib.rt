@@ -14,7 +14,7 @@ mod watching;
 
 pub use cell_ports::{Act, OperatorPort, Plan, Port, PortFault};
 pub use schedule::{OutOfMemory, Step};
-pub use scheduling::{Ran, run_schedule, run_step};
+pub use scheduling::{LentState, Ran, run_schedule, run_step};
 pub use six::{Ports, Six};
 pub use turns::{TurnError, turn};
 pub use watch::Watch;

@@ -15,17 +15,16 @@ ghost use Rattle.cell_turns.specs.Sent.{Sends};
 ghost use Rattle.cell_turns.specs.Acts.{Did, ActedAtMost};
 ghost use Rattle.cell_turns.specs.Minds.{machine_of_watch, has_failed_command};
 ghost use Rattle.cell_turns.specs.Schedules.{Scheduled, Grown, AllSent, act_at, CanStop, Stopped};
-ghost use Rattle.cell_turns.specs.Steps.{TurnedAt, TurnedAway, GrewBy};
+ghost use Rattle.cell_turns.specs.Steps.{TurnedAt, TurnedAway, GrewBy, IsSameLoan};
 
 use crate::hands::hand;
 use crate::schedule::OutOfMemory;
-use crate::turns::book_turn;
 use crate::turns::send::send;
+use crate::turns::{TurnAt, book_turn};
 use crate::{Ports, Six, Step, TurnError, Watch, Watches};
-use cell_diagnosis::Reading;
 use cell_ledger::{Kept, Run, Shares};
 use cell_ports::{OperatorPort, Plan, Port};
-use cell_types::{Entry, Machine};
+use cell_types::Entry;
 use std::alloc::Global;
 
 /// What a schedule did.
@@ -70,34 +69,40 @@ impl Ran {
     }
 }
 
+/// The book, its shares and the watches, lent to the steps of a schedule.
+#[derive(Drop)]
+pub struct LentState<'k, 's, 'w, R: Run> {
+    pub kept: &'k mut Kept<R>,
+    pub shares: &'s mut Shares<R>,
+    pub watches: &'w mut Watches,
+}
+
 /// A turn of a machine, and its command. It answers whether the turn was refused.
 fn take_turn<P: Port, R: Run>(
-    machine: Machine,
-    reading: Option<Reading>,
+    turn: &TurnAt,
     port: &mut P,
     kept: &mut Kept<R>,
     shares: &mut Shares<R>,
     watch: &mut Watch,
     entries: &mut Vec<Entry>,
-    plan: &Plan,
 ) -> Result<bool, OutOfMemory>
-    requires { machine_of_watch watch.old ≡ machine }
+    requires { machine_of_watch watch.old ≡ turn.now.machine }
     ensures turned { IfOk result (λ refused. refused ≡ false
-        → TurnedAt plan.now machine reading kept.old kept.new watch.old watch.new) }
+        → TurnedAt turn.now.plan.now turn.now.machine turn.now.reading kept.old kept.new watch.old watch.new) }
     ensures refused { IfOk result (λ refused. refused ≡ true
-        → TurnedAway plan.now machine reading kept.old kept.new watch.old watch.new) }
-    ensures grew { IfOk result (λ _. GrewBy (actors.Machine machine) kept.old kept.new shares.old shares.new
+        → TurnedAway turn.now.plan.now turn.now.machine turn.now.reading kept.old kept.new watch.old watch.new) }
+    ensures grew { IfOk result (λ _. GrewBy (actors.Machine turn.now.machine) kept.old kept.new shares.old shares.new
         entries.old.items entries.new.items) }
     ensures sends { P.tells port.new ≡ true → (before : Log) (was : Bool)
         → Sends before was (P.log port.old) entries.old.items (has_failed_command watch.old)
         → Sends before was (P.log port.new) entries.new.items (has_failed_command watch.new) }
     ensures unread { P.tells port.new ≡ true → (P.log port.new).answers ≡ (P.log port.old).answers }
     ensures still { P.tells port.new ≡ true → P.tells port.old ≡ true }
-    ensures machine { machine_of_watch watch.new ≡ machine }
+    ensures machine { machine_of_watch watch.new ≡ turn.now.machine }
     ensures unchanged { OnErr result ((port.new ≡ port.old) × (kept.new ≡ kept.old) × (shares.new ≡ shares.old)
         × (watch.new ≡ watch.old)) }
 {
-    let booked = match book_turn(machine, kept, shares, watch, reading, entries, plan) {
+    let booked = match book_turn(turn, kept, shares, watch, entries) {
         Ok(booked) => booked,
         Err(TurnError::OutOfMemory) => return Err(OutOfMemory),
         Err(TurnError::Refused(_)) => return Ok(true),
@@ -108,49 +113,64 @@ fn take_turn<P: Port, R: Run>(
     Ok(false)
 }
 
-/// One step of a schedule. Its clauses tell of the step after any steps that led to this state.
+/// Takes one step of a schedule, and adds what it did. Its clauses tell of the step after any steps that led to this
+/// state.
 #[inline(always)]
-fn take_step<P: Port, O: OperatorPort, R: Run>(
+fn add_step<P: Port, O: OperatorPort, R: Run>(
     step: &Step,
     ran: &mut Ran,
     ports: &mut Ports<P>,
     operator: &mut O,
-    kept: &mut Kept<R>,
-    shares: &mut Shares<R>,
-    watches: &mut Watches,
+    state: &mut LentState<'_, '_, '_, R>,
     plan: &Plan,
 ) -> Result<(), OutOfMemory>
-    requires machines { (m : MachineValue) → machine_of_watch (at watches.old m) ≡ m }
+    requires machines { (m : MachineValue) → machine_of_watch (at state.old.watches.now m) ≡ m }
     requires room { ran.old.refused + 1 < 2 ^ 64 }
-    ensures machines { (m : MachineValue) → machine_of_watch (at watches.new m) ≡ m }
+    ensures machines { (m : MachineValue) → machine_of_watch (at state.new.watches.now m) ≡ m }
+    ensures kept { IsSameLoan state.old.kept state.new.kept }
+    ensures shares { IsSameLoan state.old.shares state.new.shares }
+    ensures watches { IsSameLoan state.old.watches state.new.watches }
     ensures few { ran.new.refused ≤ ran.old.refused + 1 }
     ensures still { O.tells operator.new ≡ true → O.tells operator.old ≡ true }
     ensures grown { OnOk result ((before : History) (h : Held)
-        → Grown before kept.old h shares.old (map_six (λ v. v.items) ran.old.machines) ran.old.operator.items
-        → Grown before kept.new h shares.new (map_six (λ v. v.items) ran.new.machines) ran.new.operator.items) }
+        → Grown before state.old.kept.now h state.old.shares.now (map_six (λ v. v.items) ran.old.machines)
+        ran.old.operator.items
+        → Grown before state.new.kept.now h state.new.shares.now (map_six (λ v. v.items) ran.new.machines)
+        ran.new.operator.items) }
     ensures sent { OnOk result ((before : SixValue P) (ws : SixValue WatchValue)
-        → AllSent P.tells P.log before ports.old ws watches.old (map_six (λ v. v.items) ran.old.machines)
-        → AllSent P.tells P.log before ports.new ws watches.new (map_six (λ v. v.items) ran.new.machines)) }
+        → AllSent P.tells P.log before ports.old ws state.old.watches.now
+        (map_six (λ v. v.items) ran.old.machines)
+        → AllSent P.tells P.log before ports.new ws state.new.watches.now
+        (map_six (λ v. v.items) ran.new.machines)) }
     ensures did { OnOk result ((acts : ActLog) → O.tells operator.new ≡ true
-        → Did acts (O.log operator.old) ran.old.operator.items → Did acts (O.log operator.new) ran.new.operator.items) }
+        → Did acts (O.log operator.old) ran.old.operator.items
+        → Did acts (O.log operator.new) ran.new.operator.items) }
     ensures scheduled { OnOk result ((steps : List StepValue) (before : History) (ws : SixValue WatchValue)
-        (acts : ActLog) → Scheduled plan.now steps ran.old.refused before kept.old ws watches.old (O.tells operator.old)
-        acts (O.log operator.old) → Scheduled plan.now (steps ++ step.now ∷ []) ran.new.refused before kept.new ws
-        watches.new (O.tells operator.new) acts (O.log operator.new)) }
-    ensures unchanged { OnErr result ((kept.new ≡ kept.old) × (shares.new ≡ shares.old) × (watches.new ≡ watches.old)
+        (acts : ActLog) → Scheduled plan.now steps ran.old.refused before state.old.kept.now ws state.old.watches.now
+        (O.tells operator.old) acts (O.log operator.old)
+        → Scheduled plan.now (steps ++ step.now ∷ []) ran.new.refused before state.new.kept.now ws state.new.watches.now
+        (O.tells operator.new) acts (O.log operator.new)) }
+    ensures unchanged { OnErr result ((state.new.kept.now ≡ state.old.kept.now)
+        × (state.new.shares.now ≡ state.old.shares.now) × (state.new.watches.now ≡ state.old.watches.now)
         × (ports.new ≡ ports.old)) }
     ensures acted { O.tells operator.new ≡ true
         → OnErr result (ActedAtMost (act_at step.now) (O.log operator.old) (O.log operator.new)) }
-    ensures stops { OnErr result (CanStop kept.old.limits kept.old.entries step.now) }
+    ensures stops { OnErr result (CanStop state.old.kept.now.limits state.old.kept.now.entries step.now) }
 {
+    let kept = &mut *state.kept;
+    let shares = &mut *state.shares;
     match *step {
         Step::Turn(machine, reading) => {
+            let turn = TurnAt {
+                machine,
+                reading,
+                plan,
+            };
+            let watches = &mut *state.watches;
             let watch = watches.pick(machine);
             let port = ports.pick(machine);
             let entries = ran.machines.pick(machine);
-            let refused = match take_turn(
-                machine, reading, port, kept, shares, watch, entries, plan,
-            ) {
+            let refused = match take_turn(&turn, port, kept, shares, watch, entries) {
                 Ok(refused) => refused,
                 Err(error) => return Err(error),
             };
@@ -208,13 +228,14 @@ pub fn run_schedule<P: Port, O: OperatorPort, R: Run>(
         shares.old shares.new watches.old watches.new (O.tells operator.new) (O.log operator.old)
         (O.log operator.new)) }
 {
-    let mut ran = Ran {
-        machines: no_entries(alloc),
-        operator: Vec::new(alloc),
-        refused: 0,
-    };
+    let mut ran = Ran::new(alloc);
     for step in steps {
-        let taken = take_step(step, &mut ran, ports, operator, kept, shares, watches, plan);
+        let mut state = LentState {
+            kept: &mut *kept,
+            shares: &mut *shares,
+            watches: &mut *watches,
+        };
+        let taken = add_step(step, &mut ran, ports, operator, &mut state, plan);
         if let Err(error) = taken {
             return Err(error);
         }
@@ -232,31 +253,34 @@ pub fn run_step<P: Port, O: OperatorPort, R: Run>(
     ran: &mut Ran,
     ports: &mut Ports<P>,
     operator: &mut O,
-    kept: &mut Kept<R>,
-    shares: &mut Shares<R>,
-    watches: &mut Watches,
+    state: &mut LentState<'_, '_, '_, R>,
     plan: &Plan,
 ) -> Result<(), OutOfMemory>
-    requires { (m : MachineValue) → machine_of_watch (at watches.old m) ≡ m }
-    ensures machines { (m : MachineValue) → machine_of_watch (at watches.new m) ≡ m }
-    ensures grown { OnOk result (Grown kept.old kept.new shares.old shares.new (map_six (λ v. v.items) ran.new.machines)
-        ran.new.operator.items) }
-    ensures sent { OnOk result (AllSent P.tells P.log ports.old ports.new watches.old watches.new
-        (map_six (λ v. v.items) ran.new.machines)) }
+    requires { (m : MachineValue) → machine_of_watch (at state.old.watches.now m) ≡ m }
+    ensures machines { (m : MachineValue) → machine_of_watch (at state.new.watches.now m) ≡ m }
+    ensures kept { IsSameLoan state.old.kept state.new.kept }
+    ensures shares { IsSameLoan state.old.shares state.new.shares }
+    ensures watches { IsSameLoan state.old.watches state.new.watches }
+    ensures grown { OnOk result (Grown state.old.kept.now state.new.kept.now state.old.shares.now state.new.shares.now
+        (map_six (λ v. v.items) ran.new.machines) ran.new.operator.items) }
+    ensures sent { OnOk result (AllSent P.tells P.log ports.old ports.new state.old.watches.now
+        state.new.watches.now (map_six (λ v. v.items) ran.new.machines)) }
     ensures did { OnOk result (O.tells operator.new ≡ true
         → Did (O.log operator.old) (O.log operator.new) ran.new.operator.items) }
-    ensures scheduled { OnOk result (Scheduled plan.now (step.now ∷ []) ran.new.refused kept.old kept.new watches.old
-        watches.new (O.tells operator.new) (O.log operator.old) (O.log operator.new)) }
-    ensures legal { OnOk result (legal kept.new.limits kept.new.entries ≡ true) }
-    ensures stopped { OnErr result (Stopped P.tells P.log plan.now (step.now ∷ []) ports.old ports.new kept.old kept.new
-        shares.old shares.new watches.old watches.new (O.tells operator.new) (O.log operator.old)
+    ensures scheduled { OnOk result (Scheduled plan.now (step.now ∷ []) ran.new.refused state.old.kept.now
+        state.new.kept.now state.old.watches.now state.new.watches.now (O.tells operator.new)
+        (O.log operator.old) (O.log operator.new)) }
+    ensures legal { OnOk result (legal state.new.kept.now.limits state.new.kept.now.entries ≡ true) }
+    ensures stopped { OnErr result (Stopped P.tells P.log plan.now (step.now ∷ []) ports.old ports.new
+        state.old.kept.now state.new.kept.now state.old.shares.now state.new.shares.now state.old.watches.now
+        state.new.watches.now (O.tells operator.new) (O.log operator.old)
         (O.log operator.new)) }
 {
     ran.clear();
-    let taken = take_step(step, ran, ports, operator, kept, shares, watches, plan);
+    let taken = add_step(step, ran, ports, operator, state, plan);
     if let Err(error) = taken {
         return Err(error);
     }
-    kept.is_lawful();
+    state.kept.is_lawful();
     Ok(())
 }

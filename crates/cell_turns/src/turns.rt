@@ -6,17 +6,9 @@
 //! 4. `book`: the entry of what was decided is booked and listed;
 //! 5. `remember`: what the watch keeps of the turn;
 //! 6. `send`: the command of the entry, once the book's lock is free.
-ghost use Rattle.std.specs.Prelude.{◌≡◌, ◌&&◌, ◌++◌, None, is_none, IfOk, IfErr, IfSome, OnErr, option_to_list};
-ghost use Rattle.std.specs.Prelude.{vec_len, vec_capacity};
-ghost use Rattle.cell_types.specs.Entries.{actor_of};
-ghost use Rattle.cell_types.specs.declared.words.Actor.TheVariants as actors;
-ghost use Rattle.cell_rules.specs.Views.{count_of};
-ghost use Rattle.cell_rules.specs.Legal.{first_of};
-ghost use Rattle.cell_ledger.specs.Counts.{plus};
-ghost use Rattle.cell_ledger.specs.Held.{held};
-ghost use Rattle.cell_turns.specs.Minds.{Mind, FitsMind, machine_of_watch, has_failed_command};
-ghost use Rattle.cell_turns.specs.Sent.{is_command_fault};
-ghost use Rattle.cell_turns.specs.Turns.{IsDecided, IsExcused, mind_after, Turned};
+ghost use Rattle.std.specs.Prelude.{◌≡◌, IfOk, IfErr, OnErr, vec_len, vec_capacity};
+ghost use Rattle.cell_turns.specs.Minds.{machine_of_watch};
+ghost use Rattle.cell_turns.specs.Turns.{IsExcused, TurnBooks, Turned};
 
 pub(crate) mod book;
 pub mod decide;
@@ -42,37 +34,31 @@ pub enum TurnError {
     Refused(Refusal),
 }
 
+/// What a turn goes by: its machine, the reading that it notes, and the plan.
+#[derive(Clone, Copy, Debug)]
+pub struct TurnAt<'a> {
+    pub machine: Machine,
+    pub reading: Option<Reading>,
+    pub plan: &'a Plan,
+}
+
 // One turn of a machine that is a constant at each call.
 #[inline(always)]
-fn turn_of<R: Run>(
+fn note_and_book<R: Run>(
     machine: Machine,
+    turn: &TurnAt,
     kept: &mut Kept<R>,
     shares: &mut Shares<R>,
     watch: &mut Watch,
-    reading: Option<Reading>,
     entries: &mut Vec<Entry>,
-    plan: &Plan,
 ) -> Result<Option<Entry>, TurnError>
-    requires { machine_of_watch watch.old ≡ machine }
-    ensures entries { IfOk result (λ e. entries.new.items ≡ entries.old.items ++ option_to_list e) }
-    ensures kept { IfOk result (λ e. kept.new ≡ record {
-      limits = kept.old.limits;
-      entries =
-          kept.old.entries ++ option_to_list e;
-    }) }
-    ensures shares { IfOk result (λ e. shares.new
-        ≡ held shares.old.parts (plus shares.old.counts (count_of (option_to_list e)))) }
-    ensures allowed { IfOk result (λ e. IfSome e (λ x. first_of kept.old.limits kept.old.entries x ≡ None)) }
-    ensures actor { IfOk result (λ e. IfSome e (λ x. actor_of x ≡ actors.Machine machine)) }
-    ensures decided { IfOk result (λ e. (s : Mind) → FitsMind watch.old s
-        → IsDecided kept.old.limits kept.old.entries machine plan.now s reading e) }
-    ensures fits { IfOk result (λ e. (s : Mind) → FitsMind watch.old s
-        → FitsMind watch.new (mind_after kept.old.entries machine plan.now s reading e)) }
-    ensures fault { IfOk result (λ e. IfSome e (λ x. is_command_fault x ≡ has_failed_command watch.old)) }
-    ensures flag { IfOk result (λ e. has_failed_command watch.new ≡ (is_none e && has_failed_command watch.old)) }
-    ensures machine { machine_of_watch watch.new ≡ machine }
-    ensures excused { IfErr result (λ e. IsExcused kept.old.limits kept.old.entries machine plan.now reading watch.old
-        e) }
+    requires constant { turn.now.machine ≡ machine }
+    requires watch { machine_of_watch watch.old ≡ turn.now.machine }
+    ensures booked { IfOk result (λ e. TurnBooks turn.now.machine turn.now.plan.now turn.now.reading e kept.old kept.new
+        entries.old.items entries.new.items shares.old shares.new watch.old watch.new) }
+    ensures machine { machine_of_watch watch.new ≡ turn.now.machine }
+    ensures excused { IfErr result (λ e. IsExcused kept.old.limits kept.old.entries turn.now.machine turn.now.plan.now
+        turn.now.reading watch.old e) }
     ensures memory { result ≡ Err TurnError.OutOfMemory → vec_capacity entries.old ≡ vec_len entries.old }
     ensures unchanged { OnErr result ((entries.new.items ≡ entries.old.items) × (kept.new ≡ kept.old)
         × (shares.new ≡ shares.old) × (watch.new ≡ watch.old)) }
@@ -82,10 +68,10 @@ fn turn_of<R: Run>(
     useful_is_bookable();
     let book = kept.book();
     let before = *watch;
-    let findings = observe::notice(machine, watch, book, reading, plan);
+    let findings = observe::notice(machine, watch, book, turn.reading, turn.plan);
     let anew = remember::begins_anew(machine, book, &before);
     let ruling = decide::decide(machine, book, &before, &findings);
-    let entry = match book::entry_of(ruling, machine, &before, book, plan) {
+    let entry = match book::entry_of(ruling, machine, &before, book, turn.plan) {
         Ok(entry) => entry,
         Err(refusal) => {
             *watch = before;
@@ -104,15 +90,15 @@ fn turn_of<R: Run>(
         *watch = before;
         return Err(TurnError::Refused(refusal));
     }
-    remember::keep(
+    let memory = remember::memory_after(
         machine,
-        watch,
         &before,
         kept.book(),
         findings.sign,
         anew,
         &booked,
     );
+    remember::keep(machine, watch, anew, &booked, memory);
     Ok(booked)
 }
 
@@ -120,53 +106,29 @@ fn turn_of<R: Run>(
 /// error, nothing has changed. Each machine is told apart here and nowhere below, so that a turn of each is compiled by
 /// itself.
 pub fn book_turn<R: Run>(
-    machine: Machine,
+    turn: &TurnAt,
     kept: &mut Kept<R>,
     shares: &mut Shares<R>,
     watch: &mut Watch,
-    reading: Option<Reading>,
     entries: &mut Vec<Entry>,
-    plan: &Plan,
 ) -> Result<Option<Entry>, TurnError>
-    requires { machine_of_watch watch.old ≡ machine }
-    ensures entries { IfOk result (λ e. entries.new.items ≡ entries.old.items ++ option_to_list e) }
-    ensures kept { IfOk result (λ e. kept.new ≡ record {
-      limits = kept.old.limits;
-      entries =
-          kept.old.entries ++ option_to_list e;
-    }) }
-    ensures shares { IfOk result (λ e. shares.new
-        ≡ held shares.old.parts (plus shares.old.counts (count_of (option_to_list e)))) }
-    ensures allowed { IfOk result (λ e. IfSome e (λ x. first_of kept.old.limits kept.old.entries x ≡ None)) }
-    ensures actor { IfOk result (λ e. IfSome e (λ x. actor_of x ≡ actors.Machine machine)) }
-    ensures decided { IfOk result (λ e. (s : Mind) → FitsMind watch.old s
-        → IsDecided kept.old.limits kept.old.entries machine plan.now s reading e) }
-    ensures fits { IfOk result (λ e. (s : Mind) → FitsMind watch.old s
-        → FitsMind watch.new (mind_after kept.old.entries machine plan.now s reading e)) }
-    ensures fault { IfOk result (λ e. IfSome e (λ x. is_command_fault x ≡ has_failed_command watch.old)) }
-    ensures flag { IfOk result (λ e. has_failed_command watch.new ≡ (is_none e && has_failed_command watch.old)) }
-    ensures machine { machine_of_watch watch.new ≡ machine }
-    ensures excused { IfErr result (λ e. IsExcused kept.old.limits kept.old.entries machine plan.now reading watch.old
-        e) }
+    requires { machine_of_watch watch.old ≡ turn.now.machine }
+    ensures booked { IfOk result (λ e. TurnBooks turn.now.machine turn.now.plan.now turn.now.reading e kept.old kept.new
+        entries.old.items entries.new.items shares.old shares.new watch.old watch.new) }
+    ensures machine { machine_of_watch watch.new ≡ turn.now.machine }
+    ensures excused { IfErr result (λ e. IsExcused kept.old.limits kept.old.entries turn.now.machine turn.now.plan.now
+        turn.now.reading watch.old e) }
     ensures memory { result ≡ Err TurnError.OutOfMemory → vec_capacity entries.old ≡ vec_len entries.old }
     ensures unchanged { OnErr result ((entries.new.items ≡ entries.old.items) × (kept.new ≡ kept.old)
         × (shares.new ≡ shares.old) × (watch.new ≡ watch.old)) }
 {
-    match machine {
-        Machine::Feed => turn_of(Machine::Feed, kept, shares, watch, reading, entries, plan),
-        Machine::Table => turn_of(Machine::Table, kept, shares, watch, reading, entries, plan),
-        Machine::Robot => turn_of(Machine::Robot, kept, shares, watch, reading, entries, plan),
-        Machine::Press1 => turn_of(Machine::Press1, kept, shares, watch, reading, entries, plan),
-        Machine::Press2 => turn_of(Machine::Press2, kept, shares, watch, reading, entries, plan),
-        Machine::Deposit => turn_of(
-            Machine::Deposit,
-            kept,
-            shares,
-            watch,
-            reading,
-            entries,
-            plan,
-        ),
+    match turn.machine {
+        Machine::Feed => note_and_book(Machine::Feed, turn, kept, shares, watch, entries),
+        Machine::Table => note_and_book(Machine::Table, turn, kept, shares, watch, entries),
+        Machine::Robot => note_and_book(Machine::Robot, turn, kept, shares, watch, entries),
+        Machine::Press1 => note_and_book(Machine::Press1, turn, kept, shares, watch, entries),
+        Machine::Press2 => note_and_book(Machine::Press2, turn, kept, shares, watch, entries),
+        Machine::Deposit => note_and_book(Machine::Deposit, turn, kept, shares, watch, entries),
     }
 }
 
@@ -196,7 +158,12 @@ pub fn turn<R: Run>(
     ensures unchanged { OnErr result ((entries.new.items ≡ entries.old.items) × (kept.new ≡ kept.old)
         × (shares.new ≡ shares.old) × (watch.new ≡ watch.old)) }
 {
-    match book_turn(machine, kept, shares, watch, reading, entries, plan)? {
+    let turn = TurnAt {
+        machine,
+        reading,
+        plan,
+    };
+    match book_turn(&turn, kept, shares, watch, entries)? {
         Some(entry) => Ok(command_of(entry)),
         None => Ok(None),
     }

@@ -28,11 +28,6 @@ agrees_more a J own place k n e there so more =
     ∙ sym (ap (entries_of a) (take_get J place e there) ∙ filter-append (λ (x : Entry). same_actor a (actor_of x))
     (take place J) (e ∷ []))
 
--- a list that agrees, as its slice does
-pub listed : {items slice : List Entry} (J : List Entry) (a : Actor) → items ≡ slice → slice ≡ entries_of a J
-    → items ≡ entries_of a J
-listed J a is own = is ∙ own
-
 -- a list that follows a script is the one that was compared with the journal
 pub follows_listed : (l : BookLimits) (script : List Line) {es items own : List Entry} → Follows l script es
     → items ≡ es → items ≡ own → Follows l script own

@@ -1,5 +1,6 @@
 -- What a run reports
 use Rattle.std.specs.Prelude.{◌≡◌, List, [], ◌∷◌, true}
+use Rattle.cell_types.specs.declared.words.Machine.{Machine}
 use Rattle.cell_types.specs.declared.words.Machine.TheVariants as machine
 use Rattle.cell_types.specs.declared.words.Actor.{Actor}
 use Rattle.cell_types.specs.declared.words.Actor.TheVariants as actor
@@ -12,6 +13,8 @@ use Rattle.cell_rules.specs.Safety.{IsSafe}
 use Rattle.cell_ledger.specs.Counts.{nothing, plus}
 use Rattle.operator_desk.specs.declared.line.Line.{Line}
 use Rattle.cell_turns.specs.Schedules.{entries_of}
+use Rattle.cell_turns.specs.declared.six.Six.{Six}
+use Rattle.cell_turns.specs.Six.{at}
 use Rattle.cell_workers.specs.Operating.{Follows}
 use Rattle.cell_workers.specs.Standing.{all_called_for}
 
@@ -28,15 +31,10 @@ AreTheirs [] J [] = Unit {0}
 AreTheirs (a ∷ rest) J (w ∷ ws) = (w.0 ≡ entries_of a J) × (w.1 ≡ count_of w.0) × AreTheirs rest J ws
 AreTheirs _ J _ = ⊥
 
--- seven lists are the workers' entries in the journal
-pub record AreAllOf (J feed table robot press1 press2 deposit operator : List Entry) : Type 0 where
-  pub feed_is : feed ≡ entries_of (actor.Machine machine.Feed) J
-  pub table_is : table ≡ entries_of (actor.Machine machine.Table) J
-  pub robot_is : robot ≡ entries_of (actor.Machine machine.Robot) J
-  pub press1_is : press1 ≡ entries_of (actor.Machine machine.Press1) J
-  pub press2_is : press2 ≡ entries_of (actor.Machine machine.Press2) J
-  pub deposit_is : deposit ≡ entries_of (actor.Machine machine.Deposit) J
-  pub operator_is : operator ≡ entries_of actor.Operator J
+-- the machines' lists and the operator's are theirs in the journal
+pub record AreAllOf (J : List Entry) (machines : Six (List Entry)) (operator : List Entry) : Type 0 where
+  pub by_machine : (m : Machine) → at machines m ≡ entries_of (actor.Machine m) J
+  pub by_operator : operator ≡ entries_of actor.Operator J
 
 -- the counts of all, added up
 abbrev pub sum_counts : List (List Entry × Totals) → Totals

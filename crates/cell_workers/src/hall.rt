@@ -20,7 +20,7 @@ use cell_diagnosis::Reading;
 use cell_ledger::{Kept, Run, Shares};
 use cell_ports::Plan;
 use cell_turns::Watch;
-use cell_turns::turns::{TurnError, book_turn};
+use cell_turns::turns::{TurnAt, TurnError, book_turn};
 use cell_types::{Entry, Machine};
 use plate_book::Refusal;
 use std::sync::{Condvar, Mutex};
@@ -167,7 +167,12 @@ impl<R: Run> Hall<R> {
             watch,
         } = worker;
         kept.book().is_lawful();
-        match book_turn(machine, kept, shares, watch, reading, entries, plan) {
+        let turn = TurnAt {
+            machine,
+            reading,
+            plan,
+        };
+        match book_turn(&turn, kept, shares, watch, entries) {
             Ok(Some(entry)) => {
                 *idle = *lost;
                 Ok((Some(entry), false))

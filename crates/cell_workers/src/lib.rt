@@ -12,7 +12,8 @@ pub mod working;
 
 pub use cell_ports::{Act, OperatorPort, Plan, Port, PortFault};
 pub use cell_turns::{
-    OutOfMemory, Ports, Ran, Six, Step, TurnError, Watch, Watches, run_schedule, run_step, turn,
+    LentState, OutOfMemory, Ports, Ran, Six, Step, TurnError, Watch, Watches, run_schedule,
+    run_step, turn,
 };
 pub use ends::{End, end_at_rest, is_idle};
 pub use hall::{Ended, Hall, Room};

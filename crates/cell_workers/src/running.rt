@@ -8,7 +8,7 @@ ghost use Rattle.cell_rules.specs.Views.{count_of};
 ghost use Rattle.cell_ledger.specs.Counts.{nothing, plus};
 ghost use Rattle.cell_ledger.specs.New.{AreBlank};
 ghost use Rattle.cell_turns.specs.Schedules.{same_actor, entries_of};
-ghost use Rattle.cell_turns.specs.Six.{at};
+ghost use Rattle.cell_turns.specs.Six.{at, map_six};
 ghost use Rattle.operator_desk.specs.declared.line.Line.{Line};
 ghost use Rattle.cell_workers.specs.Operating.{Follows};
 ghost use Rattle.cell_workers.specs.Standing.{all_called_for};
@@ -16,7 +16,7 @@ ghost use Rattle.cell_workers.specs.Report.{IsReport, AreAllOf};
 
 use crate::ends::End;
 use crate::hall::{Hall, Room};
-use crate::team::{Done, Lent, Team, crew_of, lend, run_team};
+use crate::team::{Actors, Done, Lent, Seven, Workplace, crew_of, lend, run_team};
 use crate::{OperatorPort, Plan, Port, Ports, Six};
 use cell_journal::Journal;
 use cell_ledger::{Blanks, Kept, Run, Shares};
@@ -104,26 +104,36 @@ fn agrees(journal: &Journal, actor: Actor, entries: &[Entry]) -> bool
 }
 
 /// Whether each worker's list is its actor's entries of the journal.
-fn all_agree(
-    journal: &Journal,
-    feed: &[Entry],
-    table: &[Entry],
-    robot: &[Entry],
-    press1: &[Entry],
-    press2: &[Entry],
-    deposit: &[Entry],
-    operator: &[Entry],
-) -> bool
-    ensures { result ≡ true → AreAllOf journal.now.entries feed.now table.now robot.now press1.now press2.now
-        deposit.now operator.now }
+fn all_agree(journal: &Journal, lists: &Seven<(Vec<Entry>, Totals)>) -> bool
+    ensures { result ≡ true → AreAllOf journal.now.entries (map_six (λ w. w.0.items) lists.now.machines)
+        lists.now.operator.0.items }
 {
-    agrees(journal, Actor::Machine(Machine::Feed), feed)
-        && agrees(journal, Actor::Machine(Machine::Table), table)
-        && agrees(journal, Actor::Machine(Machine::Robot), robot)
-        && agrees(journal, Actor::Machine(Machine::Press1), press1)
-        && agrees(journal, Actor::Machine(Machine::Press2), press2)
-        && agrees(journal, Actor::Machine(Machine::Deposit), deposit)
-        && agrees(journal, Actor::Operator, operator)
+    let machines = &lists.machines;
+    agrees(
+        journal,
+        Actor::Machine(Machine::Feed),
+        machines.feed.0.as_slice(),
+    ) && agrees(
+        journal,
+        Actor::Machine(Machine::Table),
+        machines.table.0.as_slice(),
+    ) && agrees(
+        journal,
+        Actor::Machine(Machine::Robot),
+        machines.robot.0.as_slice(),
+    ) && agrees(
+        journal,
+        Actor::Machine(Machine::Press1),
+        machines.press1.0.as_slice(),
+    ) && agrees(
+        journal,
+        Actor::Machine(Machine::Press2),
+        machines.press2.0.as_slice(),
+    ) && agrees(
+        journal,
+        Actor::Machine(Machine::Deposit),
+        machines.deposit.0.as_slice(),
+    ) && agrees(journal, Actor::Operator, lists.operator.0.as_slice())
 }
 
 /// A worker's list with what its shares count, and its shares put together with those of others.
@@ -143,38 +153,32 @@ fn gather_done<R: Run>(
     ((entries, counts), all)
 }
 
-/// The machines' lists and the operator's, each with what its worker's shares count, and the shares of all.
+/// Each worker's list with what its shares count, and the shares of all.
 #[tactic(auto, using(crate::proofs::Reports::plus_nothing))]
 fn gather_team<R: Run>(
     kept: &mut Kept<R>,
-    team: Team<R>,
-) -> (Six<(Vec<Entry>, Totals)>, (Vec<Entry>, Totals), Shares<R>)
+    team: Seven<Done<R>>,
+) -> (Seven<(Vec<Entry>, Totals)>, Shares<R>)
     ensures kept { kept.new ≡ kept.old }
-    ensures machines { (machine : MachineValue) → (at result.0 machine).1 ≡ count_of (at result.0 machine).0.items }
-    ensures operator { result.1.1 ≡ count_of result.1.0.items }
-    ensures list { result.1.0.items ≡ team.operator.entries.items }
-    ensures parts { result.2.parts ≡ 7 }
-    ensures sum { result.2.counts ≡ plus result.0.feed.1
-        (plus result.0.table.1 (plus result.0.robot.1
-        (plus result.0.press1.1 (plus result.0.press2.1 (plus result.0.deposit.1 (plus result.1.1 nothing)))))) }
+    ensures machines { (machine : MachineValue) → (at result.0.machines machine).1
+        ≡ count_of (at result.0.machines machine).0.items }
+    ensures operator { result.0.operator.1 ≡ count_of result.0.operator.0.items }
+    ensures list { result.0.operator.0.items ≡ team.operator.entries.items }
+    ensures parts { result.1.parts ≡ 7 }
+    ensures sum { result.1.counts ≡ plus result.0.machines.feed.1
+        (plus result.0.machines.table.1 (plus result.0.machines.robot.1
+        (plus result.0.machines.press1.1 (plus result.0.machines.press2.1
+        (plus result.0.machines.deposit.1 (plus result.0.operator.1 nothing)))))) }
 {
-    let Team { machines, operator } = team;
-    let Six {
-        feed,
-        table,
-        robot,
-        press1,
-        press2,
-        deposit,
-    } = machines;
+    let Seven { machines, operator } = team;
     let Done { entries, shares } = operator;
     let counts = shares.counts();
-    let (deposit, all) = gather_done(kept, deposit, shares);
-    let (press2, all) = gather_done(kept, press2, all);
-    let (press1, all) = gather_done(kept, press1, all);
-    let (robot, all) = gather_done(kept, robot, all);
-    let (table, all) = gather_done(kept, table, all);
-    let (feed, all) = gather_done(kept, feed, all);
+    let (deposit, all) = gather_done(kept, machines.deposit, shares);
+    let (press2, all) = gather_done(kept, machines.press2, all);
+    let (press1, all) = gather_done(kept, machines.press1, all);
+    let (robot, all) = gather_done(kept, machines.robot, all);
+    let (table, all) = gather_done(kept, machines.table, all);
+    let (feed, all) = gather_done(kept, machines.feed, all);
     let machines = Six {
         feed,
         table,
@@ -183,11 +187,15 @@ fn gather_team<R: Run>(
         press2,
         deposit,
     };
-    (machines, (entries, counts), all)
+    let lists = Seven {
+        machines,
+        operator: (entries, counts),
+    };
+    (lists, all)
 }
 
 /// What the workers bring back, against the journal.
-fn settle<R: Run>(hall: Hall<R>, team: Team<R>) -> Result<Report, RunError>
+fn settle<R: Run>(hall: Hall<R>, team: Seven<Done<R>>) -> Result<Report, RunError>
     requires { R.parts ≡ 7 }
     ensures { (script : List Line) → Follows R.limits script team.operator.entries.items
         → IfOk result (λ r. IsReport R.limits script r.journal.entries r.totals
@@ -199,11 +207,13 @@ fn settle<R: Run>(hall: Hall<R>, team: Team<R>) -> Result<Report, RunError>
         lost: _,
         end,
     } = hall;
-    let (machines, operator, mut all) = gather_team(&mut kept, team);
+    let (lists, mut all) = gather_team(&mut kept, team);
     kept.audit(&mut all);
     kept.is_lawful();
     let totals = all.counts();
     let journal = kept.into_book().into_journal();
+    let same = all_agree(&journal, &lists);
+    let Seven { machines, operator } = lists;
     let Six {
         feed,
         table,
@@ -212,16 +222,6 @@ fn settle<R: Run>(hall: Hall<R>, team: Team<R>) -> Result<Report, RunError>
         press2,
         deposit,
     } = machines;
-    let same = all_agree(
-        &journal,
-        feed.0.as_slice(),
-        table.0.as_slice(),
-        robot.0.as_slice(),
-        press1.0.as_slice(),
-        press2.0.as_slice(),
-        deposit.0.as_slice(),
-        operator.0.as_slice(),
-    );
     let workers = [feed, table, robot, press1, press2, deposit, operator];
     if !same {
         return Err(RunError::JournalDisagrees);
@@ -248,40 +248,38 @@ fn open_room<R: Run>(kept: Kept<R>) -> Room<R>
     }
 }
 
-/// A run over these ledgers.
-fn run_over<R: Run + Send + Sync, P: Port + Send, O: OperatorPort + Send, W: Threads + Wait + Sync>(
+/// Runs all seven over a book that is tied to these ledgers, and settles what they bring back.
+fn run_and_settle<
+    R: Run + Send + Sync,
+    P: Port + Drop + Send,
+    O: OperatorPort + Drop + Send,
+    W: Threads + Wait + Sync,
+>(
     rt: &W,
     alloc: Global,
     book: Book,
     blanks: Blanks,
-    ports: &mut Ports<P>,
-    operator: &mut O,
-    script: Script,
+    acting: Actors<P, O>,
     plan: &Plan,
 ) -> Result<Report, RunError>
     requires parts { R.parts ≡ 7 }
     requires limits { book.limits ≡ R.limits }
     requires empty { book.entries ≡ [] }
     requires ledgers { AreBlank R.Run blanks }
-    ensures { IfOk result (λ r. IsReport R.limits script r.journal.entries r.totals
+    ensures { IfOk result (λ r. IsReport R.limits acting.script r.journal.entries r.totals
         (map (λ w. (w.0.items, w.1)) r.workers)) }
 {
     let (kept, all) = Kept::<R>::new(book, blanks);
     let crew = crew_of(all);
-    let room = open_room(kept);
-    let team = run_team(
-        rt,
+    let place = Workplace {
+        room: open_room(kept),
+        plan: *plan,
         alloc,
-        &room,
-        crew,
-        lend(ports),
-        Lent(operator),
-        script,
-        plan,
-    );
-    let Some(team) = team else {
+    };
+    let Some(team) = run_team(rt, &place, crew, acting) else {
         return Err(RunError::ThreadRefused);
     };
+    let Workplace { room, .. } = place;
     let Room { hall, moved: _ } = room;
     settle(hall.into_inner(), team)
 }
@@ -302,14 +300,10 @@ pub fn run_cell<P: Port + Send, O: OperatorPort + Send, W: Threads + Wait + Sync
     let Ok(book) = Book::new(alloc, plan.journal_limit, plan.plates) else {
         return Err(RunError::OutOfMemory);
     };
-    run_over::<Brand, P, O, W>(
-        rt,
-        alloc,
-        book,
-        Blanks::new(7),
-        ports,
-        operator,
+    let acting = Actors {
+        ports: lend(ports),
+        operator: Lent(operator),
         script,
-        plan,
-    )
+    };
+    run_and_settle::<Brand, _, _, _>(rt, alloc, book, Blanks::new(7), acting, plan)
 }

@@ -1,5 +1,5 @@
 //! Worked examples: turns of the feed belt and of the deposit belt.
-ghost use Rattle.std.specs.Prelude.{◌≡◌, ◌<◌, ◌≤◌};
+ghost use Rattle.std.specs.Prelude.{◌≡◌, ◌<◌, ◌≤◌, length};
 ghost use Rattle.cell_turns.specs.Minds.{machine_of_watch};
 ghost use Rattle.cell_ledger.specs.New.{AreBlank};
 
@@ -48,25 +48,58 @@ pub(crate) fn told_by(rt: &impl Abort, alloc: Global, book: &Book) -> Told {
     told
 }
 
+// A reading, and what a turn at it answers.
+type Wanted = (Option<Reading>, Result<Option<Command>, TurnError>);
+
+// Turns of one machine, each of which answers what is wanted. Before turn number `fault` (counted from 0) the port's
+// failure is told.
+#[derive(Clone, Copy)]
+struct Turns<'a> {
+    machine: Machine,
+    plan: &'a Plan,
+    fault: usize,
+    wanted: &'a [Wanted],
+}
+
+// What turns of one machine go over.
+#[derive(Drop)]
+struct Alone<R: Run> {
+    kept: Kept<R>,
+    shares: Shares<R>,
+    watch: Watch,
+    entries: Vec<Entry>,
+}
+
 // A turn answers what is wanted. One that is refused leaves the book, the shares, the watch and the list as they were.
 fn check_turn<R: Run>(
     rt: &impl Abort,
     alloc: Global,
-    machine: Machine,
-    kept: &mut Kept<R>,
-    shares: &mut Shares<R>,
-    watch: &mut Watch,
-    entries: &mut Vec<Entry>,
-    plan: &Plan,
+    alone: &mut Alone<R>,
+    turns: &Turns,
     place: usize,
-    wanted: &(Option<Reading>, Result<Option<Command>, TurnError>),
 )
-    requires { machine_of_watch watch.old ≡ machine }
-    ensures { machine_of_watch watch.new ≡ machine }
+    requires machine { machine_of_watch alone.old.watch ≡ turns.now.machine }
+    requires place { place < length turns.now.wanted.now }
+    ensures { machine_of_watch alone.new.watch ≡ turns.now.machine }
 {
-    let told = told_by(rt, alloc, kept.book());
-    let (was, listed) = (*watch, entries.len());
-    let answer = turn(machine, kept, shares, watch, wanted.0, entries, plan);
+    let wanted = &turns.wanted[place];
+    let told = told_by(rt, alloc, alone.kept.book());
+    let (was, listed) = (alone.watch, alone.entries.len());
+    let Alone {
+        kept,
+        shares,
+        watch,
+        entries,
+    } = alone;
+    let answer = turn(
+        turns.machine,
+        kept,
+        shares,
+        watch,
+        wanted.0,
+        entries,
+        turns.plan,
+    );
     assert!(rt;
         answer == wanted.1 && shares.counts() == kept.book().totals(),
         "turn {place}"
@@ -78,85 +111,43 @@ fn check_turn<R: Run>(
     }
 }
 
-// How many entries turns of one machine at these readings book, each of which answers what is wanted. Before turn
-// number `fault` (counted from 0) the port's failure is told.
-fn entries_of_turns<R: Run>(
-    rt: &impl Abort,
-    alloc: Global,
-    kept: &mut Kept<R>,
-    shares: &mut Shares<R>,
-    machine: Machine,
-    plan: &Plan,
-    fault: usize,
-    turns: &[(Option<Reading>, Result<Option<Command>, TurnError>)],
-) -> usize {
-    let mut watch = Watch::start(machine, kept.book());
-    let mut entries = Vec::new(alloc);
-    assert!(rt; !watch.quiet());
-    for i in 0..turns.len() {
-        if i == fault {
-            watch.command_failed();
+fn check_turns<R: Run>(rt: &impl Abort, alloc: Global, alone: &mut Alone<R>, turns: &Turns)
+    requires { machine_of_watch alone.old.watch ≡ turns.now.machine }
+{
+    for i in 0..turns.wanted.len() {
+        if i == turns.fault {
+            alone.watch.command_failed();
         }
-        check_turn(
-            rt,
-            alloc,
-            machine,
-            kept,
-            shares,
-            &mut watch,
-            &mut entries,
-            plan,
-            i,
-            &turns[i],
-        );
+        check_turn(rt, alloc, alone, turns, i);
     }
-    entries.len()
 }
 
-// The length of the journal after such turns.
-fn length_of_turns<R: Run>(
-    rt: &impl Abort,
-    alloc: Global,
-    mut kept: Kept<R>,
-    mut shares: Shares<R>,
-    machine: Machine,
-    plan: &Plan,
-    fault: usize,
-    turns: &[(Option<Reading>, Result<Option<Command>, TurnError>)],
-) -> usize {
-    let before = kept.book().journal().len() as usize;
-    let booked = entries_of_turns(
-        rt,
-        alloc,
-        &mut kept,
-        &mut shares,
-        machine,
-        plan,
-        fault,
-        turns,
-    );
-    let length = kept.book().journal().len() as usize;
-    assert!(rt; before <= length && length - before == booked);
-    length
-}
-
-// The same over a book and blank ledgers, which it takes together.
+// The length of the journal after such turns over a book and blank ledgers.
 fn take_turns<R: Run>(
     rt: &impl Abort,
     alloc: Global,
     book: Book,
     blanks: Blanks,
-    machine: Machine,
-    plan: &Plan,
-    fault: usize,
-    turns: &[(Option<Reading>, Result<Option<Command>, TurnError>)],
+    turns: &Turns,
 ) -> usize
     requires parts { 0 < R.parts }
     requires limits { book.limits ≡ R.limits }
     requires ledgers { AreBlank R.Run blanks }
 {
     let (kept, shares) = Kept::<R>::new(book, blanks);
-    length_of_turns(rt, alloc, kept, shares, machine, plan, fault, turns)
+    let before = kept.book().journal().len() as usize;
+    let watch = Watch::start(turns.machine, kept.book());
+    assert!(rt; !watch.quiet());
+    let mut alone = Alone {
+        kept,
+        shares,
+        watch,
+        entries: Vec::new(alloc),
+    };
+    check_turns(rt, alloc, &mut alone, turns);
+    let length = alone.kept.book().journal().len() as usize;
+    assert!(rt; before <= length && length - before == alone.entries.len());
+    length
 }
 
 // The same over a book alone, with blank ledgers of its own.
@@ -166,10 +157,15 @@ fn length_after<R: AllocGlobal + Abort>(
     machine: Machine,
     plan: &Plan,
     fault: usize,
-    turns: &[(Option<Reading>, Result<Option<Command>, TurnError>)],
+    wanted: &[Wanted],
 ) -> usize {
-    let (alloc, blanks) = (rt.alloc(), Blanks::new(1));
-    take_turns::<Brand>(rt, alloc, book, blanks, machine, plan, fault, turns)
+    let turns = Turns {
+        machine,
+        plan,
+        fault,
+        wanted,
+    };
+    take_turns::<Brand>(rt, rt.alloc(), book, Blanks::new(1), &turns)
 }
 
 #[test]

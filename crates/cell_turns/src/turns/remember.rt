@@ -78,32 +78,39 @@ fn end_rest(machine: Machine, rest: &mut RestWatch, anew: bool)
     }
 }
 
-/// What the watch, which was `before` until this turn's reading was noted, keeps of a turn that left the book like
-/// this.
+/// What the watch, which was `before` until this turn's reading was noted, keeps of a turn that left the book like this
+/// and booked this entry, if any.
 #[inline(always)]
-pub fn keep(
+pub fn memory_after(
     machine: Machine,
-    watch: &mut Watch,
     before: &Watch,
     book: &Book,
     sign: bool,
     anew: bool,
     booked: &Option<Entry>,
-)
-    requires same { before.now.machine ≡ machine }
-    requires machine { watch.old.machine ≡ machine }
-    ensures axis { (f : Option Following) → FitsAxis watch.old.axis f
-        → FitsAxis watch.new.axis (if anew || ends_motion booked.now then None else f) }
-    ensures rest { (L : List NotedValue) → RestFits watch.old.rest L
-        → RestFits watch.new.rest (if anew then [] else L) }
-    ensures memory { watch.new.memory ≡ remembered book.now.entries before.now.machine
+) -> Memory
+    requires { before.now.machine ≡ machine }
+    ensures { result ≡ remembered book.now.entries before.now.machine
         (is_none booked.now && before.now.memory.command_failed) (not anew && (not before.now.memory.sign && sign)) }
-    ensures machine { watch.new.machine ≡ watch.old.machine }
 {
     let kept = &before.memory;
     let command_failed = booked.is_none() && kept.command_failed;
     let sign = !anew && (!kept.sign && sign);
+    remembered(book, machine, command_failed, sign)
+}
+
+/// Keeps this of a turn that booked this entry, if any: the watches that end with it end.
+#[inline(always)]
+pub fn keep(machine: Machine, watch: &mut Watch, anew: bool, booked: &Option<Entry>, memory: Memory)
+    requires { watch.old.machine ≡ machine }
+    ensures axis { (f : Option Following) → FitsAxis watch.old.axis f
+        → FitsAxis watch.new.axis (if anew || ends_motion booked.now then None else f) }
+    ensures rest { (L : List NotedValue) → RestFits watch.old.rest L
+        → RestFits watch.new.rest (if anew then [] else L) }
+    ensures memory { watch.new.memory ≡ memory }
+    ensures machine { watch.new.machine ≡ watch.old.machine }
+{
     end_axis(&mut watch.axis, anew, booked);
     end_rest(machine, &mut watch.rest, anew);
-    watch.memory = remembered(book, machine, command_failed, sign);
+    watch.memory = memory;
 }

@@ -10,7 +10,7 @@ mod stage;
 use crate::turns::schedules::stage::Stage;
 use crate::turns::{plan_of, showing};
 use cell_diagnosis::Reading;
-use cell_ledger::{Blanks, Kept, Run, Shares};
+use cell_ledger::{Blanks, Kept, Run};
 use cell_turns::{Act, OperatorPort, Plan, Port, Ran, Six, Step, Watches, run_schedule};
 use cell_types::{Belt, Colour, Command, Entry, MACHINES, Machine, Station};
 use plate_book::Book;
@@ -24,12 +24,18 @@ type MemoryPort = TellingPort<StillPort>;
 
 type MemoryHands = TellingHands<StillHands>;
 
+// The machines' ports and the operator's hands, in memory.
+#[derive(Drop)]
+struct Devices {
+    ports: Six<MemoryPort>,
+    hands: MemoryHands,
+}
+
 // What is left after a schedule.
 #[derive(Drop)]
 struct Played {
     ran: Ran,
-    ports: Six<MemoryPort>,
-    hands: MemoryHands,
+    devices: Devices,
     book: Book,
 }
 
@@ -42,55 +48,38 @@ fn ports(rt: &impl Abort, alloc: Global, room: usize, failing: Failing) -> Six<M
     ports
 }
 
-// A schedule on a kept book, over these ports and hands.
-fn play_kept<R: Run>(
-    rt: &impl Abort,
-    alloc: Global,
-    mut kept: Kept<R>,
-    mut shares: Shares<R>,
-    plan: &Plan,
-    steps: &[Step],
-    mut ports: Six<MemoryPort>,
-    mut hands: MemoryHands,
-) -> Played {
-    let mut watches = Watches::start(kept.book());
-    let ran = run_schedule(
-        alloc,
-        steps,
-        &mut ports,
-        &mut hands,
-        &mut kept,
-        &mut shares,
-        &mut watches,
-        plan,
-    );
-    let ran = ran.expect(rt, "memory");
-    assert!(rt; shares.counts() == kept.book().totals());
-    Played {
-        ran,
-        ports,
-        hands,
-        book: kept.into_book(),
-    }
-}
-
-// The same on a book, with ledgers that are blank.
+// A schedule on a book, with ledgers that are blank, over these ports and hands.
 fn play_over<R: Run>(
     rt: &impl Abort,
     alloc: Global,
     book: Book,
     blanks: Blanks,
-    plan: &Plan,
     steps: &[Step],
-    ports: Six<MemoryPort>,
-    hands: MemoryHands,
+    mut devices: Devices,
 ) -> Played
     requires parts { 0 < R.parts }
     requires limits { book.limits ≡ R.limits }
     requires ledgers { AreBlank R.Run blanks }
 {
-    let (kept, shares) = Kept::<R>::new(book, blanks);
-    play_kept(rt, alloc, kept, shares, plan, steps, ports, hands)
+    let (mut kept, mut shares) = Kept::<R>::new(book, blanks);
+    let mut watches = Watches::start(kept.book());
+    let ran = run_schedule(
+        alloc,
+        steps,
+        &mut devices.ports,
+        &mut devices.hands,
+        &mut kept,
+        &mut shares,
+        &mut watches,
+        &plan_of(rt, 5),
+    );
+    let ran = ran.expect(rt, "memory");
+    assert!(rt; shares.counts() == kept.book().totals());
+    Played {
+        ran,
+        devices,
+        book: kept.into_book(),
+    }
 }
 
 // A schedule on a book, over these ports. The operator's hands fail so.
@@ -105,8 +94,14 @@ fn play_with(
     let Ok(hands) = MemoryHands::new(alloc, StillHands, hands_failing, hands_failing, 100) else {
         panic!(rt; "there is memory");
     };
-    let plan = plan_of(rt, 5);
-    play_over::<Brand>(rt, alloc, book, Blanks::new(1), &plan, steps, ports, hands)
+    play_over::<Brand>(
+        rt,
+        alloc,
+        book,
+        Blanks::new(1),
+        steps,
+        Devices { ports, hands },
+    )
 }
 
 const FEED_GREEN: Command = Command::Lamp(Belt::Feed, Colour::Green);
@@ -138,10 +133,10 @@ enum Count {
 
 fn device_count(played: &Played, count: Count) -> u32 {
     match count {
-        Count::Asked => played.ports.feed.asked(),
-        Count::Failed => played.ports.feed.failures(),
-        Count::ActsAsked => played.hands.asked(),
-        _ => played.hands.failures(),
+        Count::Asked => played.devices.ports.feed.asked(),
+        Count::Failed => played.devices.ports.feed.failures(),
+        Count::ActsAsked => played.devices.hands.asked(),
+        _ => played.devices.hands.failures(),
     }
 }
 
@@ -220,9 +215,9 @@ fn is_seen(played: &Played, fact: Fact) -> bool {
             let entry = played.book.journal().get(place);
             entry.is_some() && entry == entry_of(record)
         }
-        Fact::Sent(commands) => played.ports.feed.sent() == Some(commands),
-        Fact::SentTable(commands) => played.ports.table.sent() == Some(commands),
-        Fact::Acts(acts) => played.hands.acts() == Some(acts),
+        Fact::Sent(commands) => played.devices.ports.feed.sent() == Some(commands),
+        Fact::SentTable(commands) => played.devices.ports.table.sent() == Some(commands),
+        Fact::Acts(acts) => played.devices.hands.acts() == Some(acts),
         Fact::NoneMoved => moves_none(&played.book),
     }
 }
@@ -236,21 +231,8 @@ fn check_seen(rt: &impl Abort, played: &Played, facts: &[Fact]) {
     }
 }
 
-// Checks what is seen after a schedule on a book, over these ports. The operator's hands fail so.
-fn check_over(
-    rt: &impl Abort,
-    alloc: Global,
-    book: Book,
-    steps: &[Step],
-    ports: Six<MemoryPort>,
-    hands_failing: Failing,
-    facts: &[Fact],
-) {
-    let played = play_with(rt, alloc, book, steps, ports, hands_failing);
-    check_seen(rt, &played, facts);
-}
-
-// The same over ports with room for 100 commands, each of which fails so.
+// Checks what is seen after a schedule on a book, over ports with room for 100 commands. The ports and the operator's
+// hands fail so.
 fn check(
     rt: &impl Abort,
     alloc: Global,
@@ -261,7 +243,8 @@ fn check(
 ) {
     let [failing, hands_failing] = failing;
     let ports = ports(rt, alloc, 100, failing);
-    check_over(rt, alloc, book, steps, ports, hands_failing, facts);
+    let played = play_with(rt, alloc, book, steps, ports, hands_failing);
+    check_seen(rt, &played, facts);
 }
 
 // Neither the ports fail nor the hands.
@@ -340,7 +323,8 @@ fn a_port_that_always_fails_only_stops_its_machine(rt: HostRuntime) {
     let alloc = rt.alloc();
     let full = ports(&rt, alloc, 0, Failing::Never);
     let book = book_of(&rt, alloc, 0);
-    check_over(&rt, alloc, book, &steps, full, Failing::Never, &facts);
+    let played = play_with(&rt, alloc, book, &steps, full, Failing::Never);
+    check_seen(&rt, &played, &facts);
     let failing = [Failing::Always, Failing::Never];
     let book = book_of(&rt, alloc, 0);
     check(&rt, alloc, book, &steps, failing, &facts);
@@ -506,8 +490,7 @@ fn refuse_over<R: Run>(
     book: Book,
     blanks: Blanks,
     first: &[Step],
-    machine: Machine,
-    reading: Option<Reading>,
+    last: (Machine, Option<Reading>),
 )
     requires parts { 0 < R.parts }
     requires limits { book.limits ≡ R.limits }
@@ -517,7 +500,7 @@ fn refuse_over<R: Run>(
     let ports = ports(rt, alloc, 100, Failing::Never);
     let mut stage = Stage::<R, _, _>::new(book, blanks, ports, StillHands);
     stage.take(rt, alloc, first, &plan);
-    check_refused(rt, alloc, &mut stage, machine, reading, &plan);
+    check_refused(rt, alloc, &mut stage, last.0, last.1, &plan);
 }
 
 fn leave_all(
@@ -525,10 +508,9 @@ fn leave_all(
     alloc: Global,
     book: Book,
     first: &[Step],
-    machine: Machine,
-    reading: Option<Reading>,
+    last: (Machine, Option<Reading>),
 ) {
-    refuse_over::<Brand>(rt, alloc, book, Blanks::new(1), first, machine, reading);
+    refuse_over::<Brand>(rt, alloc, book, Blanks::new(1), first, last);
 }
 
 #[test]
@@ -539,11 +521,11 @@ fn a_turn_that_is_refused_leaves_all_as_it_was(rt: HostRuntime) {
         Step::Turn(Machine::Feed, showing(0)),
         Step::Turn(Machine::Feed, showing(1)),
     ];
-    leave_all(&rt, alloc, full, &twice, Machine::Feed, showing(1));
+    leave_all(&rt, alloc, full, &twice, (Machine::Feed, showing(1)));
     let laid = [Step::Turn(Machine::Feed, showing(1))];
     let mut past = begun(alloc, 100, 1, 8).expect(&rt, "a book");
     assert!(rt; book_all(&mut past, &["lamp,feed,green,"]).is_ok());
-    leave_all(&rt, alloc, past, &laid, Machine::Feed, showing(1));
+    leave_all(&rt, alloc, past, &laid, (Machine::Feed, showing(1)));
     let moving = begun(alloc, 11, 10, 11).expect(&rt, "a book");
     let low = Some(Reading {
         switches: [1, 1, 0],
@@ -553,12 +535,6 @@ fn a_turn_that_is_refused_leaves_all_as_it_was(rt: HostRuntime) {
         switches: [2, 1, 0],
         presence: 1,
     });
-    leave_all(
-        &rt,
-        alloc,
-        moving,
-        &[Step::Turn(Machine::Table, low)],
-        Machine::Table,
-        high,
-    );
+    let lifted = [Step::Turn(Machine::Table, low)];
+    leave_all(&rt, alloc, moving, &lifted, (Machine::Table, high));
 }

@@ -235,16 +235,16 @@ fn check_port<P>(
     }
 }
 
-// A machine's worker works over a port. The call is marked, so that it can be refused memory.
+// A machine's worker works over a port, which is given back with what it was asked. The call is marked, so that it can
+// be refused memory.
 fn serve_over<P: Port + Drop, R: Run, W: AllocGlobal + Abort + Wait>(
     rt: &W,
     room: &Room<R>,
     shares: Shares<R>,
-    name: &str,
     serving: &Serving,
     port: P,
     plan: &Plan,
-) -> Worked<R> {
+) -> (Worked<R>, TellingPort<P>) {
     let (alloc, machine) = (rt.alloc(), serving.machine);
     let Ok(mut port) = TellingPort::new(alloc, port, serving.failing, 1000) else {
         panic!(rt; "there is memory");
@@ -252,8 +252,7 @@ fn serve_over<P: Port + Drop, R: Run, W: AllocGlobal + Abort + Wait>(
     call_begins(alloc);
     let worked = run_worker(rt, alloc, machine, &mut port, room, shares, plan);
     call_ends(alloc, worked.ended == Ended::Memory);
-    check_port(rt, name, serving, worked.entries.as_slice(), &port);
-    worked
+    (worked, port)
 }
 
 /// A machine's worker works, and its port is asked what is wanted.
@@ -267,12 +266,16 @@ pub(crate) fn serve<R: Run, W: AllocGlobal + Abort + Wait>(
 ) -> Worked<R> {
     if let Some(moment) = serving.ending {
         let port = EndingPort { rt, room, moment };
-        return serve_over(rt, room, shares, name, serving, port, plan);
+        let (worked, port) = serve_over(rt, room, shares, serving, port, plan);
+        check_port(rt, name, serving, worked.entries.as_slice(), &port);
+        return worked;
     }
     let world = Mutex::new(World::new(1));
     let faults = faults_of(rt, "");
     let port = SimPort::new(rt, &world, serving.machine, &faults);
-    serve_over(rt, room, shares, name, serving, port, plan)
+    let (worked, port) = serve_over(rt, room, shares, serving, port, plan);
+    check_port(rt, name, serving, worked.entries.as_slice(), &port);
+    worked
 }
 
 #[test]

@@ -217,14 +217,13 @@ impl<R: Run, W: Abort + Wait> OperatorPort for Hands<'_, R, W> {
 
 /// The operator's worker works, and his hands do what is wanted. The call is marked, so that it can be refused memory.
 pub(crate) fn operate<R: Run, W: AllocGlobal + Abort + Wait>(
-    rt: &W,
-    room: &Room<R>,
     shares: Shares<R>,
     hands: &mut Hands<'_, R, W>,
     name: &str,
     operating: &Operating,
     plan: &Plan,
 ) -> Worked<R> {
+    let (rt, room) = (hands.rt, hands.room);
     hands.fails = operating.fails;
     hands.meddling = operating.meddling;
     let script = script_of(rt, operating.script);

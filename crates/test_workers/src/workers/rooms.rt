@@ -128,7 +128,7 @@ fn do_work<R: Run, W: AllocGlobal + Abort + Wait>(
     let counted = shares.counts();
     let worked = match &work.who {
         Who::Machine(serving) => serve(rt, room, shares, work.name, serving, plan),
-        Who::Operator(operating) => operate(rt, room, shares, hands, work.name, operating, plan),
+        Who::Operator(operating) => operate(shares, hands, work.name, operating, plan),
     };
     let is_refused = work.may_be_refused && worked.ended == Ended::Memory;
     check_worked(rt, work, counted, &worked, is_refused);

@@ -7,19 +7,19 @@ use Rattle.cell_turns.specs.Sent.{SendsUnread}
 use Rattle.cell_turns.specs.Minds.{machine_of_watch, has_failed_command}
 use Rattle.cell_turns.proofs.Sixes.{put_at, map_put, map_at, all_put, all_picked}
 use Rattle.cell_turns.proofs.Schedules.{scheduled_turn, scheduled_hand, grown_turn, did_hand}
-use Rattle.cell_turns.proofs.scheduling.take_step.Goals as goal
+use Rattle.cell_turns.proofs.scheduling.add_step.Goals as goal
 
 -- only the watch of this machine is put back, and it is still the watch of this machine
 pub returns-in-Err-clause-machines : goal.returns-in-Err-clause-machines
 returns-in-Err-clause-machines g c =
-    let watches = c.args.watches.now in
+    let watches = c.args.state.now.watches.now in
     let watch = c.take_turn.new.watch in
     all_put (λ n (w : Watch) (u : Watch) (v : Watch). machine_of_watch w ≡ n) c.in-Turn.machine watches watches watches
     watch watch watch c.requires.machines c.take_turn.ensures.machine
 
 pub returns-in-Ok-clause-machines : goal.returns-in-Ok-clause-machines
 returns-in-Ok-clause-machines g c =
-    let watches = c.args.watches.now in
+    let watches = c.args.state.now.watches.now in
     let watch = c.take_turn.new.watch in
     all_put (λ n (w : Watch) (u : Watch) (v : Watch). machine_of_watch w ≡ n) c.in-Turn.machine watches watches watches
     watch watch watch c.requires.machines c.take_turn.ensures.machine
@@ -31,8 +31,8 @@ returns-in-Err-clause-unchanged g c =
     let m = c.in-Turn.machine in (
       same.1,
       same.2,
-      ap (put c.args.watches.now m) (same.3 ∙ c.pick-watch.ensures.value)
-          ∙ put_at c.args.watches.now m,
+      ap (put c.args.state.now.watches.now m) (same.3 ∙ c.pick-watch.ensures.value)
+          ∙ put_at c.args.state.now.watches.now m,
       ap (put c.args.ports.now m) (same.0 ∙ c.pick-port.ensures.value)
           ∙ put_at c.args.ports.now m,
     )
@@ -43,7 +43,8 @@ returns-in-Ok-clause-grown g c = λ before h grown.
     let machines = c.args.ran.now.machines in
     let items = λ (v : Vec Entry _). v.items in
     rw (map_put items machines m c.take_turn.new.entries)
-    (grown_turn before c.args.kept.now c.take_turn.new.kept h c.args.shares.now c.take_turn.new.shares
+    (grown_turn before c.args.state.now.kept.now c.take_turn.new.kept h c.args.state.now.shares.now
+    c.take_turn.new.shares
     (map_six items machines) c.args.ran.now.operator.items m
     c.pick-entries.result.now.items c.take_turn.new.entries.items (ap items c.pick-entries.ensures.value
     ∙ map_at items machines m) c.in-Ok.ensures.grew grown)
@@ -53,7 +54,7 @@ pub returns-in-Ok-clause-sent : goal.returns-in-Ok-clause-sent
 returns-in-Ok-clause-sent g c = λ before ws sent.
     let m = c.in-Turn.machine in
     let ports = c.args.ports.now in
-    let watches = c.args.watches.now in
+    let watches = c.args.state.now.watches.now in
     let machines = c.args.ran.now.machines in
     let items = λ (v : Vec Entry _). v.items in
     let tells = g.P.Port.tells in
@@ -77,8 +78,9 @@ pub returns-in-Ok-clause-scheduled : goal.returns-in-Ok-clause-scheduled
 returns-in-Ok-clause-scheduled g c = λ steps before ws acts s.
     let operator = c.args.operator.now in
     rw c.in-Turn.is
-    (scheduled_turn c.args.plan.now steps c.args.ran.now.refused _ before c.args.kept.now c.take_turn.new.kept ws
-    c.args.watches.now (g.O.OperatorPort.tells operator) acts (g.O.OperatorPort.log operator)
+    (scheduled_turn c.args.plan.now steps c.args.ran.now.refused _ before c.args.state.now.kept.now
+    c.take_turn.new.kept ws
+    c.args.state.now.watches.now (g.O.OperatorPort.tells operator) acts (g.O.OperatorPort.log operator)
     c.in-Turn.machine c.in-Turn.reading c.in-Ok.refused c.pick-watch.result.now c.take_turn.new.watch
     c.pick-watch.ensures.value c.in-Ok.ensures.turned c.in-Ok.ensures.refused refl s)
 
@@ -92,8 +94,8 @@ pub returns-in-Ok-hand-clause-scheduled : goal.returns-in-Ok-hand-clause-schedul
 returns-in-Ok-hand-clause-scheduled g c = λ steps before ws acts s.
     let operator = c.args.operator.now in
     rw c.in-Hand.is
-    (scheduled_hand c.args.plan.now steps c.args.ran.now.refused before c.args.kept.now c.hand.new.kept ws
-    c.args.watches.now (g.O.OperatorPort.tells operator) (g.O.OperatorPort.tells c.hand.new.operator) acts
+    (scheduled_hand c.args.plan.now steps c.args.ran.now.refused before c.args.state.now.kept.now c.hand.new.kept ws
+    c.args.state.now.watches.now (g.O.OperatorPort.tells operator) (g.O.OperatorPort.tells c.hand.new.operator) acts
     (g.O.OperatorPort.log operator) (g.O.OperatorPort.log c.hand.new.operator)
     c.in-Hand.entry c.in-Ok-hand.field-0 c.in-Ok-hand.ensures.handed c.in-Ok-hand.ensures.kept c.hand.ensures.still
     c.in-Ok-hand.ensures.told s)
