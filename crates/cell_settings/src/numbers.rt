@@ -21,18 +21,19 @@ const LEAVE: u32 = 3;
 /// By which reading a motion has to have ended, where settings don't say.
 const LIMIT: u32 = 20;
 
-// A number in its range.
-fn bounded(
-    alloc: Global,
-    path: &str,
-    number: i64,
+// The least and the greatest that a number may be.
+#[derive(Clone, Copy)]
+struct Range {
     low: u32,
     high: u32,
-) -> Result<u32, SettingsError>
-    ensures due { Gives result (in_range path.now number low high) }
-    ensures within { IfOk result (λ n. (low ≤ n) × (n ≤ high)) }
+}
+
+// A number in its range.
+fn bounded(alloc: Global, path: &str, number: i64, range: Range) -> Result<u32, SettingsError>
+    ensures due { Gives result (in_range path.now number range.low range.high) }
+    ensures within { IfOk result (λ n. (range.low ≤ n) × (n ≤ range.high)) }
 {
-    if i64::from(low) <= number && number <= i64::from(high) {
+    if i64::from(range.low) <= number && number <= i64::from(range.high) {
         Ok(number as u32)
     } else {
         Err(SettingsError::OutOfRange(KeyPath::new(alloc, path)?))
@@ -46,19 +47,19 @@ fn number(
     path: &str,
     value: Option<&Value>,
     default: Option<u32>,
-    low: u32,
-    high: u32,
+    range: Range,
 ) -> Result<u32, SettingsError>
-    ensures due { Gives result (number_due path.now (option_map (λ v. view v.now) value.entry) default low high) }
-    ensures within { IfOk result (λ n. (low ≤ n) × (n ≤ high)) }
+    ensures due { Gives result (number_due path.now (option_map (λ v. view v.now) value.entry) default range.low
+        range.high) }
+    ensures within { IfOk result (λ n. (range.low ≤ n) × (n ≤ range.high)) }
 {
     match value {
         Some(value) => match value.as_integer() {
-            Some(number) => bounded(alloc, path, number, low, high),
+            Some(number) => bounded(alloc, path, number, range),
             None => Err(SettingsError::NotNumber(KeyPath::new(alloc, path)?)),
         },
         None => match default {
-            Some(number) => bounded(alloc, path, i64::from(number), low, high),
+            Some(number) => bounded(alloc, path, i64::from(number), range),
             None => Err(SettingsError::Missing(KeyPath::new(alloc, path)?)),
         },
     }
@@ -77,7 +78,7 @@ pub(crate) fn member_number(
     ensures due { Gives result (member_due key.now (table_view table.now) default low high) }
     ensures within { IfOk result (λ n. (low ≤ n) × (n ≤ high)) }
 {
-    number(alloc, key, member(table, key), default, low, high)
+    number(alloc, key, member(table, key), default, Range { low, high })
 }
 
 // The value at a key of a table that may be missing.
@@ -110,23 +111,15 @@ fn limit(
     table: Option<&Table>,
     key: &str,
     default: u32,
-    low: u32,
-    high: u32,
+    range: Range,
 ) -> Result<u32, SettingsError>
     ensures due { Gives result (limit_due (axis_word axis) key.now (option_map (λ t. table_view t.now) table.entry)
-        default low high) }
-    ensures within { IfOk result (λ n. (low ≤ n) × (n ≤ high)) }
+        default range.low range.high) }
+    ensures within { IfOk result (λ n. (range.low ≤ n) × (n ≤ range.high)) }
 {
     let watched = KeyPath::join(alloc, "watch", axis_word(axis))?;
     let path = KeyPath::join(alloc, watched.as_str(), key)?;
-    number(
-        alloc,
-        path.as_str(),
-        at(table, key),
-        Some(default),
-        low,
-        high,
-    )
+    number(alloc, path.as_str(), at(table, key), Some(default), range)
 }
 
 /// The limits of an axis.
@@ -135,8 +128,13 @@ pub(crate) fn axis_limits(alloc: Global, table: &Table, axis: Axis) -> Result<Li
     ensures { Gives result (axis_due (table_view table.now) axis) }
 {
     let own = axis_table(table, axis);
-    let leave = limit(alloc, axis, own, "leave", LEAVE, 2, 999)?;
-    let late = limit(alloc, axis, own, "limit", LIMIT, leave + 1, 1000)?;
+    let leave_in = Range { low: 2, high: 999 };
+    let leave = limit(alloc, axis, own, "leave", LEAVE, leave_in)?;
+    let limit_in = Range {
+        low: leave + 1,
+        high: 1000,
+    };
+    let late = limit(alloc, axis, own, "limit", LIMIT, limit_in)?;
     match Limits::new(leave as u16, late as u16) {
         Some(limits) => Ok(limits),
         None => unreachable!(),
