@@ -24,7 +24,7 @@ use Rattle.cell_rounds.specs.declared.settle.LastCommand.{LastCommand}
 -- what the settings and the operator's script say, or the first of them that is refused
 abbrev pub AreOrders : List ℕ → List ℕ → Result Orders InputError → Type 0
 AreOrders settings operator (Ok orders) = (inputs : Inputs) × AreInputs settings [] operator (Ok inputs)
-    × (orders.plan ≡ inputs.plan) × (orders.script ≡ inputs.script)
+    × (orders.plan ≡ inputs.plan) × (orders.script ≡ inputs.script) × (orders.operator.now ≡ operator)
 AreOrders settings operator (Err e) = AreInputs settings [] operator (Err e)
 
 -- the cell's first line was read; or the run was found again whose journal has so many entries
@@ -40,16 +40,17 @@ start_text resumes n = if resumes then sync_text n else []
 abbrev pub left_open : Bool → List Entry → Option LastCommand
 left_open resumes J = if resumes then last_command J else None
 
--- a run over a cell's lines from this journal on, by a script with these lines, and what is kept of it: the cell
--- couldn't be reached, and at most the line by which it is found was written; or it was reached, and rounds led to
--- where the run halted
+-- a run over a cell's lines from this journal on, by a script with these lines, with this command of which it isn't
+-- known whether it went out, and what is kept of it: the cell couldn't be reached, and at most the line by which it is
+-- found was written; or it was reached, and rounds led to where the run halted
 pub data Ran {K : Type 0} (keeps : K → K → Entry → Bool → Type 0) (T : Terms) (resumes : Bool) (J : List Entry)
-    (lines : List Line) (s t : Stand) (k k' : K) (h : Halt) (J' : List Entry) : Type 0 where
-  unreached : h ≡ halt.Gone → J' ≡ J → k' ≡ k → WritesSome (start_text resumes (length J)) s.text t.text
-      → Ran keeps T resumes J lines s t k k' h J'
-  reached : (begun : Stand) → Starts resumes (length J) s begun
-      → Controlled Told keeps T h begun k J lines (left_open resumes J) t k' J'
-      → Ran keeps T resumes J lines s t k k' h J'
+    (lines : List Line) (pending : Option LastCommand) (s t : Stand) (k k' : K) (h : Halt) (J' : List Entry) : Type 0
+  where
+    unreached : h ≡ halt.Gone → J' ≡ J → k' ≡ k → WritesSome (start_text resumes (length J)) s.text t.text
+        → Ran keeps T resumes J lines pending s t k k' h J'
+    reached : (begun : Stand) → Starts resumes (length J) s begun
+        → Controlled Told keeps T h begun k J lines pending t k' J'
+        → Ran keeps T resumes J lines pending s t k k' h J'
 
 -- what was written at the end: that all machines stop, and that the run ends where the cell could still be reached
 abbrev pub Closes : Option (List ℕ) → Option (List ℕ) → Type 0
@@ -57,9 +58,10 @@ Closes old new = (why : Option Loss) × WritesSome (closing_text why) old new
 
 -- a run over these bytes of a cell, and what was written to it, at the end too
 pub record Controls {K : Type 0} (keeps : K → K → Entry → Bool → Type 0) (T : Terms) (resumes : Bool) (J : List Entry)
-    (lines : List Line) (input old new : Option (List ℕ)) (k k' : K) (h : Halt) (J' : List Entry) : Type 0 where
+    (lines : List Line) (pending : Option LastCommand) (input old new : Option (List ℕ)) (k k' : K) (h : Halt)
+    (J' : List Entry) : Type 0 where
   pub last : Stand
-  pub ran : Ran keeps T resumes J lines (first_stand input old) last k k' h J'
+  pub ran : Ran keeps T resumes J lines pending (first_stand input old) last k k' h J'
   pub closes : Closes last.text new
 
 -- a run that halted so has this status: 0 is that of one that is finished, and of no other
@@ -79,5 +81,6 @@ pub data Controlling {K : Type 0} (keeps : K → K → Entry → Bool → Type 0
   unbegun : IsErr answer → new ≡ old → k' ≡ k
       → Controlling keeps T resumes J script operator input old new k k' answer
   begun : (lines : List Line) (h : Halt) (J' : List Entry) → AreDue resumes operator J script lines
-      → Controls keeps T resumes J lines input old new k k' h J' → legal T.limits J' ≡ true → IsSafe J'
-      → IfOk answer (HasStatus h) → Controlling keeps T resumes J script operator input old new k k' answer
+      → Controls keeps T resumes J lines (left_open resumes J) input old new k k' h J' → legal T.limits J' ≡ true
+      → IsSafe J' → IfOk answer (HasStatus h)
+      → Controlling keeps T resumes J script operator input old new k k' answer

@@ -6,5 +6,5 @@ mod texts;
 mod told;
 
 pub use texts::{
-    ControlOptions, Finished, Orders, control_cell, empty_book, read_orders, refuse_orders,
+    ControlOptions, Finished, Orders, Streams, control_cell, read_orders, refuse_orders,
 };

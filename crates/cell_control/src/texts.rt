@@ -1,33 +1,31 @@
 //! A run by its texts.
-ghost use Rattle.std.specs.Prelude.{◌≡◌, [], IfOk, IsErr, OnOk, true};
+ghost use Rattle.std.specs.Prelude.{◌≡◌, IfOk, IsErr, OnOk, true};
 ghost use Rattle.cell_rules.specs.Legal.{legal};
 ghost use Rattle.cell_rules.specs.Safety.{IsSafe};
 ghost use Rattle.std.specs.Io.Buffered.{reader_remaining};
 ghost use Rattle.cell_rows.specs.Watched.{bytes_under};
 ghost use Rattle.cell_runs.specs.Inputs.{WritesError, input_line, input_status};
-ghost use Rattle.cell_runs.specs.Runs.{limits_of};
 ghost use Rattle.cell_lines.specs.Stands.{WritesSome, stand_of};
 ghost use Rattle.cell_control.specs.Controlling.{AreOrders, Controlling, Controls, HasStatus};
 ghost use Rattle.cell_control.specs.Controlling.{Ran, Starts, left_open, start_text};
 ghost use Rattle.cell_control.specs.Scripts.{AreDue};
-ghost use Rattle.cell_rounds.specs.Moves.{terms};
+ghost use Rattle.cell_rounds.specs.Moves as moves;
 
 use crate::going_on::go_on;
 use crate::told::{status_of, tell};
-use cell_explain::endings::write_ending;
-use cell_journal::Journal;
+use cell_explain::endings::{EndedRun, write_ending};
 use cell_ledger::Blanks;
 use cell_lines::{FarEnd, Loss};
+use cell_measures::Durations;
 use cell_output::{WatchedWriter, WriteFault};
 use cell_plant::{Gone, Keeper};
 use cell_ports::Plan;
-use cell_rounds::{Halt, LastCommand, Outcome, control, last_command};
+use cell_rounds::{Halt, LastCommand, Outcome, Start, Terms, control, last_command};
 use cell_rows::{TellsFault, Watched};
-use cell_runs::{InputError, read_inputs, refuse_input};
-use cell_workers::End;
+use cell_runs::{InputError, Texts, read_inputs, refuse_input};
 use operator_desk::Script;
 use plate_book::Book;
-use std::alloc::{AllocError, Global};
+use std::alloc::Global;
 use std::io;
 use std::io::{BufReader, Read, Write};
 use std::marker::Brand;
@@ -45,19 +43,32 @@ pub struct ControlOptions {
 
 /// What the texts of a run say.
 #[derive(Drop)]
-pub struct Orders {
+pub struct Orders<'a> {
     pub plan: Plan,
     pub script: Script,
+    /// The text of the script.
+    pub operator: &'a [u8],
 }
 
 /// Reads the settings and the operator's script, in this order. The error is that of the first text that is refused.
-pub fn read_orders(alloc: Global, settings: &[u8], operator: &[u8]) -> Result<Orders, InputError>
+pub fn read_orders<'a>(
+    alloc: Global,
+    settings: &[u8],
+    operator: &'a [u8],
+) -> Result<Orders<'a>, InputError>
     ensures { AreOrders settings.now operator.now result }
 {
-    let inputs = read_inputs(alloc, settings, b"", operator)?;
+    let texts = Texts {
+        settings,
+        faults: b"",
+        operator,
+        durations: Durations::ONE,
+    };
+    let inputs = read_inputs(alloc, texts)?;
     Ok(Orders {
         plan: inputs.plan,
         script: inputs.script,
+        operator,
     })
 }
 
@@ -69,26 +80,8 @@ pub fn refuse_orders<E: Write>(errors: &mut E, error: InputError) -> Result<u8, 
     refuse_input(&mut WatchedWriter::new(errors), error)
 }
 
-/// An empty book within a plan's limits.
-pub fn empty_book(alloc: Global, plan: &Plan) -> Result<Book, AllocError>
-    ensures { IfOk result (λ book. book ≡ record { limits = limits_of plan.now; entries = [] }) }
-{
-    match Book::new(alloc, plan.journal_limit, plan.plates) {
-        Ok(book) => Ok(book),
-        Err(_) => Err(AllocError),
-    }
-}
-
-// The end of a run that halted so, as it is explained.
-fn end_of(halt: Halt) -> End {
-    match halt {
-        Halt::End(end) => end,
-        Halt::Gone | Halt::Unkept => End::Stalled,
-    }
-}
-
 // Reads the cell's first line, or has it find a run again whose journal has so many entries.
-fn start<I: TellsFault, W: Write, E: Write>(
+fn reach<I: TellsFault, W: Write, E: Write>(
     far: &mut FarEnd<I, W, E>,
     plates: u32,
     entries: u32,
@@ -122,32 +115,35 @@ fn control_far<I: TellsFault, W: Write, E: Write, K: Keeper>(
     alloc: Global,
     far: &mut FarEnd<I, W, E>,
     keeper: &mut K,
-    book: Book,
-    script: Script,
-    plan: &Plan,
-    options: ControlOptions,
+    start: Start,
+    terms: Terms<'_>,
+    resumes: bool,
 ) -> Outcome
-    ensures ran { Ran K.keeps (terms book.limits plan.now options.wait) options.resume book.entries script
-        (stand_of I.remaining W.contents far.old) (stand_of I.remaining W.contents far.new) keeper.old keeper.new
-        result.halt result.book.entries }
-    ensures limits { result.book.limits ≡ book.limits }
-    ensures legal { legal book.limits result.book.entries ≡ true }
+    ensures ran { Ran K.keeps (moves.terms start.book.limits terms.entry.plan.now terms.entry.waits) resumes
+        start.book.entries start.script start.pending (stand_of I.remaining W.contents far.old)
+        (stand_of I.remaining W.contents far.new) keeper.old keeper.new result.halt result.book.entries }
+    ensures limits { result.book.limits ≡ start.book.limits }
+    ensures legal { legal start.book.limits result.book.entries ≡ true }
     ensures safe { IsSafe result.book.entries }
 {
-    let ControlOptions { resume, wait, .. } = options;
-    let entries = book.journal().len();
-    if let Err(Gone) = start(far, plan.plates, entries, resume) {
+    let entries = start.book.journal().len();
+    if let Err(Gone) = reach(far, terms.plan.plates, entries, resumes) {
+        let Start { book, .. } = start;
         book.is_lawful();
         return Outcome {
             book,
             halt: Halt::Gone,
         };
     }
-    let pending = left_open(&book, resume);
-    let blanks = Blanks::new(1);
-    control::<_, _, Brand>(
-        alloc, far, keeper, book, blanks, script, pending, plan, wait,
-    )
+    control::<_, _, Brand>(alloc, far, keeper, start, Blanks::new(1), terms)
+}
+
+/// The streams of a run: what the cell writes, what is written to it, and what is told.
+#[derive(Drop)]
+pub struct Streams<I, W, E> {
+    pub input: I,
+    pub output: W,
+    pub errors: E,
 }
 
 /// What a run that was controlled left: both writers, and the exit status.
@@ -168,26 +164,53 @@ struct Left<W, E> {
     loss: Option<Loss>,
 }
 
-// Controls a cell over a reader and a writer, and stops it at the end.
+impl<W, E: Write> Left<W, E> {
+    // Tells what came of the run, and gives the exit status.
+    fn tell(
+        &mut self,
+        alloc: Global,
+        plan: &Plan,
+        operator: &[u8],
+        explains: bool,
+    ) -> io::Result<u8>
+        ensures output { self.new.output ≡ self.old.output }
+        ensures status { IfOk result (HasStatus self.old.outcome.halt) }
+    {
+        let halt = self.outcome.halt;
+        let totals = self.outcome.book.totals();
+        tell(&mut self.errors, halt, self.loss, totals)?;
+        if explains {
+            let run = EndedRun {
+                journal: self.outcome.book.journal(),
+                before: 0,
+                end: halt.end(),
+                plan,
+                faults: b"",
+                operator,
+            };
+            write_ending(alloc, &run, &mut self.errors)?;
+        }
+        Ok(status_of(halt, self.loss))
+    }
+}
+
+// Controls a cell over its streams, and stops it at the end.
 fn run_far<I: TellsFault + Drop, W: Write, E: Write, K: Keeper>(
     alloc: Global,
-    reader: I,
-    output: W,
-    errors: E,
+    streams: Streams<I, W, E>,
     keeper: &mut K,
-    book: Book,
-    script: Script,
-    plan: &Plan,
-    options: ControlOptions,
+    start: Start,
+    terms: Terms<'_>,
+    resumes: bool,
 ) -> Left<W, E>
-    ensures controls { Controls K.keeps (terms book.limits plan.now options.wait) options.resume book.entries script
-        (I.remaining reader) (W.contents output) (W.contents result.output) keeper.old keeper.new
-        result.outcome.halt result.outcome.book.entries }
-    ensures legal { legal book.limits result.outcome.book.entries ≡ true }
+    ensures controls { Controls K.keeps (moves.terms start.book.limits terms.entry.plan.now terms.entry.waits) resumes
+        start.book.entries start.script start.pending (I.remaining streams.input) (W.contents streams.output)
+        (W.contents result.output) keeper.old keeper.new result.outcome.halt result.outcome.book.entries }
+    ensures legal { legal start.book.limits result.outcome.book.entries ≡ true }
     ensures safe { IsSafe result.outcome.book.entries }
 {
-    let mut far = FarEnd::new(reader, output, errors);
-    let outcome = control_far(alloc, &mut far, keeper, book, script, plan, options);
+    let mut far = FarEnd::new(streams.input, streams.output, streams.errors);
+    let outcome = control_far(alloc, &mut far, keeper, start, terms, resumes);
     let (output, errors, loss) = far.finish();
     Left {
         output,
@@ -197,42 +220,24 @@ fn run_far<I: TellsFault + Drop, W: Write, E: Write, K: Keeper>(
     }
 }
 
-// Tells what came of a run, and gives the exit status.
-fn tell_outcome<E: Write>(
-    alloc: Global,
-    errors: &mut E,
-    outcome: &Outcome,
-    loss: Option<Loss>,
-    plan: &Plan,
-    operator: &[u8],
-    explains: bool,
-) -> io::Result<u8>
-    ensures status { IfOk result (HasStatus outcome.now.halt) }
-{
-    let Outcome { book, halt } = outcome;
-    tell(errors, *halt, loss, book.totals())?;
-    if explains {
-        let end = end_of(*halt);
-        write_ending(alloc, book.journal(), 0, end, plan, b"", operator, errors)?;
-    }
-    Ok(status_of(*halt, loss))
-}
-
-// Marks the lines of the script that a journal has done, if the run goes on from one, and opens the input.
+// Opens the input. A run that goes on from a journal starts with the lines of the script that this leaves, and with the
+// command of its last entry, of which it isn't known whether it went out.
 fn open<I: Read + Drop>(
     alloc: Global,
     input: I,
-    script: &mut Script,
+    start: &mut Start,
     operator: &[u8],
-    journal: &Journal,
     resumes: bool,
 ) -> io::Result<Watched<BufReader<I>>>
     ensures bytes { IfOk result (λ reader. bytes_under (reader_remaining I.remaining) reader ≡ I.remaining input) }
-    ensures lines { OnOk result (AreDue resumes operator.now journal.now.entries script.old script.new) }
+    ensures book { start.new.book ≡ start.old.book }
+    ensures lines { OnOk result (AreDue resumes operator.now start.old.book.entries start.old.script start.new.script) }
+    ensures pending { OnOk result (start.new.pending ≡ left_open resumes start.old.book.entries) }
 {
     if resumes {
-        go_on(alloc, script, operator, journal)?;
+        go_on(alloc, &mut start.script, operator, start.book.journal())?;
     }
+    start.pending = left_open(&start.book, resumes);
     Ok(Watched::new(BufReader::new(alloc, input)?))
 }
 
@@ -240,64 +245,56 @@ fn open<I: Read + Drop>(
 /// came of it among the errors; gives both writers back, and the exit status.
 pub fn control_cell<I: Read + Drop, W: Write + Drop, E: Write + Drop, K: Keeper>(
     alloc: Global,
-    orders: Orders,
+    orders: Orders<'_>,
     book: Book,
-    operator: &[u8],
     options: ControlOptions,
     keeper: &mut K,
-    input: I,
-    output: W,
-    errors: E,
+    streams: Streams<I, W, E>,
 ) -> Finished<W, E>
     // Rounds led from the book's journal to one that is legal and safe. Each command that was written is that of an
     // entry that was kept before, but for those that stop machines and the one that a run which goes on sends again.
     // Each entry is the one that is due at the reading that the cell's lines spell, or the operator's: by the first
     // line of his script that is left, or because it was done or wanted at the cell.
-    ensures controlling { Controlling K.keeps (terms book.limits orders.plan options.wait) options.resume book.entries
-        orders.script operator.now (I.remaining input) (W.contents output) (W.contents result.output) keeper.old
-        keeper.new result.status }
+    ensures controlling { Controlling K.keeps (moves.terms book.limits orders.entry.plan options.wait) options.resume
+        book.entries orders.entry.script orders.entry.operator.now (I.remaining streams.input)
+        (W.contents streams.output) (W.contents result.output) keeper.old keeper.new result.status }
 {
-    let Orders { plan, mut script } = orders;
-    let opened = open(
-        alloc,
-        input,
-        &mut script,
+    let Orders {
+        plan,
+        script,
         operator,
-        book.journal(),
-        options.resume,
-    );
+    } = orders;
+    let mut start = Start {
+        book,
+        script,
+        pending: None,
+    };
+    let resumes = options.resume;
+    let opened = open(alloc, streams.input, &mut start, operator, resumes);
     let reader = match opened {
         Ok(reader) => reader,
         Err(error) => {
             return Finished {
-                output,
-                errors,
+                output: streams.output,
+                errors: streams.errors,
                 status: Err(error),
             };
         }
     };
-    let explains = options.explain;
-    let left = run_far(
-        alloc, reader, output, errors, keeper, book, script, &plan, options,
-    );
-    let Left {
-        output,
-        mut errors,
-        outcome,
-        loss,
-    } = left;
-    let status = tell_outcome(
-        alloc,
-        &mut errors,
-        &outcome,
-        loss,
-        &plan,
-        operator,
-        explains,
-    );
+    let streams = Streams {
+        input: reader,
+        output: streams.output,
+        errors: streams.errors,
+    };
+    let terms = Terms {
+        plan: &plan,
+        waits: options.wait,
+    };
+    let mut left = run_far(alloc, streams, keeper, start, terms, resumes);
+    let status = left.tell(alloc, &plan, operator, options.explain);
     Finished {
-        output,
-        errors,
+        output: left.output,
+        errors: left.errors,
         status,
     }
 }

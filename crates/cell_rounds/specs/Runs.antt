@@ -62,6 +62,12 @@ pub record Rests {C K : Type 0} (T : Terms) (t : Stand C K) (e : End) : Type 0 w
   pub settled : t.pending ≡ None
   pub rest : IsAtRest T.plan T.waits t.now.journal t.now.minds e
 
+-- the end of a run that halted so: one that broke off has stalled
+abbrev pub end_of : Halt → End
+end_of (halt.End e) = e
+end_of halt.Gone = end.Stalled
+end_of halt.Unkept = end.Stalled
+
 -- a stand has this cell, this keeper and this journal
 abbrev pub Has : {C K : Type 0} → Stand C K → C → K → List Entry → Type 0
 Has t c k J = (t.cell ≡ c) × (t.keeper ≡ k) × (t.now.journal ≡ J)

@@ -10,5 +10,5 @@ mod settle;
 mod turning;
 
 pub use progress::Halt;
-pub use run::{Outcome, control};
+pub use run::{Outcome, Start, Terms, control};
 pub use settle::{LastCommand, last_command};

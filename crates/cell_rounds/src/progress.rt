@@ -1,5 +1,6 @@
 //! What a run has from round to round, and how it halts.
 ghost use Rattle.std.specs.Prelude.{◌≡◌};
+ghost use Rattle.cell_rounds.specs.Runs.{end_of};
 
 use crate::settle::PendingCommand;
 use cell_ledger::{Kept, Run, Shares};
@@ -19,6 +20,18 @@ pub enum Halt {
     Gone,
     /// An entry couldn't be kept.
     Unkept,
+}
+
+impl Halt {
+    /// The end of a run that halted so: one that broke off has stalled.
+    pub fn end(self) -> End
+        ensures { result ≡ end_of self }
+    {
+        match self {
+            Halt::End(end) => end,
+            Halt::Gone | Halt::Unkept => End::Stalled,
+        }
+    }
 }
 
 impl From<Gone> for Halt {

@@ -10,7 +10,7 @@ ghost use Rattle.cell_turns.specs.Schedules.{FitAll};
 ghost use Rattle.cell_turns.specs.declared.six.Six.{Six as SixValue};
 ghost use Rattle.cell_turns.specs.Six.{at};
 ghost use Rattle.cell_rounds.specs.Calls.{halted};
-ghost use Rattle.cell_rounds.specs.Moves.{terms};
+ghost use Rattle.cell_rounds.specs.Moves as moves;
 ghost use Rattle.cell_rounds.specs.Rest.{IsAtRest, KeepsOn};
 ghost use Rattle.cell_rounds.specs.Runs.{Controlled, Goes, Runs};
 ghost use Rattle.cell_rounds.specs.Stands.{Between, Closing, Noting, last_of, place, state};
@@ -28,6 +28,24 @@ use cell_workers::{End, end_at_rest};
 use operator_desk::Script;
 use plate_book::Book;
 use std::alloc::Global;
+
+/// What a run starts with.
+#[derive(Drop)]
+pub struct Start {
+    /// The book from which it goes on.
+    pub book: Book,
+    pub script: Script,
+    /// The command of the book's last entry, if it isn't known whether it went out.
+    pub pending: Option<LastCommand>,
+}
+
+/// What a run is bound to, beside the limits of its book.
+#[derive(Clone, Copy, Debug)]
+pub struct Terms<'a> {
+    pub plan: &'a Plan,
+    /// Whether it goes on where it is stalled.
+    pub waits: bool,
+}
 
 /// What a run left: its book, and how it halted.
 #[derive(Drop)]
@@ -61,23 +79,23 @@ fn act<C: Plant, K: Keeper, R: Run>(
 
 // The end that a round sets, which began with so many entries in the journal: one that booked nothing, after which all
 // machines are idle, sets one.
-fn end_after<R: Run>(before: u32, cell: &Progress<R>, plan: &Plan, waits: bool) -> Option<End>
+fn end_after<R: Run>(before: u32, cell: &Progress<R>, terms: Terms<'_>) -> Option<End>
     ensures ends { IfSome result (λ end. (length cell.now.kept.entries ≡ before) × (last_of cell.now.pending ≡ None)
         × ((minds : SixValue Mind) → FitAll cell.now.watches minds
-        → IsAtRest plan.now waits cell.now.kept.entries minds end)) }
+        → IsAtRest terms.entry.plan.now terms.entry.waits cell.now.kept.entries minds end)) }
     ensures goes_on { result ≡ None → length cell.now.kept.entries ≡ before → last_of cell.now.pending ≡ None
         → (minds : SixValue Mind) → FitAll cell.now.watches minds
-        → KeepsOn plan.now waits cell.now.kept.entries minds }
+        → KeepsOn terms.entry.plan.now terms.entry.waits cell.now.kept.entries minds }
 {
     let book = cell.book();
     if book.journal().len() != before || cell.pending.is_some() {
         return None;
     }
-    if !are_idle(book, &cell.watches, plan) {
+    if !are_idle(book, &cell.watches, terms.plan) {
         return None;
     }
-    match end_at_rest(book, plan) {
-        End::Stalled if waits => None,
+    match end_at_rest(book, terms.plan) {
+        End::Stalled if terms.waits => None,
         end => Some(end),
     }
 }
@@ -87,14 +105,14 @@ fn take_round<C: Plant, K: Keeper, R: Run>(
     plant: &mut C,
     keeper: &mut K,
     cell: &mut Progress<R>,
-    plan: &Plan,
-    waits: bool,
+    terms: Terms<'_>,
 ) -> Result<(), Halt>
     requires { (m : MachineValue) → machine_of_watch (at cell.old.watches m) ≡ m }
     ensures machines { (m : MachineValue) → machine_of_watch (at cell.new.watches m) ≡ m }
     ensures limits { cell.new.kept.limits ≡ cell.old.kept.limits }
-    ensures led { (rounds : ℕ) (J : List EntryValue) → Runs C.told K.keeps (terms cell.old.kept.limits plan.now waits)
-        (halted result) (place rounds J Between) (place (rounds + 1) cell.old.kept.entries Between)
+    ensures led { (rounds : ℕ) (J : List EntryValue) → Runs C.told K.keeps
+        (moves.terms cell.old.kept.limits terms.entry.plan.now terms.entry.waits) (halted result)
+        (place rounds J Between) (place (rounds + 1) cell.old.kept.entries Between)
         (state plant.old keeper.old
         cell.old.kept.entries cell.old.watches cell.old.pending cell.old.script cell.old.lost)
         (state plant.new keeper.new
@@ -102,8 +120,8 @@ fn take_round<C: Plant, K: Keeper, R: Run>(
 {
     plant.begin_round()?;
     let before = cell.book().journal().len();
-    act(plant, keeper, cell, plan)?;
-    if let Some(end) = end_after(before, cell, plan, waits) {
+    act(plant, keeper, cell, terms.plan)?;
+    if let Some(end) = end_after(before, cell, terms) {
         return Err(Halt::End(end));
     }
     plant.end_round()?;
@@ -115,19 +133,19 @@ fn take_rounds<C: Plant, K: Keeper, R: Run>(
     plant: &mut C,
     keeper: &mut K,
     cell: &mut Progress<R>,
-    plan: &Plan,
-    waits: bool,
+    terms: Terms<'_>,
 ) -> Halt
     requires { (m : MachineValue) → machine_of_watch (at cell.old.watches m) ≡ m }
     ensures limits { cell.new.kept.limits ≡ cell.old.kept.limits }
-    ensures led { (J : List EntryValue) → Runs C.told K.keeps (terms cell.old.kept.limits plan.now waits)
+    ensures led { (J : List EntryValue) → Runs C.told K.keeps
+        (moves.terms cell.old.kept.limits terms.entry.plan.now terms.entry.waits)
         (Some result) (place 0 J Between) (place 0 J Between) (state plant.old keeper.old
         cell.old.kept.entries cell.old.watches cell.old.pending cell.old.script cell.old.lost)
         (state plant.new keeper.new
         cell.new.kept.entries cell.new.watches cell.new.pending cell.new.script cell.new.lost) }
 {
-    for _round in 0..plan.turns {
-        if let Err(halt) = take_round(plant, keeper, cell, plan, waits) {
+    for _round in 0..terms.plan.turns {
+        if let Err(halt) = take_round(plant, keeper, cell, terms) {
             return halt;
         }
     }
@@ -137,27 +155,30 @@ fn take_rounds<C: Plant, K: Keeper, R: Run>(
 /// Controls a cell in rounds, from a book on: in each what was done at the cell is booked, each machine takes a turn at
 /// what it shows, the script's next action is done, and what is wanted at the cell is answered. Each entry is kept
 /// before its command goes out. A round that books nothing, and after which all machines are idle, ends the run; but
-/// not a stalled one that waits. `pending` is the last entry's command, if it isn't known whether it went out.
+/// not a stalled one that waits.
 pub fn control<C: Plant, K: Keeper, R: Run>(
     alloc: Global,
     plant: &mut C,
     keeper: &mut K,
-    book: Book,
+    start: Start,
     blanks: Blanks,
-    script: Script,
-    pending: Option<LastCommand>,
-    plan: &Plan,
-    waits: bool,
+    terms: Terms<'_>,
 ) -> Outcome
     requires parts { 0 < R.parts }
-    requires limits { book.limits ≡ R.limits }
+    requires limits { start.book.limits ≡ R.limits }
     requires ledgers { AreBlank R.Run blanks }
     ensures limits { result.book.limits ≡ R.limits }
     ensures legal { legal R.limits result.book.entries ≡ true }
     ensures safe { IsSafe result.book.entries }
-    ensures controlled { Controlled C.told K.keeps (terms R.limits plan.now waits) result.halt plant.old keeper.old
-        book.entries script pending plant.new keeper.new result.book.entries }
+    ensures controlled { Controlled C.told K.keeps (moves.terms R.limits terms.entry.plan.now terms.entry.waits)
+        result.halt plant.old keeper.old start.book.entries start.script start.pending plant.new keeper.new
+        result.book.entries }
 {
+    let Start {
+        book,
+        script,
+        pending,
+    } = start;
     let watches = Watches::start(&book);
     let (kept, shares) = Kept::<R>::new(book, blanks);
     let mut cell = Progress {
@@ -167,9 +188,9 @@ pub fn control<C: Plant, K: Keeper, R: Run>(
         entries: Vec::new(alloc),
         script,
         lost: false,
-        pending: begin_looking(pending, plan),
+        pending: begin_looking(pending, terms.plan),
     };
-    let halt = take_rounds(plant, keeper, &mut cell, plan, waits);
+    let halt = take_rounds(plant, keeper, &mut cell, terms);
     cell.kept.is_lawful();
     Outcome {
         book: cell.kept.into_book(),

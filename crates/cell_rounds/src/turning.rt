@@ -18,7 +18,7 @@ use cell_diagnosis::Reading;
 use cell_ledger::Run;
 use cell_plant::{Keeper, Plant};
 use cell_ports::Plan;
-use cell_turns::turns::book_turn;
+use cell_turns::turns::{TurnAt, book_turn};
 use cell_turns::{TurnError, Watches};
 use cell_types::{Entry, MACHINES, Machine, command_of};
 use cell_workers::{End, is_idle};
@@ -43,14 +43,17 @@ fn turn<R: Run>(
         cell.old.watches) }
 {
     cell.entries.clear();
-    let booked = book_turn(
+    let turn = TurnAt {
         machine,
+        reading,
+        plan,
+    };
+    let booked = book_turn(
+        &turn,
         &mut cell.kept,
         &mut cell.shares,
         cell.watches.pick(machine),
-        reading,
         &mut cell.entries,
-        plan,
     );
     match booked {
         Ok(booked) => Ok(booked),

@@ -1,6 +1,6 @@
 //! Writers that fail in mid-stream.
 use crate::sample::{EXPLAINED, NEW, STILL, STOP, controlled, controlled_over, joined, new_book};
-use cell_control::ControlOptions;
+use cell_control::{ControlOptions, Streams};
 use std::process::Abort;
 use std::test::Fail;
 use test_samples::FailingWriter;
@@ -34,9 +34,14 @@ fn is_begun<R: AllocGlobal + Abort>(rt: &R, written: &[u8], count: usize) -> Res
 
 // A run whose output fails after so many bytes has to tell this first.
 fn check_output<R: AllocGlobal + Abort>(rt: &R, count: usize, first: &str) -> Result<(), Fail> {
-    let output = FailingWriter::new(Vec::new(rt.alloc()), count);
+    let lines = joined(rt, &LINES)?;
     let errors: Vec<u8> = Vec::new(rt.alloc());
-    let left = controlled_over(rt, new_book(rt), "", NEW, &LINES, output, errors)?;
+    let streams = Streams {
+        input: lines.as_slice(),
+        output: FailingWriter::new(Vec::new(rt.alloc()), count),
+        errors,
+    };
+    let left = controlled_over(rt, new_book(rt), "", NEW, streams);
     is_begun(rt, left.output.inner().as_slice(), count)?;
     assert!(rt;
         left.errors.as_slice().starts_with(first.as_bytes()),
@@ -60,9 +65,14 @@ fn check_errors<R: AllocGlobal + Abort>(
     options: ControlOptions,
     count: usize,
 ) -> Result<(), Fail> {
+    let lines = joined(rt, &LINES)?;
     let output: Vec<u8> = Vec::new(rt.alloc());
-    let errors = FailingWriter::new(Vec::new(rt.alloc()), count);
-    let left = controlled_over(rt, new_book(rt), "", options, &LINES, output, errors)?;
+    let streams = Streams {
+        input: lines.as_slice(),
+        output,
+        errors: FailingWriter::new(Vec::new(rt.alloc()), count),
+    };
+    let left = controlled_over(rt, new_book(rt), "", options, streams);
     let whole = joined(rt, &[ROUNDS, STOP])?;
     assert!(rt; left.output.as_slice() == whole.as_slice());
     assert!(rt; left.status.is_err(), "after {count} bytes");

@@ -1,12 +1,11 @@
 //! The simulated cell, controlled over its ports.
 use cell_ledger::Blanks;
 use cell_plant::{KeepFault, Keeper, Ported, Unkept};
-use cell_rounds::{Halt, Outcome, control, last_command};
-use cell_runs::{Inputs, read_inputs, sim_ports};
+use cell_rounds::{Halt, Outcome, Start, Terms, control, last_command};
+use cell_runs::{Inputs, Texts, empty_book, read_inputs, sim_ports};
 use cell_sim::{SimOperator, World};
 use cell_types::Entry;
 use cell_workers::End;
-use plate_book::Book;
 use std::marker::Brand;
 use std::process::Abort;
 use std::sync::{Mutex, Wait};
@@ -32,7 +31,7 @@ impl Keeper for Few {
 // What a run over the simulated cell left, with three plates and without faults.
 fn controlled<R: AllocGlobal + Abort + Wait, K: Keeper>(rt: &R, keeper: &mut K) -> Outcome {
     let alloc = rt.alloc();
-    let inputs = read_inputs(alloc, b"plates = 3\n", b"", b"");
+    let inputs = read_inputs(alloc, Texts::new(b"plates = 3\n", b"", b""));
     let Inputs {
         plan,
         faults,
@@ -44,12 +43,16 @@ fn controlled<R: AllocGlobal + Abort + Wait, K: Keeper>(rt: &R, keeper: &mut K) 
         ports: sim_ports(rt, &world, &faults),
         hands: SimOperator::new(rt, &world),
     };
-    let book = Book::new(alloc, plan.journal_limit, plan.plates);
-    let book = book.ok().expect(rt, "a book");
-    let blanks = Blanks::new(1);
-    control::<_, _, Brand>(
-        alloc, &mut plant, keeper, book, blanks, script, None, &plan, false,
-    )
+    let start = Start {
+        book: empty_book(alloc, &plan).ok().expect(rt, "a book"),
+        script,
+        pending: None,
+    };
+    let terms = Terms {
+        plan: &plan,
+        waits: false,
+    };
+    control::<_, _, Brand>(alloc, &mut plant, keeper, start, Blanks::new(1), terms)
 }
 
 #[test]

@@ -1,6 +1,7 @@
 //! Cells that are given as lines.
-use cell_control::{ControlOptions, Finished, control_cell, empty_book, read_orders};
+use cell_control::{ControlOptions, Finished, Streams, control_cell, read_orders};
 use cell_plant::Unkept;
+use cell_runs::empty_book;
 use plate_book::Book;
 use std::io::Write;
 use std::process::Abort;
@@ -68,35 +69,27 @@ pub(crate) fn controlled<R: AllocGlobal + Abort>(
     options: ControlOptions,
     parts: &[&str],
 ) -> Result<Finished<Vec<u8>, Vec<u8>>, Fail> {
-    let output: Vec<u8> = Vec::new(rt.alloc());
-    let errors: Vec<u8> = Vec::new(rt.alloc());
-    controlled_over(rt, book, operator, options, parts, output, errors)
+    let lines = joined(rt, parts)?;
+    let streams = Streams {
+        input: lines.as_slice(),
+        output: Vec::new(rt.alloc()),
+        errors: Vec::new(rt.alloc()),
+    };
+    Ok(controlled_over(rt, book, operator, options, streams))
 }
 
-/// The same over these writers.
+/// The same over these streams.
 pub(crate) fn controlled_over<R: AllocGlobal + Abort, W: Write + Drop, E: Write + Drop>(
     rt: &R,
     book: Book,
     operator: &str,
     options: ControlOptions,
-    parts: &[&str],
-    output: W,
-    errors: E,
-) -> Result<Finished<W, E>, Fail> {
-    let orders = read_orders(rt.alloc(), b"plates = 1\n", operator.as_bytes());
+    streams: Streams<&[u8], W, E>,
+) -> Finished<W, E> {
+    let alloc = rt.alloc();
+    let orders = read_orders(alloc, b"plates = 1\n", operator.as_bytes());
     let orders = orders.ok().expect(rt, "orders");
-    let lines = joined(rt, parts)?;
-    Ok(control_cell(
-        rt.alloc(),
-        orders,
-        book,
-        operator.as_bytes(),
-        options,
-        &mut Unkept,
-        lines.as_slice(),
-        output,
-        errors,
-    ))
+    control_cell(alloc, orders, book, options, &mut Unkept, streams)
 }
 
 /// Parts of a text, one after the other.

@@ -18,7 +18,7 @@ returns-in_err-begin_round-clause-led g c = λ n J.
     let keeps = g.K.Keeper.keeps in
     let was = c.args.cell.now in
     let l = was.kept.limits in
-    let T = terms l c.args.plan.now c.args.waits in
+    let T = terms l c.args.terms.plan.now c.args.terms.waits in
     let a = place n J Between in
     let x = state c.args.plant.now c.args.keeper.now was.kept.entries was.watches was.pending was.script was.lost in
     let y = state c.begin_round.new.self c.args.keeper.now was.kept.entries was.watches was.pending was.script was.lost
@@ -37,7 +37,7 @@ returns-in_err-act-clause-led g c = λ n J.
     let keeps = g.K.Keeper.keeps in
     let was = c.args.cell.now in
     let l = was.kept.limits in
-    let T = terms l c.args.plan.now c.args.waits in
+    let T = terms l c.args.terms.plan.now c.args.terms.waits in
     let a = place n J Between in
     let x = state c.args.plant.now c.args.keeper.now was.kept.entries was.watches was.pending was.script was.lost in
     let y = state c.begin_round.new.self c.args.keeper.now was.kept.entries was.watches was.pending was.script was.lost
@@ -50,7 +50,7 @@ returns-in_err-act-clause-led g c = λ n J.
     runs_halted told keeps T _ _ c.act.result _ c.in_err-act.field-0.0 a (place n was.kept.entries Closing)
     (place (n + 1) was.kept.entries Between) x z c.from_residual-in_err-act.ensures.1 c.in_err-act.was
     (runs_then told keeps T (halted c.act.result) a (place n was.kept.entries (Noting 0))
-    (place n was.kept.entries Closing) x y z begun (c.act.ensures.led c.args.waits n was.kept.entries))
+    (place n was.kept.entries Closing) x y z begun (c.act.ensures.led c.args.terms.waits n was.kept.entries))
 
 -- all are at rest
 pub returns-in-Some-clause-led : goal.returns-in-Some-clause-led
@@ -59,7 +59,7 @@ returns-in-Some-clause-led g c = λ n J minds fits.
     let keeps = g.K.Keeper.keeps in
     let was = c.args.cell.now in
     let l = was.kept.limits in
-    let T = terms l c.args.plan.now c.args.waits in
+    let T = terms l c.args.terms.plan.now c.args.terms.waits in
     let a = place n J Between in
     let x = state c.args.plant.now c.args.keeper.now was.kept.entries was.watches was.pending was.script was.lost in
     let y = state c.begin_round.new.self c.args.keeper.now was.kept.entries was.watches was.pending was.script was.lost
@@ -71,8 +71,8 @@ returns-in-Some-clause-led g c = λ n J minds fits.
     let z = state c.act.new.plant c.act.new.keeper next.kept.entries next.watches next.pending next.script next.lost in
     let acted = runs_then told keeps T None a (place n was.kept.entries (Noting 0)) (place n was.kept.entries Closing) x
     y z
-    begun (goes_as told keeps l c.args.plan.now (halted c.act.result) None (Noting 0) Closing y z
-    (ap halted c.in_ok-act.was) c.act.ensures.led c.args.waits n was.kept.entries) in
+    begun (goes_as told keeps l c.args.terms.plan.now (halted c.act.result) None (Noting 0) Closing y z
+    (ap halted c.in_ok-act.was) c.act.ensures.led c.args.terms.waits n was.kept.entries) in
     runs_rests told keeps T n was.kept.entries a (place (n + 1) was.kept.entries Between) c.in-Some.end x z acted
     (runs_unchanged told keeps T a (place n was.kept.entries Closing) x z minds fits acted
     (c.in-Some.ensures.ends.0 ∙ (c.len-before.ensures.value ∙ (ap (λ j. length j.entries) c.journal.ensures
@@ -86,7 +86,7 @@ returns-in_err-end_round-clause-led g c = λ n J.
     let keeps = g.K.Keeper.keeps in
     let was = c.args.cell.now in
     let l = was.kept.limits in
-    let T = terms l c.args.plan.now c.args.waits in
+    let T = terms l c.args.terms.plan.now c.args.terms.waits in
     let a = place n J Between in
     let x = state c.args.plant.now c.args.keeper.now was.kept.entries was.watches was.pending was.script was.lost in
     let y = state c.begin_round.new.self c.args.keeper.now was.kept.entries was.watches was.pending was.script was.lost
@@ -98,8 +98,8 @@ returns-in_err-end_round-clause-led g c = λ n J.
     let z = state c.act.new.plant c.act.new.keeper next.kept.entries next.watches next.pending next.script next.lost in
     let acted = runs_then told keeps T None a (place n was.kept.entries (Noting 0)) (place n was.kept.entries Closing) x
     y z
-    begun (goes_as told keeps l c.args.plan.now (halted c.act.result) None (Noting 0) Closing y z
-    (ap halted c.in_ok-act.was) c.act.ensures.led c.args.waits n was.kept.entries) in
+    begun (goes_as told keeps l c.args.terms.plan.now (halted c.act.result) None (Noting 0) Closing y z
+    (ap halted c.in_ok-act.was) c.act.ensures.led c.args.terms.waits n was.kept.entries) in
     let u = state c.end_round.new.self c.act.new.keeper next.kept.entries next.watches next.pending next.script
     next.lost in
     subst (λ (h : Option Halt). Runs told keeps T h a (place (n + 1) was.kept.entries Between) x u)
@@ -122,7 +122,7 @@ returns-clause-led g c = λ n J.
     let keeps = g.K.Keeper.keeps in
     let was = c.args.cell.now in
     let l = was.kept.limits in
-    let T = terms l c.args.plan.now c.args.waits in
+    let T = terms l c.args.terms.plan.now c.args.terms.waits in
     let a = place n J Between in
     let x = state c.args.plant.now c.args.keeper.now was.kept.entries was.watches was.pending was.script was.lost in
     let y = state c.begin_round.new.self c.args.keeper.now was.kept.entries was.watches was.pending was.script was.lost
@@ -134,8 +134,8 @@ returns-clause-led g c = λ n J.
     let z = state c.act.new.plant c.act.new.keeper next.kept.entries next.watches next.pending next.script next.lost in
     let acted = runs_then told keeps T None a (place n was.kept.entries (Noting 0)) (place n was.kept.entries Closing) x
     y z
-    begun (goes_as told keeps l c.args.plan.now (halted c.act.result) None (Noting 0) Closing y z
-    (ap halted c.in_ok-act.was) c.act.ensures.led c.args.waits n was.kept.entries) in
+    begun (goes_as told keeps l c.args.terms.plan.now (halted c.act.result) None (Noting 0) Closing y z
+    (ap halted c.in_ok-act.was) c.act.ensures.led c.args.terms.waits n was.kept.entries) in
     let u = state c.end_round.new.self c.act.new.keeper next.kept.entries next.watches next.pending next.script
     next.lost in
     runs_then told keeps T None a (place n was.kept.entries Closing) (place (n + 1) was.kept.entries Between) x z u

@@ -19,7 +19,7 @@ loop-round-init g c =
       limits = refl;
       led = λ J. (
         J,
-        runs_nothing g.C.Plant.told g.K.Keeper.keeps (terms was.kept.limits c.args.plan.now c.args.waits)
+        runs_nothing g.C.Plant.told g.K.Keeper.keeps (terms was.kept.limits c.args.terms.plan.now c.args.terms.waits)
             (place 0 J Between)
             (state c.args.plant.now c.args.keeper.now was.kept.entries was.watches was.pending was.script was.lost),
       );
@@ -32,7 +32,7 @@ returns-in-Err-clause-led g c = λ J.
     let was = c.args.cell.now in
     let so = c.loop-round in
     let l = was.kept.limits in
-    let T = terms l c.args.plan.now c.args.waits in
+    let T = terms l c.args.terms.plan.now c.args.terms.waits in
     let x = state c.args.plant.now c.args.keeper.now was.kept.entries was.watches was.pending was.script was.lost in
     let y = state so.plant so.keeper so.cell.kept.entries so.cell.watches so.cell.pending so.cell.script so.cell.lost in
     let next = c.take_round.new.cell in
@@ -44,8 +44,9 @@ returns-in-Err-clause-led g c = λ J.
     (ap halted c.in-Err.is)
     (runs_then told keeps T (halted c.take_round.result) (place 0 J Between) (place so._round K Between)
     (place (so._round + 1) so.cell.kept.entries Between) x y z led
-    (subst (λ (q : BookLimits). Runs told keeps (terms q c.args.plan.now c.args.waits) (halted c.take_round.result)
-    (place so._round K Between) (place (so._round + 1) so.cell.kept.entries Between) y z) so.invariant.limits
+    (subst (λ (q : BookLimits). Runs told keeps (terms q c.args.terms.plan.now c.args.terms.waits)
+    (halted c.take_round.result) (place so._round K Between)
+    (place (so._round + 1) so.cell.kept.entries Between) y z) so.invariant.limits
     (c.take_round.ensures.led so._round K)))
 
 pub loop-round-preserved : goal.loop-round-preserved
@@ -55,7 +56,7 @@ loop-round-preserved g c =
     let was = c.args.cell.now in
     let so = c.loop-round in
     let l = was.kept.limits in
-    let T = terms l c.args.plan.now c.args.waits in
+    let T = terms l c.args.terms.plan.now c.args.terms.waits in
     let x = state c.args.plant.now c.args.keeper.now was.kept.entries was.watches was.pending was.script was.lost in
     let y = state so.plant so.keeper so.cell.kept.entries so.cell.watches so.cell.pending so.cell.script so.cell.lost in
     let next = c.take_round.new.cell in
@@ -69,10 +70,11 @@ loop-round-preserved g c =
             so.cell.kept.entries,
             runs_then told keeps T None (place 0 J Between) (place so._round K Between)
                 (place (so._round + 1) so.cell.kept.entries Between) x y z led
-                (subst (λ (q : BookLimits). Runs told keeps (terms q c.args.plan.now c.args.waits) None
+                (subst (λ (q : BookLimits). Runs told keeps (terms q c.args.terms.plan.now c.args.terms.waits) None
                 (place so._round K Between) (place (so._round + 1) so.cell.kept.entries Between) y z)
                 so.invariant.limits
-                (subst (λ (h : Option Halt). Runs told keeps (terms so.cell.kept.limits c.args.plan.now c.args.waits) h
+                (subst (λ (h : Option Halt). Runs told keeps
+                (terms so.cell.kept.limits c.args.terms.plan.now c.args.terms.waits) h
                 (place so._round K Between) (place (so._round + 1) so.cell.kept.entries Between) y z)
                 (ap halted c.in_default.is) (c.take_round.ensures.led so._round K))),
           );
@@ -85,9 +87,9 @@ returns-clause-led g c = λ J.
     let was = c.args.cell.now in
     let so = c.loop-round in
     let l = was.kept.limits in
-    let T = terms l c.args.plan.now c.args.waits in
+    let T = terms l c.args.terms.plan.now c.args.terms.waits in
     let x = state c.args.plant.now c.args.keeper.now was.kept.entries was.watches was.pending was.script was.lost in
     let y = state so.plant so.keeper so.cell.kept.entries so.cell.watches so.cell.pending so.cell.script so.cell.lost in
-    let all : so._round ≡ c.args.plan.now.turns = search rules in
+    let all : so._round ≡ c.args.terms.plan.now.turns = search rules in
     let (K, led) = so.invariant.led J in
     runs_tires told keeps T so._round K (place 0 J Between) (place 0 J Between) x y all led

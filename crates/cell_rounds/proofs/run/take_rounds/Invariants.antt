@@ -18,7 +18,7 @@ invariant-loop-round g l =
       machines : (m : Machine) → machine_of_watch (at l.cell.watches m) ≡ m;
       limits : l.cell.kept.limits ≡ was.kept.limits;
       led : (J : List Entry) → (K : List Entry) × Runs g.C.Plant.told g.K.Keeper.keeps
-          (terms was.kept.limits l.plan l.waits) None (place 0 J Between) (place l._round K Between)
+          (terms was.kept.limits l.terms.plan.now l.terms.waits) None (place 0 J Between) (place l._round K Between)
           (state l.initial.plant l.initial.keeper was.kept.entries was.watches was.pending was.script was.lost)
           (state l.plant l.keeper l.cell.kept.entries l.cell.watches l.cell.pending l.cell.script l.cell.lost);
     }

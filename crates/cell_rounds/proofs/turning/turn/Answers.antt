@@ -21,12 +21,12 @@ returns-in-Ok-clause-turned g c = λ minds fits.
     let m = c.args.machine in
     let s = at minds m in
     let fit = subst (λ (w : Watch). FitsMind w s) (sym c.pick.ensures.value) (fits.each m) in (
-      c.in-Ok.ensures.decided s fit,
-      c.in-Ok.ensures.allowed,
-      ap (λ (h : History). h.entries) c.in-Ok.ensures.kept,
+      c.in-Ok.ensures.booked.decided s fit,
+      c.in-Ok.ensures.booked.allowed,
+      ap (λ (h : History). h.entries) c.in-Ok.ensures.booked.journal,
       fits_put cell.watches minds m c.book_turn-booked.new.watch
           (mind_after cell.kept.entries m c.args.plan.now s c.args.reading c.in-Ok.booked) fits
-          (c.in-Ok.ensures.fits s fit),
+          (c.in-Ok.ensures.booked.fits s fit),
     )
 
 pub returns-in-Err-OutOfMemory-clause-machines : goal.returns-in-Err-OutOfMemory-clause-machines

@@ -5,7 +5,7 @@ use Rattle.test_control.proofs.ports.controlled.Given as goal
 abbrev pub ghosts-control : goal.ghosts-control
 ghosts-control g a = record {
   parts = a.blanks.entries.parts;
-  limits = a.book.limits;
+  limits = a.start.book.limits;
   entries_name = a.blanks.entries.name;
   admitted_name = a.blanks.admitted.name;
   forged_name = a.blanks.forged.name;
