@@ -22,6 +22,8 @@ use Rattle.cell_runs.specs.declared.inputs.Inputs.{Inputs}
 use Rattle.cell_runs.specs.declared.inputs.InputError.{InputError}
 use Rattle.cell_runs.specs.declared.texts.Left.{Left}
 use Rattle.cell_runs.specs.declared.texts.Left.TheVariants as left
+use Rattle.cell_runs.specs.declared.texts.Mode.{Mode}
+use Rattle.cell_runs.specs.declared.texts.Mode.TheVariants as mode
 
 abbrev pub word_of : End → List ℕ
 word_of end.Finished = codes "finished"
@@ -134,40 +136,47 @@ PartOfReport journal limits script old new =
     × WritesPart old new (shown journal e t J))
     ⊎ WritesPart old new disagrees_line
 
-abbrev pub WritesRun : Bool → Bool → Inputs → Option (List ℕ) → Option (List ℕ) → ℕ → Option Kept → Type 0
-WritesRun false journal inputs old new status run = WritesRounds journal inputs.plan inputs.script old new status run
-WritesRun true journal inputs old new status run = WritesReport journal inputs.plan inputs.script old new status run
+-- how a run is led, on threads or not
+abbrev pub mode_of : Bool → Mode
+mode_of false = mode.Rounds
+mode_of true = mode.Threads
+
+abbrev pub WritesRun : Mode → Bool → Inputs → Option (List ℕ) → Option (List ℕ) → ℕ → Option Kept → Type 0
+WritesRun mode.Rounds journal inputs old new status run =
+    WritesRounds journal inputs.plan inputs.script old new status run
+WritesRun mode.Threads journal inputs old new status run =
+    WritesReport journal inputs.plan inputs.script old new status run
 
 -- what is printed of a run's texts, or of the first that is refused; a run is kept
-abbrev pub WritesInputs : Bool → Bool → Option (List ℕ) → Option (List ℕ) → ℕ → Option Kept → Result Inputs InputError
+abbrev pub WritesInputs : Mode → Bool → Option (List ℕ) → Option (List ℕ) → ℕ → Option Kept → Result Inputs InputError
     → Type 0
-WritesInputs threads journal old new status run (Ok inputs) = WritesRun threads journal inputs old new status run
-WritesInputs threads journal old new status run (Err e) = WritesError old new (input_line e) (input_status e) status
+WritesInputs how journal old new status run (Ok inputs) = WritesRun how journal inputs old new status run
+WritesInputs how journal old new status run (Err e) = WritesError old new (input_line e) (input_status e) status
     × (run ≡ None)
 
 -- what was written is the line of the first text that is refused, in the order settings, faults, operator, or is of a
 -- run within the settings' limits, on threads or on one, whose journal, end and plan are kept
-abbrev pub KeepsRun : List ℕ → List ℕ → List ℕ → Bool → Bool → Option (List ℕ) → Option (List ℕ) → ℕ → Option Kept
+abbrev pub KeepsRun : List ℕ → List ℕ → List ℕ → Mode → Bool → Option (List ℕ) → Option (List ℕ) → ℕ → Option Kept
     → Type 0
-KeepsRun settings faults operator threads journal old new status run =
+KeepsRun settings faults operator how journal old new status run =
     (inputs : Result Inputs InputError) × AreInputs settings faults operator inputs
-    × WritesInputs threads journal old new status run inputs
+    × WritesInputs how journal old new status run inputs
 
 -- the same, and nothing is handed on
-abbrev pub TellsRun : List ℕ → List ℕ → List ℕ → Bool → Bool → Option (List ℕ) → Option (List ℕ) → ℕ → Type 0
-TellsRun settings faults operator threads journal old new status =
-    (run : Option Kept) × KeepsRun settings faults operator threads journal old new status run
+abbrev pub TellsRun : List ℕ → List ℕ → List ℕ → Mode → Bool → Option (List ℕ) → Option (List ℕ) → ℕ → Type 0
+TellsRun settings faults operator how journal old new status =
+    (run : Option Kept) × KeepsRun settings faults operator how journal old new status run
 
-abbrev pub PartOfRun : Bool → Bool → Inputs → Option (List ℕ) → Option (List ℕ) → Type 0
-PartOfRun false journal inputs old new = PartOfRounds journal inputs.plan inputs.script old new
-PartOfRun true journal inputs old new = PartOfReport journal (limits_of inputs.plan) inputs.script old new
+abbrev pub PartOfRun : Mode → Bool → Inputs → Option (List ℕ) → Option (List ℕ) → Type 0
+PartOfRun mode.Rounds journal inputs old new = PartOfRounds journal inputs.plan inputs.script old new
+PartOfRun mode.Threads journal inputs old new = PartOfReport journal (limits_of inputs.plan) inputs.script old new
 
-abbrev pub PartOfInputs : Bool → Bool → Option (List ℕ) → Option (List ℕ) → Result Inputs InputError → Type 0
-PartOfInputs threads journal old new (Ok inputs) = PartOfRun threads journal inputs old new
-PartOfInputs threads journal old new (Err e) = WritesPart old new (input_line e)
+abbrev pub PartOfInputs : Mode → Bool → Option (List ℕ) → Option (List ℕ) → Result Inputs InputError → Type 0
+PartOfInputs how journal old new (Ok inputs) = PartOfRun how journal inputs old new
+PartOfInputs how journal old new (Err e) = WritesPart old new (input_line e)
 
 -- a first part of what is printed of these texts was written, and not all of it
-abbrev pub TellsPart : List ℕ → List ℕ → List ℕ → Bool → Bool → Option (List ℕ) → Option (List ℕ) → Type 0
-TellsPart settings faults operator threads journal old new =
+abbrev pub TellsPart : List ℕ → List ℕ → List ℕ → Mode → Bool → Option (List ℕ) → Option (List ℕ) → Type 0
+TellsPart settings faults operator how journal old new =
     (inputs : Result Inputs InputError) × AreInputs settings faults operator inputs
-    × PartOfInputs threads journal old new inputs
+    × PartOfInputs how journal old new inputs

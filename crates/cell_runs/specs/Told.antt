@@ -111,7 +111,7 @@ abbrev pub FollowsInputs : List ℕ → Bool → Option (List ℕ) → Option (L
 FollowsInputs text alone old new status run (Ok inputs) =
     ((journal : List Entry) × AreEntries text journal
     × WritesFollowed alone inputs.plan inputs.script journal old new status run)
-    ⊎ ((TellsRefused text old new status ⊎ WritesError old new [] 4 status) × (run ≡ None))
+    ⊎ (TellsRefused text old new status × (run ≡ None))
 FollowsInputs text alone old new status run (Err e) = WritesError old new (input_line e) (input_status e) status
     × (run ≡ None)
 

@@ -11,16 +11,19 @@ ghost use Rattle.cell_turns.specs.Schedules.{FitAll, now};
 ghost use Rattle.cell_ledger.specs.New.{AreBlank};
 ghost use Rattle.cell_runs.specs.Rounds.{Reaches, place};
 ghost use Rattle.cell_runs.specs.Followed.{Acts, Ends, EndsAt, Halts, IsFollowed};
+ghost use Rattle.cell_runs.specs.Runs.{limits_of};
 
+use crate::simulation::empty_book;
 use crate::steps::{Progress, act, take_step};
 use cell_journal::Journal;
 use cell_ledger::{Blanks, Kept, Run};
+use cell_plant::Ported;
 use cell_types::same::is_entry;
 use cell_types::{Actor, Entry, Machine, actor_of};
 use cell_workers::{End, OperatorPort, Plan, Port, Ports, Ran, Step, Watches};
 use operator_desk::Script;
 use plate_book::Book;
-use std::alloc::Global;
+use std::alloc::{AllocError, Global};
 
 /// How a journal was followed.
 #[derive(Clone, Copy, PartialEq, Eq, Debug)]
@@ -206,29 +209,29 @@ fn follow_entries<P: Port, O: OperatorPort, R: Run>(
     Followed::Whole
 }
 
-/// Follows a journal over these ports on one thread: for each of its entries the entry's actor alone acts, until he
-/// books one. A machine takes turns at readings of its port, at most as many as the plan has; the operator does his
-/// next action, if there is one. It ends at the first entry in whose place another is booked, or none.
+/// Follows a journal over a cell of ports and hands on one thread, into an empty book within the plan's limits: for
+/// each of its entries the entry's actor alone acts, until he books one. A machine takes turns at readings of its port,
+/// at most as many as the plan has; the operator does his next action, if there is one. It ends at the first entry in
+/// whose place another is booked, or none. The error is that the book's memory was refused.
 pub fn follow_over<P: Port, O: OperatorPort, R: Run>(
     alloc: Global,
-    book: Book,
     blanks: Blanks,
-    ports: &mut Ports<P>,
-    hands: &mut O,
+    cell: &mut Ported<P, O>,
     script: Script,
     plan: &Plan,
     journal: &Journal,
-) -> Following
+) -> Result<Following, AllocError>
     requires parts { 0 < R.parts }
-    requires limits { book.limits ≡ R.limits }
+    requires limits { R.limits ≡ limits_of plan.now }
     requires ledgers { AreBlank R.Run blanks }
-    ensures limits { result.book.limits ≡ R.limits }
-    ensures followed { book.entries ≡ [] → IsFollowed R.limits plan.now script journal.now.entries result.book.entries
-        result.followed }
+    ensures limits { IfOk result (λ following. following.book.limits ≡ R.limits) }
+    ensures followed { IfOk result (λ following. IsFollowed R.limits plan.now script journal.now.entries
+        following.book.entries following.followed) }
 {
+    let book = empty_book(alloc, plan)?;
     let watches = Watches::start(&book);
     let (kept, shares) = Kept::<R>::new(book, blanks);
-    let mut cell = Progress {
+    let mut progress = Progress {
         kept,
         shares,
         watches,
@@ -236,10 +239,16 @@ pub fn follow_over<P: Port, O: OperatorPort, R: Run>(
         script,
         lost: false,
     };
-    let followed = follow_entries(journal, ports, hands, &mut cell, plan);
-    cell.kept.is_lawful();
-    Following {
-        book: cell.kept.into_book(),
+    let followed = follow_entries(
+        journal,
+        &mut cell.ports,
+        &mut cell.hands,
+        &mut progress,
+        plan,
+    );
+    progress.kept.is_lawful();
+    Ok(Following {
+        book: progress.kept.into_book(),
         followed,
-    }
+    })
 }

@@ -1,4 +1,7 @@
 //! The three texts of a run.
+ghost use Rattle.std.specs.Prelude.{◌≡◌, IfOk};
+ghost use Rattle.cell_measures.specs.Times.{duration};
+ghost use Rattle.cell_measures.specs.declared.motion.Move.{Move};
 ghost use Rattle.cell_runs.specs.Inputs.{AreInputs};
 
 use cell_measures::Durations;
@@ -8,13 +11,41 @@ use cell_workers::Plan;
 use operator_desk::{Script, ScriptError};
 use std::alloc::Global;
 
+/// The three texts of a run, and how many readings its motions take, which none of them says.
+#[derive(Clone, Copy, Debug)]
+pub struct Texts<'a> {
+    pub settings: &'a [u8],
+    /// The script of faults.
+    pub faults: &'a [u8],
+    /// The operator's script.
+    pub operator: &'a [u8],
+    pub durations: Durations,
+}
+
+impl<'a> Texts<'a> {
+    /// These texts, and motions that take one reading each.
+    pub fn new(settings: &'a [u8], faults: &'a [u8], operator: &'a [u8]) -> Texts<'a>
+        ensures settings { result.settings.now ≡ settings.entry.now }
+        ensures faults { result.faults.now ≡ faults.entry.now }
+        ensures operator { result.operator.now ≡ operator.entry.now }
+        ensures durations { (motion : Move) → duration result.durations motion ≡ 1 }
+    {
+        Texts {
+            settings,
+            faults,
+            operator,
+            durations: Durations::ONE,
+        }
+    }
+}
+
 /// What the texts of a run say.
 #[derive(Drop)]
 pub struct Inputs {
     pub plan: Plan,
     pub faults: FaultScript,
     pub script: Script,
-    /// How many readings each motion of the simulated cell takes. No text says it: each takes one.
+    /// How many readings each motion of the simulated cell takes.
     pub durations: Durations,
 }
 
@@ -31,14 +62,16 @@ pub enum InputError {
 
 /// Reads the settings, the script of faults and the operator's script, in this order. The error is that of the first
 /// text that is refused.
-pub fn read_inputs(
-    alloc: Global,
-    settings: &[u8],
-    faults: &[u8],
-    operator: &[u8],
-) -> Result<Inputs, InputError>
-    ensures { AreInputs settings.now faults.now operator.now result }
+pub fn read_inputs(alloc: Global, texts: Texts<'_>) -> Result<Inputs, InputError>
+    ensures inputs { AreInputs texts.entry.settings.now texts.entry.faults.now texts.entry.operator.now result }
+    ensures durations { IfOk result (λ inputs. inputs.durations ≡ texts.entry.durations) }
 {
+    let Texts {
+        settings,
+        faults,
+        operator,
+        durations,
+    } = texts;
     let plan = match read_settings(alloc, settings) {
         Ok(plan) => plan,
         Err(error) => return Err(InputError::Settings(error)),
@@ -52,7 +85,7 @@ pub fn read_inputs(
             plan,
             faults,
             script,
-            durations: Durations::ONE,
+            durations,
         }),
         Err(error) => Err(InputError::Operator(error)),
     }

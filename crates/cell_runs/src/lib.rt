@@ -19,16 +19,11 @@ mod texts;
 
 pub use booking::book_after;
 pub use follow::{Followed, Following};
-pub use following::{
-    follow_read_kept, follow_read_kept_watched, follow_texts, follow_texts_kept,
-    follow_texts_kept_watched,
-};
-pub use inputs::{InputError, Inputs, read_inputs};
+pub use following::follow_kept;
+pub use inputs::{InputError, Inputs, Texts, read_inputs};
 pub use ports::sim_ports;
 pub use refused::refuse_input;
 pub use rounds::{Outcome, run_over};
-pub use run_from::{run_from_read_kept, run_from_read_kept_watched};
-pub use simulation::{follow_journal, simulate, simulate_from};
-pub use texts::{
-    KeptRun, Left, run_texts, run_texts_kept, run_texts_kept_watched, run_texts_watched,
-};
+pub use run_from::run_after;
+pub use simulation::{empty_book, follow_journal, run_on, simulate};
+pub use texts::{KeptRun, Left, Mode, run_kept, run_texts};

@@ -1,13 +1,11 @@
 //! A run on one thread, in rounds.
 ghost use Rattle.std.specs.Prelude.{◌≡◌, ◌<◌};
 ghost use Rattle.cell_ledger.specs.New.{AreBlank};
-ghost use Rattle.cell_rounds.specs.declared.progress.Halt.TheVariants as halts;
 ghost use Rattle.cell_runs.specs.Rounds.{IsRunFrom};
-ghost use Rattle.cell_workers.specs.declared.ends.End.{End as EndValue};
 
 use cell_ledger::{Blanks, Run};
 use cell_plant::{Ported, Unkept};
-use cell_rounds::{Halt, control};
+use cell_rounds::{Start, Terms, control};
 use cell_workers::{End, OperatorPort, Plan, Port};
 use operator_desk::Script;
 use plate_book::Book;
@@ -18,16 +16,6 @@ use std::alloc::Global;
 pub struct Outcome {
     pub book: Book,
     pub end: End,
-}
-
-// The end of a run that halted so. Ports are always reached, and no entry is kept, so that it halted by an end.
-fn end_of(halt: Halt) -> End
-    ensures { (end : EndValue) → halt ≡ halts.End end → result ≡ end }
-{
-    match halt {
-        Halt::End(end) => end,
-        Halt::Gone | Halt::Unkept => End::Stalled,
-    }
 }
 
 /// Runs a cell of ports and hands on one thread, in rounds, from the book's journal on, until all are idle or an end is
@@ -46,19 +34,16 @@ pub fn run_over<P: Port, O: OperatorPort, R: Run>(
     ensures limits { result.book.limits ≡ R.limits }
     ensures run { IsRunFrom R.limits plan.now book.entries script result.book.entries result.end }
 {
-    let ran = control::<_, _, R>(
-        alloc,
-        cell,
-        &mut Unkept,
+    let start = Start {
         book,
-        blanks,
         script,
-        None,
-        plan,
-        false,
-    );
+        pending: None,
+    };
+    let terms = Terms { plan, waits: false };
+    let ran = control::<_, _, R>(alloc, cell, &mut Unkept, start, blanks, terms);
+    // Ports are always reached, and no entry is kept, so that it halted by an end
     Outcome {
         book: ran.book,
-        end: end_of(ran.halt),
+        end: ran.halt.end(),
     }
 }

@@ -8,16 +8,17 @@ ghost use Rattle.cell_runs.specs.Told.{IsRead};
 
 use crate::booking::book_after;
 use crate::following::tell_refused;
-use crate::inputs::{Inputs, read_inputs};
+use crate::inputs::{Inputs, Texts, read_inputs};
+use crate::ports::sim_ports;
 use crate::refused::refuse_input;
 use crate::report::write_outcome;
 use crate::rounds::Outcome;
-use crate::simulation::simulate_from;
+use crate::simulation::run_on;
 use crate::texts::{KeptRun, Left};
 use cell_audit::{Audited, write_answer};
 use cell_journal::Journal;
-use cell_measures::Durations;
 use cell_output::{WatchedWriter, WriteFault};
+use cell_plant::Ported;
 use cell_sim::{SimOperator, World};
 use plate_book::Book;
 use std::io::Write;
@@ -46,8 +47,11 @@ fn write_run_from<R: AllocGlobal + Wait, W: Write>(
         durations,
     } = inputs;
     let world = Mutex::new(World::from_book(&book, plan.plates, &durations));
-    let hands = SimOperator::new(rt, &world);
-    let outcome = simulate_from(rt, &plan, &faults, script, &world, hands, book);
+    let mut cell = Ported {
+        ports: sim_ports(rt, &world, &faults),
+        hands: SimOperator::new(rt, &world),
+    };
+    let outcome = run_on(rt.alloc(), book, &mut cell, script, &plan);
     let status = write_outcome(rt.alloc(), &outcome, journal, writer)?;
     let Outcome { book, end } = outcome;
     let journal = book.into_journal();
@@ -98,41 +102,10 @@ fn go_on_read<R: AllocGlobal + Wait, W: Write>(
     }
 }
 
-/// Runs the simulated cell from a journal that was read on, as `run_from_read_kept` does, and writes what comes of it
-/// to a writer that notes whether a write of it was refused.
-pub fn run_from_read_kept_watched<R: AllocGlobal + Wait, W: Write>(
-    rt: &R,
-    before: &Audited,
-    settings: &[u8],
-    faults: &[u8],
-    operator: &[u8],
-    durations: &Durations,
-    journal: bool,
-    writer: &mut WatchedWriter<'_, W>,
-) -> Result<(u8, Left), WriteFault>
-    ensures writer { IsSameWriter writer.old writer.new }
-    ensures whole { (text : List ℕ) → IsRead before.now text
-        → IfOk result (λ ran. KeepsRunFrom text settings.now faults.now operator.now journal
-        (bytes_held W.contents writer.old) (bytes_held W.contents writer.new) ran.0 (kept_of ran.1)) }
-    ensures part { (text : List ℕ) → IsRead before.now text → IsErr result
-        → TellsPartFrom text settings.now faults.now operator.now journal (bytes_held W.contents writer.old)
-        (bytes_held W.contents writer.new) }
-    // It answers that the writer failed only where a write was refused.
-    ensures fault { IsErr result → has_refused writer.new ≡ true }
-{
-    match read_inputs(rt.alloc(), settings, faults, operator) {
-        Ok(mut inputs) => {
-            inputs.durations = *durations;
-            go_on_read(rt, before, inputs, journal, writer)
-        }
-        Err(refused) => Ok((refuse_input(writer, refused)?, Left::Nothing)),
-    }
-}
-
-/// Runs the simulated cell by the texts of a run from where a journal that was read into a book left it, with motions
-/// that take so many readings: its entries are booked anew within the settings' limits, the world is where they leave
-/// it, and the run goes on in rounds on this thread. The script of faults counts the motions that begin from there on,
-/// and the operator's script is what is still to be done.
+/// Runs the simulated cell by the texts of a run from where a journal that was read into a book left it: its entries
+/// are booked anew within the settings' limits, the world is where they leave it, and the run goes on in rounds on this
+/// thread. The script of faults counts the motions that begin from there on, and the operator's script is what is still
+/// to be done.
 ///
 /// The first text that is refused is told in one line, in the order settings, faults, operator, journal: the first
 /// three as by `run_texts`, the journal as by `audit_lines`, by the answer that was read with the book. So is the first
@@ -141,35 +114,29 @@ pub fn run_from_read_kept_watched<R: AllocGlobal + Wait, W: Write>(
 /// included. Where memory is refused before the run, nothing is written, status 4; where it is refused while the
 /// journal's text is written, a first part of that text was, status 4.
 ///
-/// It gives besides the exit status what the run left, as `run_texts_kept` does.
-pub fn run_from_read_kept<R: AllocGlobal + Wait, W: Write>(
+/// It gives besides the exit status what the run left, as `run_kept` does.
+pub fn run_after<R: AllocGlobal + Wait, W: Write>(
     rt: &R,
     before: &Audited,
-    settings: &[u8],
-    faults: &[u8],
-    operator: &[u8],
-    durations: &Durations,
+    texts: Texts<'_>,
     journal: bool,
-    writer: &mut W,
+    writer: &mut WatchedWriter<'_, W>,
 ) -> Result<(u8, Left), WriteFault>
+    ensures writer { IsSameWriter writer.old writer.new }
     // What is written, and the journal, the end and the plan are those of each text of which this was read.
     ensures whole { (text : List ℕ) → IsRead before.now text
-        → IfOk result (λ ran. KeepsRunFrom text settings.now faults.now operator.now journal
-        (W.contents writer.old) (W.contents writer.new) ran.0 (kept_of ran.1)) }
+        → IfOk result (λ ran. KeepsRunFrom text texts.entry.settings.now texts.entry.faults.now
+        texts.entry.operator.now journal (bytes_held W.contents writer.old) (bytes_held W.contents writer.new) ran.0
+        (kept_of ran.1)) }
     // Where the writer failed, a first part of that was written.
     ensures part { (text : List ℕ) → IsRead before.now text → IsErr result
-        → TellsPartFrom text settings.now faults.now operator.now journal (W.contents writer.old)
-        (W.contents writer.new) }
+        → TellsPartFrom text texts.entry.settings.now texts.entry.faults.now texts.entry.operator.now journal
+        (bytes_held W.contents writer.old) (bytes_held W.contents writer.new) }
+    // It answers that the writer failed only where a write was refused.
+    ensures fault { IsErr result → has_refused writer.new ≡ true }
 {
-    let mut writer = WatchedWriter::new(writer);
-    run_from_read_kept_watched(
-        rt,
-        before,
-        settings,
-        faults,
-        operator,
-        durations,
-        journal,
-        &mut writer,
-    )
+    match read_inputs(rt.alloc(), texts) {
+        Ok(inputs) => go_on_read(rt, before, inputs, journal, writer),
+        Err(refused) => Ok((refuse_input(writer, refused)?, Left::Nothing)),
+    }
 }

@@ -11,7 +11,7 @@ use cell_journal::Journal;
 use cell_ledger::Blanks;
 use cell_plant::Ported;
 use cell_sim::{FaultScript, World};
-use cell_workers::{OperatorPort, Plan};
+use cell_workers::{OperatorPort, Plan, Port};
 use operator_desk::Script;
 use plate_book::Book;
 use std::alloc::{AllocError, Global};
@@ -19,7 +19,7 @@ use std::marker::Brand;
 use std::sync::{Mutex, Wait};
 
 /// An empty book within a plan's limits.
-pub(crate) fn empty_book(alloc: Global, plan: &Plan) -> Result<Book, AllocError>
+pub fn empty_book(alloc: Global, plan: &Plan) -> Result<Book, AllocError>
     ensures { IfOk result (λ book. book ≡ record { limits = limits_of plan.now; entries = [] }) }
 {
     match Book::new(alloc, plan.journal_limit, plan.plates) {
@@ -28,24 +28,20 @@ pub(crate) fn empty_book(alloc: Global, plan: &Plan) -> Result<Book, AllocError>
     }
 }
 
-/// Runs the simulated cell over a world on one thread, in rounds, with these hands of the operator, from a book's
-/// journal on. The world is where that journal left the cell.
-pub fn simulate_from<R: AllocGlobal + Wait, O: OperatorPort + Drop>(
-    rt: &R,
-    plan: &Plan,
-    faults: &FaultScript,
-    script: Script,
-    world: &Mutex<World>,
-    hands: O,
+/// Runs a cell of ports and hands on one thread, in rounds, from a book's journal on. The cell is where that journal
+/// left it.
+pub fn run_on<P: Port, O: OperatorPort>(
+    alloc: Global,
     book: Book,
+    cell: &mut Ported<P, O>,
+    script: Script,
+    plan: &Plan,
 ) -> Outcome
     requires { book.limits ≡ limits_of plan.now }
     ensures limits { result.book.limits ≡ limits_of plan.now }
     ensures run { IsRunFrom (limits_of plan.now) plan.now book.entries script result.book.entries result.end }
 {
-    let ports = sim_ports(rt, world, faults);
-    let mut cell = Ported { ports, hands };
-    run_over::<_, _, Brand>(rt.alloc(), book, Blanks::new(1), &mut cell, script, plan)
+    run_over::<_, _, Brand>(alloc, book, Blanks::new(1), cell, script, plan)
 }
 
 /// Runs the simulated cell over a world on one thread, in rounds, with these hands of the operator. The error is that
@@ -62,29 +58,23 @@ pub fn simulate<R: AllocGlobal + Wait, O: OperatorPort + Drop>(
     ensures run { IfOk result (λ outcome. IsRun (limits_of plan.now) plan.now script outcome.book.entries outcome.end) }
 {
     let book = empty_book(rt.alloc(), plan)?;
-    Ok(simulate_from(rt, plan, faults, script, world, hands, book))
+    let ports = sim_ports(rt, world, faults);
+    let mut cell = Ported { ports, hands };
+    Ok(run_on(rt.alloc(), book, &mut cell, script, plan))
 }
 
-/// Follows a journal over a world of the simulated cell on one thread, with these hands of the operator: for each of
-/// its entries the entry's actor alone acts, until he books one. The error is that the book's memory was refused.
-pub fn follow_journal<R: AllocGlobal + Wait, O: OperatorPort>(
-    rt: &R,
-    plan: &Plan,
-    faults: &FaultScript,
+/// Follows a journal over a cell of ports and hands on one thread: for each of its entries the entry's actor alone
+/// acts, until he books one. The error is that the book's memory was refused.
+pub fn follow_journal<P: Port, O: OperatorPort>(
+    alloc: Global,
+    cell: &mut Ported<P, O>,
     script: Script,
-    world: &Mutex<World>,
-    hands: &mut O,
+    plan: &Plan,
     journal: &Journal,
 ) -> Result<Following, AllocError>
     ensures limits { IfOk result (λ following. following.book.limits ≡ limits_of plan.now) }
     ensures followed { IfOk result (λ following. IsFollowed (limits_of plan.now) plan.now script journal.now.entries
         following.book.entries following.followed) }
 {
-    let alloc = rt.alloc();
-    let book = empty_book(alloc, plan)?;
-    let mut ports = sim_ports(rt, world, faults);
-    let blanks = Blanks::new(1);
-    Ok(follow_over::<_, _, Brand>(
-        alloc, book, blanks, &mut ports, hands, script, plan, journal,
-    ))
+    follow_over::<_, _, Brand>(alloc, Blanks::new(1), cell, script, plan, journal)
 }

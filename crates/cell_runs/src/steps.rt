@@ -10,7 +10,7 @@ ghost use Rattle.cell_turns.specs.Schedules.{FitAll, now};
 ghost use Rattle.cell_runs.specs.Rounds.{Operates, Reaches, Stops, Takes, place, turn_of};
 
 use cell_ledger::{Kept, Run, Shares};
-use cell_workers::{End, OperatorPort, Plan, Port, Ports, Ran, Step, Watches, run_step};
+use cell_workers::{End, LentState, OperatorPort, Plan, Port, Ports, Ran, Step, Watches, run_step};
 use operator_desk::{Script, entry_of};
 
 /// What a run has from step to step.
@@ -50,16 +50,12 @@ pub(crate) fn take_step<P: Port, O: OperatorPort, R: Run>(
     ensures unchanged { IfErr result (λ _. (minds : SixValue Mind) → FitAll cell.old.watches minds
         → cell.new.kept.entries ≡ cell.old.kept.entries) }
 {
-    let taken = run_step(
-        &step,
-        &mut cell.ran,
-        ports,
-        hands,
-        &mut cell.kept,
-        &mut cell.shares,
-        &mut cell.watches,
-        plan,
-    );
+    let mut state = LentState {
+        kept: &mut cell.kept,
+        shares: &mut cell.shares,
+        watches: &mut cell.watches,
+    };
+    let taken = run_step(&step, &mut cell.ran, ports, hands, &mut state, plan);
     match taken {
         Ok(()) if cell.ran.refused > 0 => Err(End::Full),
         Ok(()) => Ok(!cell.ran.operator.is_empty()),

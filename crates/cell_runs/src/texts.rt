@@ -2,16 +2,15 @@
 ghost use Rattle.std.specs.Prelude.{◌≡◌, ◌↔◌, IfOk, IsErr, None, true};
 ghost use Rattle.cell_output.specs.Watched.{IsSameWriter, bytes_held, has_refused};
 ghost use Rattle.cell_runs.specs.Runs.{KeepsRun, LacksThread, PartOfReport, PartOfRounds, TellsPart, TellsRun};
-ghost use Rattle.cell_runs.specs.Runs.{WritesReport, WritesRounds, kept_of, limits_of};
+ghost use Rattle.cell_runs.specs.Runs.{WritesReport, WritesRounds, kept_of, limits_of, mode_of};
 
-use crate::inputs::{Inputs, read_inputs};
+use crate::inputs::{Inputs, Texts, read_inputs};
 use crate::ports::sim_ports;
 use crate::refused::refuse_input;
 use crate::report::{write_outcome, write_report, write_run_error};
 use crate::rounds::Outcome;
 use crate::simulation::simulate;
 use cell_journal::Journal;
-use cell_measures::Durations;
 use cell_output::{WatchedWriter, WriteFault, status};
 use cell_sim::{SimOperator, World};
 use cell_workers::{End, Plan, Report, RunError, run_cell};
@@ -19,6 +18,15 @@ use std::alloc::AllocError;
 use std::io::Write;
 use std::sync::{Mutex, Wait};
 use std::thread::Threads;
+
+/// How a run is led.
+#[derive(Clone, Copy, Debug, PartialEq, Eq)]
+pub enum Mode {
+    /// In rounds, on one thread.
+    Rounds,
+    /// By seven workers, each on a thread of its own.
+    Threads,
+}
 
 /// What is kept of a run: its journal, how it ended, and what it was to do.
 #[derive(Drop)]
@@ -122,76 +130,8 @@ fn write_threads<R: AllocGlobal + Threads + Wait + Sync, W: Write>(
     }
 }
 
-/// Runs the simulated cell by its texts, as `run_texts_kept` does, and writes what comes of it to a writer that notes
-/// whether a write of it was refused.
-pub fn run_texts_kept_watched<R: AllocGlobal + Threads + Wait + Sync, W: Write>(
-    rt: &R,
-    settings: &[u8],
-    faults: &[u8],
-    operator: &[u8],
-    durations: &Durations,
-    threads: bool,
-    journal: bool,
-    writer: &mut WatchedWriter<'_, W>,
-) -> Result<(u8, Left), WriteFault>
-    ensures writer { IsSameWriter writer.old writer.new }
-    ensures whole { IfOk result (λ ran. KeepsRun settings.now faults.now operator.now threads journal
-        (bytes_held W.contents writer.old) (bytes_held W.contents writer.new) ran.0 (kept_of ran.1)) }
-    ensures thread { IfOk result (λ ran. LacksThread ran.1 (bytes_held W.contents writer.old)
-        (bytes_held W.contents writer.new) ran.0) }
-    ensures part { IsErr result → TellsPart settings.now faults.now operator.now threads journal
-        (bytes_held W.contents writer.old) (bytes_held W.contents writer.new) }
-    // It answers that the writer failed only where a write was refused.
-    ensures fault { IsErr result → has_refused writer.new ≡ true }
-{
-    match read_inputs(rt.alloc(), settings, faults, operator) {
-        Ok(mut inputs) => {
-            inputs.durations = *durations;
-            if threads {
-                write_threads(rt, inputs, journal, writer)
-            } else {
-                write_rounds(rt, inputs, journal, writer)
-            }
-        }
-        Err(error) => Ok((refuse_input(writer, error)?, Left::Nothing)),
-    }
-}
-
-/// Runs the simulated cell by its texts, as `run_texts` does, and writes what comes of it to a writer that notes
-/// whether a write of it was refused.
-pub fn run_texts_watched<R: AllocGlobal + Threads + Wait + Sync, W: Write>(
-    rt: &R,
-    settings: &[u8],
-    faults: &[u8],
-    operator: &[u8],
-    threads: bool,
-    journal: bool,
-    writer: &mut WatchedWriter<'_, W>,
-) -> Result<u8, WriteFault>
-    ensures writer { IsSameWriter writer.old writer.new }
-    ensures whole { IfOk result (TellsRun settings.now faults.now operator.now threads journal
-        (bytes_held W.contents writer.old) (bytes_held W.contents writer.new)) }
-    ensures part { IsErr result → TellsPart settings.now faults.now operator.now threads journal
-        (bytes_held W.contents writer.old) (bytes_held W.contents writer.new) }
-    // It answers that the writer failed only where a write was refused.
-    ensures fault { IsErr result → has_refused writer.new ≡ true }
-{
-    let (status, _left) = run_texts_kept_watched(
-        rt,
-        settings,
-        faults,
-        operator,
-        &Durations::ONE,
-        threads,
-        journal,
-        writer,
-    )?;
-    Ok(status)
-}
-
 /// Reads the texts of a run, the settings, the script of faults and the operator's script, runs the simulated cell,
-/// writes what comes of it, and gives the exit status. With `threads` each machine's worker and the operator's run on
-/// threads of their own; else all take turns in rounds on this one.
+/// writes what comes of it, and gives the exit status and what the run left.
 ///
 /// The first text that is refused, in that order, is told in one line: `settings` as by `check_lines`, `faults
 /// unreadable I`, `faults too long`, `operator unreadable I` or `operator too long`, status 1. A run gives the line
@@ -199,10 +139,51 @@ pub fn run_texts_watched<R: AllocGlobal + Threads + Wait + Sync, W: Write>(
 /// `quarantined` and `delivered`, each with its number; with `journal` its journal's text alone. On threads the line
 /// `journal disagrees` (1) is told alone where an actor's entries in the journal aren't its worker's. Where memory is
 /// refused before the run, or a thread, nothing is written, status 4; where it is refused while the journal's text is
-/// written, a first part of that text was, status 4. That `WriteFault` comes only where a refused write was noted is a
-/// clause of `run_texts_watched`, of which this is the case of a new writer that notes.
+/// written, a first part of that text was, status 4.
 ///
 /// On threads no clause says that a run which is told as `finished` is.
+pub fn run_kept<R: AllocGlobal + Threads + Wait + Sync, W: Write>(
+    rt: &R,
+    texts: Texts<'_>,
+    mode: Mode,
+    journal: bool,
+    writer: &mut WatchedWriter<'_, W>,
+) -> Result<(u8, Left), WriteFault>
+    ensures writer { IsSameWriter writer.old writer.new }
+    // What is written is of the first text that is refused, or of a run within the settings' limits. The journal, the
+    // end and the plan are those of the run which was written.
+    ensures whole { IfOk result (λ ran. KeepsRun texts.entry.settings.now texts.entry.faults.now
+        texts.entry.operator.now mode journal (bytes_held W.contents writer.old) (bytes_held W.contents writer.new)
+        ran.0 (kept_of ran.1)) }
+    // That a thread could not be started is told only where nothing was written, with status 4.
+    ensures thread { IfOk result (λ ran. LacksThread ran.1 (bytes_held W.contents writer.old)
+        (bytes_held W.contents writer.new) ran.0) }
+    // Where the writer failed, a first part of that was written.
+    ensures part { IsErr result → TellsPart texts.entry.settings.now texts.entry.faults.now texts.entry.operator.now
+        mode journal (bytes_held W.contents writer.old) (bytes_held W.contents writer.new) }
+    // It answers that the writer failed only where a write was refused.
+    ensures fault { IsErr result → has_refused writer.new ≡ true }
+{
+    match read_inputs(rt.alloc(), texts) {
+        Ok(inputs) => match mode {
+            Mode::Rounds => write_rounds(rt, inputs, journal, writer),
+            Mode::Threads => write_threads(rt, inputs, journal, writer),
+        },
+        Err(error) => Ok((refuse_input(writer, error)?, Left::Nothing)),
+    }
+}
+
+// How a run is led: on threads or not.
+fn mode_of(threads: bool) -> Mode
+    ensures { result ≡ mode_of threads }
+{
+    if threads { Mode::Threads } else { Mode::Rounds }
+}
+
+/// Runs the simulated cell by its texts, as `run_kept` does with motions that take one reading each, and gives the exit
+/// status alone. With `threads` each machine's worker and the operator's run on threads of their own; else all take
+/// turns in rounds on this one. That `WriteFault` comes only where a refused write was noted is a clause of `run_kept`,
+/// of which this is the case of a new writer that notes.
 pub fn run_texts<R: AllocGlobal + Threads + Wait + Sync, W: Write>(
     rt: &R,
     settings: &[u8],
@@ -213,54 +194,14 @@ pub fn run_texts<R: AllocGlobal + Threads + Wait + Sync, W: Write>(
     writer: &mut W,
 ) -> Result<u8, WriteFault>
     // What is written is of the first text that is refused, or of a run within the settings' limits.
-    ensures whole { IfOk result (TellsRun settings.now faults.now operator.now threads journal (W.contents writer.old)
-        (W.contents writer.new)) }
+    ensures whole { IfOk result (TellsRun settings.now faults.now operator.now (mode_of threads) journal
+        (W.contents writer.old) (W.contents writer.new)) }
     // Where the writer failed, a first part of that was written.
-    ensures part { IsErr result → TellsPart settings.now faults.now operator.now threads journal (W.contents writer.old)
-        (W.contents writer.new) }
+    ensures part { IsErr result → TellsPart settings.now faults.now operator.now (mode_of threads) journal
+        (W.contents writer.old) (W.contents writer.new) }
 {
+    let texts = Texts::new(settings, faults, operator);
     let mut writer = WatchedWriter::new(writer);
-    run_texts_watched(
-        rt,
-        settings,
-        faults,
-        operator,
-        threads,
-        journal,
-        &mut writer,
-    )
-}
-
-/// Runs the simulated cell by its texts, as `run_texts` does, with motions that take so many readings, and gives
-/// besides the exit status what the run left: its journal, its end and its plan, where no text is refused, and memory
-/// and threads are to be had. It is `run_texts_kept_watched` over a new writer that notes.
-pub fn run_texts_kept<R: AllocGlobal + Threads + Wait + Sync, W: Write>(
-    rt: &R,
-    settings: &[u8],
-    faults: &[u8],
-    operator: &[u8],
-    durations: &Durations,
-    threads: bool,
-    journal: bool,
-    writer: &mut W,
-) -> Result<(u8, Left), WriteFault>
-    // The journal, the end and the plan are those of the run which was written.
-    ensures whole { IfOk result (λ ran. KeepsRun settings.now faults.now operator.now threads journal
-        (W.contents writer.old) (W.contents writer.new) ran.0 (kept_of ran.1)) }
-    // That a thread could not be started is told only where nothing was written, with status 4.
-    ensures thread { IfOk result (λ ran. LacksThread ran.1 (W.contents writer.old) (W.contents writer.new) ran.0) }
-    ensures part { IsErr result → TellsPart settings.now faults.now operator.now threads journal (W.contents writer.old)
-        (W.contents writer.new) }
-{
-    let mut writer = WatchedWriter::new(writer);
-    run_texts_kept_watched(
-        rt,
-        settings,
-        faults,
-        operator,
-        durations,
-        threads,
-        journal,
-        &mut writer,
-    )
+    let (status, _left) = run_kept(rt, texts, mode_of(threads), journal, &mut writer)?;
+    Ok(status)
 }

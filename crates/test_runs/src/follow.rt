@@ -1,36 +1,43 @@
-//! Journals of runs that are followed, by their texts.
+//! Journals of runs that are followed.
 use crate::rounds::{read_case, told};
 use cell_audit::{audit, read_journal};
-use cell_measures::Durations;
-use cell_output::WriteFault;
-use cell_runs::{follow_read_kept, follow_texts};
+use cell_output::{WatchedWriter, WriteFault};
+use cell_runs::{Texts, follow_kept};
+use std::io::Write;
 use std::process::Abort;
 use std::sync::Wait;
 use std::test::Fail;
 use std::thread::Threads;
 use test_samples::FailingWriter;
 
-// What is printed where a journal is followed by the three texts of its run, or what is booked then: by its own text,
-// and by what was read of it. It has to end with this status.
-fn followed<R: AllocGlobal + Abort + Wait>(
+// The status where a journal that was read is followed by the three texts of its run, or that the writer failed.
+fn follow<R: AllocGlobal + Abort + Wait, W: Write>(
     rt: &R,
     journal: &[u8],
     [settings, faults, operator]: [&[u8]; 3],
+    alone: bool,
+    writer: &mut W,
+) -> Result<u8, WriteFault> {
+    let followed = read_journal(rt.alloc(), journal).ok().expect(rt, "memory");
+    let texts = Texts::new(settings, faults, operator);
+    let mut writer = WatchedWriter::new(writer);
+    let (status, _) = follow_kept(rt, &followed, texts, alone, &mut writer)?;
+    Ok(status)
+}
+
+// What is printed where a journal is followed by the three texts of its run, or what is booked then. It has to end with
+// this status.
+fn followed<R: AllocGlobal + Abort + Wait>(
+    rt: &R,
+    journal: &[u8],
+    texts: [&[u8]; 3],
     alone: bool,
     status: u8,
     case: &str,
 ) -> Vec<u8> {
     let mut written = Vec::new(rt.alloc());
-    let answer = follow_texts(rt, journal, settings, faults, operator, alone, &mut written);
+    let answer = follow(rt, journal, texts, alone, &mut written);
     assert!(rt; answer == Ok(status), "{case}");
-    let reading = read_journal(rt.alloc(), journal).ok().expect(rt, "memory");
-    let mut again = Vec::new(rt.alloc());
-    let ones = &Durations::ONE;
-    let answer = follow_read_kept(
-        rt, &reading, settings, faults, operator, ones, alone, &mut again,
-    );
-    assert!(rt; answer.is_ok_and(|(ended, _)| ended == status), "{case}");
-    assert!(rt; again.as_slice() == written.as_slice(), "{case}");
     written
 }
 
@@ -182,7 +189,7 @@ fn check_cut<R: AllocGlobal + Abort + Wait>(
     wanted: Result<u8, WriteFault>,
 ) {
     let mut writer = FailingWriter::new(Vec::new(rt.alloc()), left);
-    let answer = follow_texts(rt, GREEN, b"plates = 1", b"", b"", alone, &mut writer);
+    let answer = follow(rt, GREEN, [b"plates = 1", b"", b""], alone, &mut writer);
     assert!(rt; answer == wanted, "after {left} bytes");
 }
 

@@ -4,40 +4,45 @@ ghost use Rattle.std.specs.Prelude.{◌<◌};
 use crate::follow::RUNS;
 use crate::rounds::{check_world, read_case, told};
 use cell_audit::{audit, read_journal};
-use cell_measures::Durations;
-use cell_output::WriteFault;
-use cell_runs::{Inputs, book_after, read_inputs, run_from_read_kept, simulate_from};
+use cell_output::{WatchedWriter, WriteFault};
+use cell_plant::Ported;
+use cell_runs::{Inputs, Texts, book_after, read_inputs, run_after, run_on, sim_ports};
 use cell_sim::{SimOperator, World};
 use cell_workers::End;
+use std::io::Write;
 use std::process::Abort;
 use std::sync::{Mutex, Wait};
 use std::test::Fail;
 use test_samples::{CLEARED_PRESS, FailingWriter, ONE_PLATE, STUCK_PRESS, text_of};
+
+// The status where a run goes on from a journal by these three texts, or that the writer failed.
+fn go_on<R: AllocGlobal + Abort + Wait, W: Write>(
+    rt: &R,
+    journal: &[u8],
+    [settings, faults, operator]: [&[u8]; 3],
+    alone: bool,
+    writer: &mut W,
+) -> Result<u8, WriteFault> {
+    let before = read_journal(rt.alloc(), journal).ok().expect(rt, "memory");
+    let texts = Texts::new(settings, faults, operator);
+    let mut writer = WatchedWriter::new(writer);
+    let (status, _) = run_after(rt, &before, texts, alone, &mut writer)?;
+    Ok(status)
+}
 
 // What is printed where a run goes on from a journal by these three texts, or the whole journal's text. It has to end
 // with this status.
 fn gone_on<R: AllocGlobal + Abort + Wait>(
     rt: &R,
     journal: &[u8],
-    [settings, faults, operator]: [&[u8]; 3],
+    texts: [&[u8]; 3],
     alone: bool,
     status: u8,
     case: &str,
 ) -> Vec<u8> {
-    let reading = read_journal(rt.alloc(), journal).ok().expect(rt, "memory");
     let mut written = Vec::new(rt.alloc());
-    let ones = &Durations::ONE;
-    let answer = run_from_read_kept(
-        rt,
-        &reading,
-        settings,
-        faults,
-        operator,
-        ones,
-        alone,
-        &mut written,
-    );
-    assert!(rt; answer.is_ok_and(|(ended, _)| ended == status), "{case}");
+    let answer = go_on(rt, journal, texts, alone, &mut written);
+    assert!(rt; answer == Ok(status), "{case}");
     written
 }
 
@@ -64,7 +69,7 @@ fn check_watched<R: AllocGlobal + Abort + Wait>(
 ) {
     let alloc = rt.alloc();
     let reading = read_journal(alloc, journal).ok().expect(rt, "memory");
-    let inputs = read_inputs(alloc, settings, faults, operator).expect(rt, case);
+    let inputs = read_inputs(alloc, Texts::new(settings, faults, operator)).expect(rt, case);
     let Inputs {
         plan,
         faults,
@@ -74,8 +79,11 @@ fn check_watched<R: AllocGlobal + Abort + Wait>(
     let book = book_after(alloc, &plan, reading.book.journal()).expect(rt, case);
     let world = World::from_book(&book, plan.plates, &durations).with_watch();
     let world = Mutex::new(world);
-    let hands = SimOperator::new(rt, &world);
-    let outcome = simulate_from(rt, &plan, &faults, script, &world, hands, book);
+    let mut cell = Ported {
+        ports: sim_ports(rt, &world, &faults),
+        hands: SimOperator::new(rt, &world),
+    };
+    let outcome = run_on(alloc, book, &mut cell, script, &plan);
     assert!(rt; outcome.end == End::Finished, "{case}");
     check_world(rt, &world.lock(rt), case);
 }
@@ -257,20 +265,8 @@ fn check_cut<R: AllocGlobal + Abort + Wait>(
     left: usize,
     wanted: Result<u8, WriteFault>,
 ) {
-    let reading = read_journal(rt.alloc(), journal).ok().expect(rt, "memory");
     let mut writer = FailingWriter::new(Vec::new(rt.alloc()), left);
-    let ones = &Durations::ONE;
-    let answer = run_from_read_kept(
-        rt,
-        &reading,
-        b"plates = 1",
-        b"",
-        b"",
-        ones,
-        false,
-        &mut writer,
-    );
-    let answer = answer.map(|(status, _)| status);
+    let answer = go_on(rt, journal, [b"plates = 1", b"", b""], false, &mut writer);
     assert!(rt; answer == wanted, "after {left} bytes");
 }
 

@@ -5,7 +5,7 @@ mod hands;
 mod returns;
 
 use cell_audit::{audit, write_journal};
-use cell_runs::{Inputs, Outcome, read_inputs, run_texts, simulate};
+use cell_runs::{Inputs, Outcome, Texts, read_inputs, run_texts, simulate};
 use cell_sim::{SAFETY_RULES, SimOperator, World};
 use cell_types::{STATIONS, Totals};
 use cell_workers::End;
@@ -117,7 +117,7 @@ fn simulated<'a, R: AllocGlobal + Wait + Abort>(
 // What a run over a watched world of its own comes to.
 fn run_in_world<R: AllocGlobal + Wait + Abort>(rt: &R, texts: [&[u8]; 3], case: &str) -> Outcome {
     let [settings, lines, operator] = texts;
-    let inputs = read_inputs(rt.alloc(), settings, lines, operator).expect(rt, case);
+    let inputs = read_inputs(rt.alloc(), Texts::new(settings, lines, operator)).expect(rt, case);
     let world = World::watched(inputs.plan.plates).with_durations(inputs.durations);
     let world = Mutex::new(world);
     let outcome = simulated(rt, inputs, &world, case);

@@ -1,5 +1,5 @@
 //! Runs whose operator's hands fail.
-use cell_runs::{Inputs, Outcome, read_inputs, simulate};
+use cell_runs::{Inputs, Outcome, Texts, read_inputs, simulate};
 use cell_sim::{SimOperator, World};
 use cell_types::Machine;
 use cell_workers::End;
@@ -11,12 +11,13 @@ use test_samples::{CLEARED_PRESS, STUCK_PRESS};
 // What comes of a run of six plates in which the second press fails and is to be cleared and repaired by such hands.
 fn played<R: AllocGlobal + Wait + Abort>(rt: &R, removing: Failing, homing: Failing) -> Outcome {
     let [lines, operator] = [STUCK_PRESS.as_bytes(), CLEARED_PRESS.as_bytes()];
+    let texts = Texts::new(b"plates = 6", lines, operator);
     let Inputs {
         plan,
         faults,
         script,
         durations,
-    } = read_inputs(rt.alloc(), b"plates = 6", lines, operator).expect(rt, "the texts are good");
+    } = read_inputs(rt.alloc(), texts).expect(rt, "the texts are good");
     let world = Mutex::new(World::new(plan.plates).with_durations(durations));
     let hands = SimOperator::new(rt, &world);
     let hands = TellingHands::new(rt.alloc(), hands, removing, homing, 10).expect(rt, "memory");

@@ -137,13 +137,19 @@ struct Taken {
     refused: usize,
 }
 
+// A schedule: its setting, what its steps are drawn from, and what came in it.
+#[derive(Drop)]
+struct Schedule<'a> {
+    setting: &'a Setting,
+    drawing: Drawing,
+    tally: &'a mut Tally,
+}
+
 // Draws the steps of a schedule one after another, and takes each as it is drawn.
 fn take_steps<R: Run, P: Port + Drop, O: OperatorPort + Drop, W: AllocGlobal + Abort>(
     rt: &W,
     stage: &mut Stage<R, P, O>,
-    drawing: &mut Drawing,
-    setting: &Setting,
-    tally: &mut Tally,
+    schedule: &mut Schedule<'_>,
 ) -> Taken
     requires { (m : MachineValue) → machine_of_watch (at stage.old.watches m) ≡ m }
 {
@@ -151,9 +157,12 @@ fn take_steps<R: Run, P: Port + Drop, O: OperatorPort + Drop, W: AllocGlobal + A
         steps: Vec::new(rt.alloc()),
         refused: 0,
     };
+    let setting = schedule.setting;
     for _ in 0..setting.habits.steps {
-        let step = drawing.next_step(stage.kept.book(), &mut stage.ports);
-        let more = take_step(rt, stage, &step, setting, tally);
+        let step = schedule
+            .drawing
+            .next_step(stage.kept.book(), &mut stage.ports);
+        let more = take_step(rt, stage, &step, setting, schedule.tally);
         taken.refused = taken.refused.saturating_add(more);
         taken.steps.push(step).expect(rt, "memory");
     }
@@ -213,11 +222,9 @@ fn play_again<R: Run, P, O, W: AllocGlobal + Abort>(
 // A schedule whose steps are drawn as it goes on, over a simulated cell, and then the same steps at once.
 fn play<R: Run, W: AllocGlobal + Abort + Wait>(
     rt: &W,
-    setting: &Setting,
-    drawing: &mut Drawing,
+    schedule: &mut Schedule<'_>,
     world: &Mutex<World>,
     faults: &FaultScript,
-    tally: &mut Tally,
     book: Book,
     blanks: Blanks,
 )
@@ -225,10 +232,11 @@ fn play<R: Run, W: AllocGlobal + Abort + Wait>(
     requires limits { book.limits ≡ R.limits }
     requires ledgers { AreBlank R.Run blanks }
 {
+    let setting = schedule.setting;
     let ports = sim_ports(rt, world, faults);
     let hands = SimOperator::new(rt, world);
     let mut stage = Stage::<R, _, _>::new(rt, &setting.devices, ports, hands, book, blanks);
-    let taken = take_steps(rt, &mut stage, drawing, setting, tally);
+    let taken = take_steps(rt, &mut stage, schedule);
     let live = Live {
         taken: &taken,
         journal: stage.kept.book().journal(),
@@ -236,7 +244,7 @@ fn play<R: Run, W: AllocGlobal + Abort + Wait>(
         hands: &stage.hands,
     };
     play_again::<Brand, _, _, W>(rt, setting, &live, setting.book(rt), Blanks::new(1));
-    tally.count_schedule(taken.steps.len(), &stage);
+    schedule.tally.count_schedule(taken.steps.len(), &stage);
 }
 
 // The schedule of a seed.
@@ -246,25 +254,20 @@ fn play_seed<W: AllocGlobal + Abort + Wait>(rt: &W, seed: u64, tally: &mut Tally
     let faults = FaultScript::read(rt.alloc(), setting.faults.as_bytes());
     let faults = faults.ok().expect(rt, "the faults are readable");
     let world = Mutex::new(World::new(setting.plan.plates));
-    let mut drawing = Drawing {
-        random,
-        habits: setting.habits,
-        steps: 0,
-        disturbed: 0,
-        way: 0,
+    let mut schedule = Schedule {
+        setting: &setting,
+        drawing: Drawing {
+            random,
+            habits: setting.habits,
+            steps: 0,
+            disturbed: 0,
+            way: 0,
+        },
+        tally,
     };
     let book = setting.book(rt);
     let blanks = Blanks::new(1);
-    play::<Brand, W>(
-        rt,
-        &setting,
-        &mut drawing,
-        &world,
-        &faults,
-        tally,
-        book,
-        blanks,
-    );
+    play::<Brand, W>(rt, &mut schedule, &world, &faults, book, blanks);
 }
 
 // A thousand schedules, from a number on, are lawful, and all that can come came in them.

@@ -1,6 +1,7 @@
 -- A run goes on from the journal of its book, and what is left of it without the cell is one in rounds
-use Rattle.std.proofs.Common.{false, subst, sym}
+use Rattle.std.proofs.Common.{◌∙◌, ap, false, subst, sym}
 use Rattle.cell_workers.specs.declared.ends.End.{End}
+use Rattle.cell_rounds.specs.Runs.{end_of}
 use Rattle.cell_runs.specs.Rounds.{Ended, start_from}
 use Rattle.cell_runs.proofs.Forgetting.{run_from}
 use Rattle.cell_runs.proofs.rounds.run_over.Goals as goal
@@ -15,5 +16,5 @@ returns-clause-run g c =
       legal = c.control-ran.ensures.legal;
       ended =
           subst (λ (e : End). Ended g.R.Run.limits c.args.plan.now (start_from B c.args.script) ran.book.entries e)
-          (sym (c.end_of.ensures ended.0 ended.1)) ended.2;
+          (sym (c.end.ensures ∙ ap end_of ended.1)) ended.2;
     }

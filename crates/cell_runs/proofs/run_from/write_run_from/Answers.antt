@@ -7,4 +7,4 @@ pub returns-clause-whole : goal.returns-clause-whole
 returns-clause-whole g c =
     rw (ap (λ (s : Stored). s.entries) c.into_journal-journal.ensures)
     (c.in_ok-status.ensures.whole c.args.book.entries c.args.inputs.plan c.args.inputs.script
-    c.simulate_from-outcome.ensures.run)
+    c.run_on-outcome.ensures.run)

@@ -1,11 +1,12 @@
--- The run by which a journal is followed in the simulated cell
+-- The run by which a journal is followed in a cell of ports and hands
+use Rattle.cell_runs.specs.Runs.{limits_of}
 use Rattle.cell_runs.proofs.simulation.follow_journal.Given as goal
 
--- the run is the one of the book's limits and of the blanks that are handed to it
+-- the run is the one of the plan's limits and of the blanks that are handed to it
 abbrev pub ghosts-follow_over : goal.ghosts-follow_over
 ghosts-follow_over g a = record {
   parts = a.blanks.entries.parts;
-  limits = a.book.limits;
+  limits = limits_of a.plan.now;
   entries_name = a.blanks.entries.name;
   admitted_name = a.blanks.admitted.name;
   forged_name = a.blanks.forged.name;

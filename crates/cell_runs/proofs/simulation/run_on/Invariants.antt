@@ -1,5 +1,5 @@
--- The run of the simulated cell
-use Rattle.cell_runs.proofs.simulation.simulate_from.Given as goal
+-- A run of a cell of ports and hands
+use Rattle.cell_runs.proofs.simulation.run_on.Given as goal
 
 -- the run is the one of the book's limits and of the blanks that are handed to it
 abbrev pub ghosts-run_over : goal.ghosts-run_over
