@@ -5,11 +5,11 @@ use crate::report::{end_text, explain_broken, explain_unread, write_world};
 use crate::texts::{Told, status_of, write_told};
 use crate::unread::{UnreadLine, unread_command};
 use crate::wish::{Wish, wish_of};
-use cell_method::{DriveEnd, DriveError, LineReader, MAX_LINES, ReadingLine};
+use cell_method::{Conversation, DriveEnd, DriveError, MAX_LINES, ReadingLine};
 use cell_ports::{Act, OperatorPort, Plan, Port};
 use cell_rows::{Four, TellsFault, read_script};
-use cell_runs::sim_ports;
-use cell_sim::{FaultScript, SimOperator, SimPort, World};
+use cell_runs::{Inputs, sim_ports};
+use cell_sim::{SimOperator, SimPort, World};
 use cell_turns::Ports;
 use cell_types::texts::{machine_word, station_word};
 use cell_types::{Command, MACHINES, Machine, Totals, machine_of_axis, machine_of_belt};
@@ -131,28 +131,27 @@ fn keep_unread<R: Wait>(run: &mut Run<'_, R>, line: u32, four: Option<Four<'_>>)
 // Answers the lines of a round.
 fn take_lines<R: Wait, I: TellsFault, W: Write>(
     run: &mut Run<'_, R>,
-    lines: &mut LineReader<I>,
-    writer: &mut W,
+    method: &mut Conversation<'_, I, W>,
 ) -> Result<Close, DriveError> {
     for count in 0..MAX_LINES {
-        if !lines.advance()? {
+        if !method.lines.advance()? {
             return Ok(Close::End(DriveEnd::Quit));
         }
-        let answer = match wish_of(lines) {
+        let answer = match wish_of(&method.lines) {
             Wish::Done => return Ok(Close::Done),
             Wish::Quit => return Ok(Close::End(DriveEnd::Quit)),
             Wish::Send(command) => send(run, command),
             Wish::Act(act) => do_by_hand(run, act),
             Wish::Stay => stay(run),
             Wish::Sync(number) => {
-                sync(run, number, writer)?;
+                sync(run, number, method.writer)?;
                 continue;
             }
             Wish::Pass => continue,
-            Wish::Nothing => keep_unread(run, count + 1, lines.four()),
+            Wish::Nothing => keep_unread(run, count + 1, method.lines.four()),
         };
-        write!(writer, "{answer}")?;
-        writer.flush()?;
+        write!(method.writer, "{answer}")?;
+        method.writer.flush()?;
     }
     Ok(Close::End(DriveEnd::TooManyLines))
 }
@@ -215,15 +214,14 @@ fn is_finished(world: &World) -> bool {
 fn take_round<R: Wait, I: TellsFault, W: Write>(
     run: &mut Run<'_, R>,
     number: u32,
-    lines: &mut LineReader<I>,
-    writer: &mut W,
+    method: &mut Conversation<'_, I, W>,
 ) -> Result<Option<DriveEnd>, DriveError> {
-    open(run, number, writer)?;
-    match take_lines(run, lines, writer)? {
+    open(run, number, method.writer)?;
+    match take_lines(run, method)? {
         Close::Done => {}
         Close::End(end) => return Ok(Some(end)),
     }
-    operate(run, writer)?;
+    operate(run, method.writer)?;
     let mut world = run.world.lock(run.rt);
     world.end_round();
     if !run.stays && is_finished(&world) {
@@ -237,11 +235,10 @@ fn take_round<R: Wait, I: TellsFault, W: Write>(
 fn take_rounds<R: Wait, I: TellsFault, W: Write>(
     run: &mut Run<'_, R>,
     plan: &Plan,
-    lines: &mut LineReader<I>,
-    writer: &mut W,
+    method: &mut Conversation<'_, I, W>,
 ) -> Result<DriveEnd, DriveError> {
     for round in 0..plan.turns {
-        if let Some(end) = take_round(run, round + 1, lines, writer)? {
+        if let Some(end) = take_round(run, round + 1, method)? {
             return Ok(end);
         }
     }
@@ -282,25 +279,22 @@ fn end_of<R: Wait>(run: &Run<'_, R>, ended: DriveEnd) -> DriveEnd {
     }
 }
 
-/// Lets a method drive the simulated cell by commands, with this script of the operator, tells what came of it, and
-/// gives the status.
+/// Lets a method drive the simulated cell by commands, by the plan and the faults of these inputs and this script of
+/// the operator, tells what came of it, and gives the status.
 pub(crate) fn drive_commands<R: AllocGlobal + Wait, I: TellsFault, W: Write, E: Write>(
     rt: &R,
-    plan: &Plan,
-    faults: &FaultScript,
+    inputs: &Inputs,
     script: Vec<Line>,
     world: World,
-    told: Told,
-    lines: &mut LineReader<I>,
-    writer: &mut W,
-    errors: &mut E,
+    method: &mut Conversation<'_, I, W>,
+    told: Told<'_, E>,
 ) -> Result<u8, DriveError> {
     let measures = Measures::new(rt.alloc(), &world);
     let world = Mutex::new(world);
     let mut run = Run {
         rt,
         world: &world,
-        ports: sim_ports(rt, &world, faults),
+        ports: sim_ports(rt, &world, &inputs.faults),
         hands: SimOperator::new(rt, &world),
         script,
         done: 0,
@@ -309,16 +303,16 @@ pub(crate) fn drive_commands<R: AllocGlobal + Wait, I: TellsFault, W: Write, E: 
         measures,
         unread: None,
     };
-    let ended = take_rounds(&mut run, plan, lines, writer)?;
+    let ended = take_rounds(&mut run, &inputs.plan, method)?;
     let end = end_of(&run, ended);
     let Ok(text) = told_of(rt.alloc(), &mut run, end) else {
         return Err(DriveError::OutOfMemory);
     };
-    write_told(writer, text.as_slice())?;
+    write_told(method.writer, text.as_slice())?;
     let world = world.lock(rt);
     if told.explain {
-        explain_unread(errors, run.unread)?;
-        explain_broken(errors, &world)?;
+        explain_unread(told.errors, run.unread)?;
+        explain_broken(told.errors, &world)?;
     }
     Ok(status_of(end, world.is_safe()))
 }

@@ -3,8 +3,9 @@ ghost use Rattle.std.specs.Prelude.{◌≡◌, ◌≢◌, ◌<◌, [], ℕ, List
 ghost use Rattle.std.specs.Prelude.{option_map};
 ghost use Rattle.std.specs.Io.KnownBytes.{Appends};
 ghost use Rattle.cell_audit.specs.Text.{text_of};
-ghost use Rattle.cell_output.specs.Watched.{bytes_held, has_refused};
+ghost use Rattle.cell_output.specs.Watched.{IsSameWriter as IsSameTarget, bytes_held, has_refused};
 ghost use Rattle.cell_runs.specs.Runs.{limits_of};
+ghost use Rattle.cell_method.specs.Conversations.{IsSameWriter};
 ghost use Rattle.cell_method.specs.Lines.{lines_left};
 ghost use Rattle.cell_drive.specs.Drives.{DrivesEntries, DrivesFrom, EndStatus, TellsEnd};
 
@@ -18,8 +19,9 @@ use crate::texts::{Told, begin, status_of, write_told};
 use cell_audit::{WriteError, write_journal_watched};
 use cell_journal::Journal;
 use cell_measures::Durations;
-use cell_method::{DriveEnd, DriveError, LineReader, drive, tell_entries};
+use cell_method::{Conversation, DriveEnd, DriveError, drive, tell_entries};
 use cell_output::WatchedWriter;
+use cell_plant::Ported;
 use cell_ports::Plan;
 use cell_rows::TellsFault;
 use cell_runs::{Inputs, book_after, sim_ports};
@@ -45,17 +47,15 @@ fn end_of(ran: Result<DriveEnd, DriveError>, lacks_memory: bool) -> Result<Drive
 // What is told of a run that ended so.
 fn told_of<R: Wait>(
     alloc: Global,
-    rt: &R,
     end: DriveEnd,
     book: &Book,
     looker: &mut Looker<'_, R>,
-    world: &Mutex<World>,
     durations: &Durations,
 ) -> io::Result<Vec<u8>>
     ensures { IfOk result (λ text. TellsEnd end book.now.entries text.items) }
 {
     let mut told = end_text(alloc, end, book.totals())?;
-    let measures = measures_of(alloc, rt, book, looker, world, durations)?;
+    let measures = measures_of(alloc, book, looker, durations)?;
     told.extend_from_slice(measures.as_slice())?;
     Ok(told)
 }
@@ -63,14 +63,12 @@ fn told_of<R: Wait>(
 // What is told of a run below its end and what it counted.
 fn measures_of<R: Wait>(
     alloc: Global,
-    rt: &R,
     book: &Book,
     looker: &mut Looker<'_, R>,
-    world: &Mutex<World>,
     durations: &Durations,
 ) -> io::Result<Vec<u8>> {
     let mut text = Vec::new(alloc);
-    let world = world.lock(rt);
+    let world = looker.world.lock(looker.rt);
     writeln!(text, "rounds {}", looker.measures.rounds())?;
     writeln!(text, "entries {}", book.totals().entries)?;
     write_refusals(&mut text, &looker.refusals)?;
@@ -82,20 +80,15 @@ fn measures_of<R: Wait>(
 }
 
 // Whether nothing untrue was booked, and no safety rule was broken.
-fn is_in_order<R: Wait>(rt: &R, looker: &Looker<'_, R>, world: &Mutex<World>) -> bool {
-    looker.untruths.count() == 0 && world.lock(rt).is_safe()
+fn is_in_order<R: Wait>(looker: &Looker<'_, R>) -> bool {
+    looker.untruths.count() == 0 && looker.world.lock(looker.rt).is_safe()
 }
 
 // Explains what couldn't be read, and what was untrue and broken in a run.
-fn explain<R: Wait, E: Write>(
-    rt: &R,
-    looker: &Looker<'_, R>,
-    world: &Mutex<World>,
-    errors: &mut E,
-) -> io::Result<()> {
+fn explain<R: Wait, E: Write>(looker: &Looker<'_, R>, errors: &mut E) -> io::Result<()> {
     explain_unread(errors, looker.unread)?;
     explain_untrue(errors, &looker.untruths.firsts)?;
-    explain_broken(errors, &world.lock(rt))
+    explain_broken(errors, &looker.world.lock(looker.rt))
 }
 
 /// An empty book within a plan's limits.
@@ -115,6 +108,7 @@ fn write_wanted<E: Write>(
     journal: &Journal,
     errors: &mut WatchedWriter<'_, E>,
 ) -> Result<(), DriveError>
+    ensures writer { IsSameTarget errors.old errors.new }
     ensures whole { OnOk result (IsTrue wanted → Appends (bytes_held E.contents errors.old)
         (bytes_held E.contents errors.new) (text_of journal.now.entries)) }
     // It answers that the writer failed only where a write was refused.
@@ -132,35 +126,32 @@ fn write_wanted<E: Write>(
 
 // Tells what came of a run that ended so, and gives its status.
 fn tell_run<R: AllocGlobal + Wait, W: Write, E: Write>(
-    rt: &R,
-    told: Told,
     end: DriveEnd,
     book: &Book,
     looker: &mut Looker<'_, R>,
-    world: &Mutex<World>,
     durations: &Durations,
     writer: &mut W,
-    errors: &mut E,
+    told: Told<'_, E>,
 ) -> Result<u8, DriveError>
     ensures told { OnOk result ((text : List ℕ) × TellsEnd end book.now.entries text
         × Appends (W.contents writer.old) (W.contents writer.new) text) }
     ensures status { IfOk result (EndStatus end) }
     ensures memory { IfOk result (λ status. status < 3 → end ≢ DriveEnd.Memory) }
 {
-    let alloc = rt.alloc();
-    let status = status_of(end, is_in_order(rt, looker, world));
-    let Ok(text) = told_of(alloc, rt, end, book, looker, world, durations) else {
+    let alloc = looker.rt.alloc();
+    let status = status_of(end, is_in_order(looker));
+    let Ok(text) = told_of(alloc, end, book, looker, durations) else {
         return Err(DriveError::OutOfMemory);
     };
     write_told(writer, text.as_slice())?;
     if told.explain {
-        explain(rt, looker, world, errors)?;
+        explain(looker, told.errors)?;
     }
     write_wanted(
         alloc,
         told.journal,
         book.journal(),
-        &mut WatchedWriter::new(errors),
+        &mut WatchedWriter::new(told.errors),
     )?;
     Ok(status)
 }
@@ -172,15 +163,14 @@ fn drive_on<R: AllocGlobal + Wait, I: TellsFault, W: Write, E: Write>(
     inputs: Inputs,
     mut book: Book,
     world: World,
-    told: Told,
-    lines: &mut LineReader<I>,
-    writer: &mut W,
-    errors: &mut E,
+    method: &mut Conversation<'_, I, W>,
+    told: Told<'_, E>,
 ) -> Result<u8, DriveError>
     requires { book.limits ≡ limits_of inputs.plan }
-    ensures { IfOk result (λ status. status < 3
-        → DrivesEntries inputs.plan inputs.script book.entries (lines_left I.remaining lines.old)
-        (W.contents writer.old) (W.contents writer.new) status) }
+    ensures run { IfOk result (λ status. status < 3
+        → DrivesEntries inputs.plan inputs.script book.entries (lines_left I.remaining method.old.lines)
+        (W.contents method.old.writer.now) (W.contents method.new.writer.now) status) }
+    ensures writer { IsSameWriter method.old method.new }
 {
     let Inputs {
         plan,
@@ -188,35 +178,17 @@ fn drive_on<R: AllocGlobal + Wait, I: TellsFault, W: Write, E: Write>(
         script,
         durations,
     } = inputs;
-    let alloc = rt.alloc();
     let world = Mutex::new(world);
-    let mut ports = sim_ports(rt, &world, &faults);
-    let mut hands = SimOperator::new(rt, &world);
-    let mut looker = Looker::new(alloc, rt, &world);
-    begin(writer, &plan)?;
-    tell_entries(writer, book.journal())?;
-    let ran = drive(
-        lines,
-        &mut book,
-        &mut ports,
-        &mut hands,
-        script,
-        &plan,
-        writer,
-        &mut looker,
-    );
+    let mut cell = Ported {
+        ports: sim_ports(rt, &world, &faults),
+        hands: SimOperator::new(rt, &world),
+    };
+    let mut looker = Looker::new(rt.alloc(), rt, &world);
+    begin(method.writer, &plan)?;
+    tell_entries(method.writer, book.journal())?;
+    let ran = drive(method, &mut book, &mut cell, script, &plan, &mut looker);
     let end = end_of(ran, looker.lacks_memory())?;
-    tell_run(
-        rt,
-        told,
-        end,
-        &book,
-        &mut looker,
-        &world,
-        &durations,
-        writer,
-        errors,
-    )
+    tell_run(end, &book, &mut looker, &durations, method.writer, told)
 }
 
 /// Lets a method drive the simulated cell by entries, from the opening or from where a journal left it, tells what came
@@ -225,25 +197,25 @@ pub(crate) fn drive_entries<R: AllocGlobal + Wait, I: TellsFault, W: Write, E: W
     rt: &R,
     inputs: Inputs,
     from: Option<&Journal>,
-    told: Told,
-    lines: &mut LineReader<I>,
-    writer: &mut W,
-    errors: &mut E,
+    method: &mut Conversation<'_, I, W>,
+    told: Told<'_, E>,
 ) -> Result<u8, DriveError>
-    ensures { IfOk result (λ status. status < 3
+    ensures run { IfOk result (λ status. status < 3
         → DrivesFrom inputs.plan inputs.script (option_map (λ j. j.now.entries) from.entry)
-        (lines_left I.remaining lines.old) (W.contents writer.old) (W.contents writer.new) status) }
+        (lines_left I.remaining method.old.lines) (W.contents method.old.writer.now)
+        (W.contents method.new.writer.now) status) }
+    ensures writer { IsSameWriter method.old method.new }
 {
     let Some(journal) = from else {
         let book = empty_book(rt.alloc(), &inputs.plan)?;
         let world = World::watched(inputs.plan.plates).with_durations(inputs.durations);
-        return drive_on(rt, inputs, book, world, told, lines, writer, errors);
+        return drive_on(rt, inputs, book, world, method, told);
     };
     match book_after(rt.alloc(), &inputs.plan, journal) {
         Ok(book) => {
             let world = world_after(&book, &inputs.plan, inputs.durations);
-            drive_on(rt, inputs, book, world, told, lines, writer, errors)
+            drive_on(rt, inputs, book, world, method, told)
         }
-        Err(error) => refuse_journal(writer, error),
+        Err(error) => refuse_journal(method.writer, error),
     }
 }

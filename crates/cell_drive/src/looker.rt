@@ -14,8 +14,9 @@ use std::sync::{Mutex, Wait};
 /// What looks on at a run by entries in a world.
 #[derive(Drop)]
 pub(crate) struct Looker<'a, R: Wait> {
-    rt: &'a R,
-    world: &'a Mutex<World>,
+    pub(crate) rt: &'a R,
+    /// The world that it looks at.
+    pub(crate) world: &'a Mutex<World>,
     pub(crate) measures: Measures,
     pub(crate) refusals: Refusals,
     /// The entries that the world contradicts.

@@ -17,7 +17,7 @@ use cell_output::{WriteFault, status};
 use cell_plant::Ported;
 use cell_ports::{Plan, Port, PortFault};
 use cell_rows::LineError;
-use cell_runs::{InputError, Inputs, Outcome, read_inputs, run_over};
+use cell_runs::{InputError, Inputs, Outcome, Texts, read_inputs, run_over};
 use cell_settings::SettingsError;
 use cell_sim::{FaultScript, SimOperator, SimPort, World};
 use cell_turns::Ports;
@@ -213,24 +213,20 @@ fn status_without(error: InputError) -> u8
 /// status 0.
 pub fn measure_texts<R: AllocGlobal + Wait, W: Write>(
     rt: &R,
-    settings: &[u8],
-    faults: &[u8],
-    operator: &[u8],
-    durations: &Durations,
+    texts: Texts<'_>,
     output: &mut W,
 ) -> Result<u8, WriteFault>
     ensures told { OnOk result ((told : List ℕ) × Appends (W.contents output.old) (W.contents output.new) told) }
     ensures status { IfOk result (λ status. (status ≡ 0) ⊎ (status ≡ 4)) }
     // With status 0 the measures were written, or a text is refused.
-    ensures measured { result ≡ Ok 0 → TellsMeasures settings.now faults.now operator.now (W.contents output.old)
-        (W.contents output.new) }
+    ensures measured { result ≡ Ok 0 → TellsMeasures texts.entry.settings.now texts.entry.faults.now
+        texts.entry.operator.now (W.contents output.old) (W.contents output.new) }
     ensures memory { result ≡ Ok 4 → output.new ≡ output.old }
 {
-    let mut inputs = match read_inputs(rt.alloc(), settings, faults, operator) {
+    let inputs = match read_inputs(rt.alloc(), texts) {
         Ok(inputs) => inputs,
         Err(error) => return Ok(status_without(error)),
     };
-    inputs.durations = *durations;
     let Some(text) = measured(rt, inputs) else {
         return Ok(status::OUT_OF_MEMORY);
     };

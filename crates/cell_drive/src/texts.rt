@@ -7,12 +7,11 @@ use crate::begun::{refuse_journal, world_after};
 use crate::by_commands::{drive_commands, raw_script};
 use crate::by_entries::drive_entries;
 use cell_journal::Journal;
-use cell_measures::Durations;
-use cell_method::{DriveEnd, DriveError, LineReader, tell_entries};
+use cell_method::{Conversation, DriveEnd, DriveError, LineReader, tell_entries};
 use cell_output::{WatchedWriter, WriteFault, status};
 use cell_ports::Plan;
 use cell_rows::{TellsFault, Watched};
-use cell_runs::{InputError, Inputs, book_after, read_inputs, refuse_input};
+use cell_runs::{InputError, Inputs, Texts, book_after, read_inputs, refuse_input};
 use cell_sim::World;
 use std::io;
 use std::io::{BufReader, Read, Write};
@@ -27,15 +26,14 @@ pub struct DriveOptions<'a> {
     pub journal: bool,
     /// Whether the first of each thing that went wrong is told to the errors.
     pub explain: bool,
-    /// How many readings each motion takes.
-    pub durations: Durations,
     /// The journal that left the cell where the run begins; where there is none, it begins at the opening.
     pub from: Option<&'a Journal>,
 }
 
-/// What is told to the errors at the end of a run.
-#[derive(Clone, Copy, Debug)]
-pub(crate) struct Told {
+/// The errors of a run, and what is told to them at its end.
+#[derive(Drop)]
+pub(crate) struct Told<'a, E> {
+    pub(crate) errors: &'a mut E,
     pub(crate) journal: bool,
     pub(crate) explain: bool,
 }
@@ -67,41 +65,33 @@ fn ended(ran: Result<u8, DriveError>) -> Result<u8, WriteFault>
 // Lets a method drive the cell by commands, or tells what is wrong with the operator's script.
 fn drive_raw<R: AllocGlobal + Wait, I: TellsFault, W: Write, E: Write>(
     rt: &R,
-    inputs: Inputs,
+    inputs: &Inputs,
     operator: &[u8],
     from: Option<&Journal>,
-    told: Told,
-    lines: &mut LineReader<I>,
-    output: &mut W,
-    errors: &mut E,
+    method: &mut Conversation<'_, I, W>,
+    told: Told<'_, E>,
 ) -> Result<u8, DriveError> {
-    let Inputs {
-        plan,
-        faults,
-        durations,
-        ..
-    } = inputs;
+    let (plan, durations) = (&inputs.plan, inputs.durations);
     let script = match raw_script(rt.alloc(), operator) {
         Ok(script) => script,
         Err(error) => {
-            let told = refuse_input(&mut WatchedWriter::new(output), InputError::Operator(error));
-            return told.map_err(|_| DriveError::WriteFault);
+            let error = InputError::Operator(error);
+            let answer = refuse_input(&mut WatchedWriter::new(method.writer), error);
+            return answer.map_err(|_| DriveError::WriteFault);
         }
     };
     let world = match from {
-        Some(journal) => match book_after(rt.alloc(), &plan, journal) {
-            Ok(book) => world_after(&book, &plan, durations),
-            Err(error) => return refuse_journal(output, error),
+        Some(journal) => match book_after(rt.alloc(), plan, journal) {
+            Ok(book) => world_after(&book, plan, durations),
+            Err(error) => return refuse_journal(method.writer, error),
         },
         None => World::watched(plan.plates).with_durations(durations),
     };
-    begin(output, &plan)?;
+    begin(method.writer, plan)?;
     if let Some(journal) = from {
-        tell_entries(output, journal)?;
+        tell_entries(method.writer, journal)?;
     }
-    drive_commands(
-        rt, &plan, &faults, script, world, told, lines, output, errors,
-    )
+    drive_commands(rt, inputs, script, world, method, told)
 }
 
 /// Begins the protocol.
@@ -130,9 +120,7 @@ pub(crate) fn write_told<W: Write>(output: &mut W, text: &[u8]) -> Result<(), Dr
 /// fails ends the run with status 3. Want of memory before the first round gives status 4 with nothing more written.
 pub fn drive_texts<R: AllocGlobal + Wait, I: Read + Drop, W: Write, E: Write>(
     rt: &R,
-    settings: &[u8],
-    faults: &[u8],
-    operator: &[u8],
+    texts: Texts<'_>,
     driving: DriveOptions<'_>,
     input: I,
     output: &mut W,
@@ -140,38 +128,37 @@ pub fn drive_texts<R: AllocGlobal + Wait, I: Read + Drop, W: Write, E: Write>(
 ) -> Result<u8, WriteFault>
     // What is written is of the first text that is refused, of the journal's first entry that the settings' limits
     // refuse, or of a run by entries within these limits that goes on from the journal, where there is one.
-    ensures { IfOk result (DrivesTexts settings.now faults.now operator.now driving.entry.raw
-        (option_map (λ j. j.now.entries) driving.entry.from) (I.remaining input) (W.contents output.old)
-        (W.contents output.new)) }
+    ensures { IfOk result (DrivesTexts texts.entry.settings.now texts.entry.faults.now texts.entry.operator.now
+        driving.entry.raw (option_map (λ j. j.now.entries) driving.entry.from) (I.remaining input)
+        (W.contents output.old) (W.contents output.new)) }
 {
-    let inputs = match read_inputs(rt.alloc(), settings, faults, operator) {
-        Ok(mut inputs) => {
-            inputs.durations = driving.durations;
-            inputs
-        }
+    let inputs = match read_inputs(rt.alloc(), texts) {
+        Ok(inputs) => inputs,
         Err(error) => return refuse_input(&mut WatchedWriter::new(output), error),
     };
     let Ok(reader) = BufReader::new(rt.alloc(), input) else {
         return Ok(status::OUT_OF_MEMORY);
     };
-    let mut lines = LineReader::new(Watched::new(reader));
+    let lines = LineReader::new(Watched::new(reader));
+    let mut method = Conversation {
+        lines,
+        writer: output,
+    };
     let told = Told {
+        errors,
         journal: driving.journal,
         explain: driving.explain,
     };
     if driving.raw {
-        let ran = drive_raw(
-            rt,
-            inputs,
-            operator,
-            driving.from,
-            told,
-            &mut lines,
-            output,
-            errors,
-        );
+        let ran = drive_raw(rt, &inputs, texts.operator, driving.from, &mut method, told);
         return ended(ran);
     }
-    let ran = drive_entries(rt, inputs, driving.from, told, &mut lines, output, errors);
+    let ran = drive_entries(rt, inputs, driving.from, &mut method, told);
+    // The writer is given back, and what was read ahead is dropped.
+    let Conversation {
+        lines,
+        writer: _output,
+    } = method;
+    drop(lines);
     ended(ran)
 }

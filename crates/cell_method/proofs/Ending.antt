@@ -5,8 +5,9 @@ use Rattle.cell_types.specs.declared.words.Entry.{Entry}
 use Rattle.cell_ports.specs.declared.plan.Plan.{Plan}
 use Rattle.cell_method.specs.Ends.{end_by, is_finished, is_full}
 use Rattle.cell_method.specs.Lines.{Row}
-use Rattle.cell_method.specs.Order.{Acting, HasQuit, IsDry, Over, Point, Showing, Talking, between}
-use Rattle.cell_method.specs.Rounds.{EndedBy, EndsAs, Reads, Stand}
+use Rattle.cell_method.specs.Order.{Acting, HasQuit, IsDry, Over, Point, RoundEndsAt, Showing, Talking, between}
+use Rattle.cell_method.specs.Rounds.{EndsAs, Reads, Stand}
+use Rattle.cell_method.specs.declared.booking.Close.{Close}
 use Rattle.cell_method.specs.declared.rounds.DriveEnd.{DriveEnd}
 use Rattle.cell_method.specs.declared.rounds.DriveEnd.TheVariants as ends
 
@@ -43,34 +44,20 @@ no-many true full is = cc
 no-many false true is = cc
 no-many false false is = cc
 
--- a round set the end
-pub round-ends : (p : Plan) (s : Stand) (J : List Entry) (at : Point) (all left : Option (List (Option Row)))
-    (e : DriveEnd)
-    → J ≡ s.journal → EndedBy p J at all left (Some e) → EndsAs p s at all left e
-round-ends p s J at all left ends.Quit same is = is
-round-ends p s J at all left ends.TooManyLines same is = is
-round-ends p s J at all left ends.Finished same is = (is.0, is.1 ∙ ap (end_by p) same)
-round-ends p s J at all left ends.Full same is = (is.0, is.1 ∙ ap (end_by p) same)
-round-ends p s J at all left ends.Memory same is = (is.0, is.1 ∙ ap (end_by p) same)
-round-ends p s J at all left ends.TurnLimit same is =
-    absurd (no-limit (is_finished p.plates J) (is_full p J) is.1)
+-- a round is closed, and the journal gives the run this end
+pub journal-ends : (p : Plan) (s : Stand) (J : List Entry) (all left : Option (List (Option Row))) (e : DriveEnd)
+    → J ≡ s.journal → Some e ≡ end_by p J → EndsAs p s between all left e
+journal-ends p s J all left ends.Finished same is = (refl, is ∙ ap (end_by p) same)
+journal-ends p s J all left ends.Full same is = (refl, is ∙ ap (end_by p) same)
+journal-ends p s J all left ends.Memory same is = (refl, is ∙ ap (end_by p) same)
+journal-ends p s J all left ends.TurnLimit same is = absurd (no-limit (is_finished p.plates J) (is_full p J) is)
+journal-ends p s J all left ends.Quit same is = absurd (no-quit (is_finished p.plates J) (is_full p J) is)
+journal-ends p s J all left ends.TooManyLines same is = absurd (no-many (is_finished p.plates J) (is_full p J) is)
 
--- the round set this end, or none
-pub ended-is : (p : Plan) (J : List Entry) (at : Point) (all left : Option (List (Option Row)))
-    (some this : Option DriveEnd)
-    → some ≡ this → EndedBy p J at all left some → EndedBy p J at all left this
-ended-is p J at all left some this is ended = subst (λ o. EndedBy p J at all left o) is ended
-
--- the same, by the lines that were left earlier
-pub ended-earlier : (p : Plan) (J : List Entry) (at : Point) (a b c : Option (List (Option Row)))
-    (rows : List (Option Row)) (e : DriveEnd)
-    → Reads a rows b → EndedBy p J at b c (Some e) → EndedBy p J at a c (Some e)
-ended-earlier p J at a b c rows ends.Quit read is = quit-earlier at a b c rows read is
-ended-earlier p J at a b c rows ends.TooManyLines read is = is
-ended-earlier p J at a b c rows ends.Finished read is = is
-ended-earlier p J at a b c rows ends.Full read is = is
-ended-earlier p J at a b c rows ends.Memory read is = is
-ended-earlier p J at a b c rows ends.TurnLimit read is = is
+-- the lines of the round closed so
+pub round-is : (closed this : Close) (at : Point) (all left : Option (List (Option Row))) → closed ≡ this
+    → RoundEndsAt closed at all left → RoundEndsAt this at all left
+round-is closed this at all left is ended = subst (λ c. RoundEndsAt c at all left) is ended
 
 -- there were as many rounds as there may be, and none of them set an end
 pub turns-over : (p : Plan) (s : Stand) (all left : Option (List (Option Row))) (J : List Entry) (n : ℕ)
@@ -79,14 +66,3 @@ pub turns-over : (p : Plan) (s : Stand) (all left : Option (List (Option Row))) 
 turns-over p s all left J n same rounds all-of (inl none) = absurd (omega (arith, all-of, none, p.turns_in_range.0))
 turns-over p s all left J n same rounds all-of (inr going) =
     (refl, sym (ap (end_by p) same) ∙ going, rounds ∙ all-of)
-
--- a round is closed, so only the journal can end the run
-pub closed-ends : (p : Plan) (J : List Entry) (all left : Option (List (Option Row))) (e : Option DriveEnd)
-    → e ≡ end_by p J → EndedBy p J between all left e
-closed-ends p J all left None is = (refl, is)
-closed-ends p J all left (Some ends.Finished) is = (refl, is)
-closed-ends p J all left (Some ends.Full) is = (refl, is)
-closed-ends p J all left (Some ends.Memory) is = (refl, is)
-closed-ends p J all left (Some ends.TurnLimit) is = (refl, is)
-closed-ends p J all left (Some ends.Quit) is = absurd (no-quit (is_finished p.plates J) (is_full p J) is)
-closed-ends p J all left (Some ends.TooManyLines) is = absurd (no-many (is_finished p.plates J) (is_full p J) is)

@@ -1,5 +1,6 @@
 pub mod Split
 pub mod Lines
+pub mod Conversations
 pub mod Asked
 pub mod Replies
 pub mod Shown

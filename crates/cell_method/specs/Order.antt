@@ -66,3 +66,8 @@ abbrev pub ClosesAt : Close → Point → Option (List (Option Row)) → Option 
 ClosesAt close.Done at all left = at ≡ Acting
 ClosesAt close.Quit at all left = HasQuit at all left
 ClosesAt close.Long at all left = at ≡ Talking 10000
+
+-- a round whose lines closed so is over: the operator has had his turn, unless the method ended the run
+abbrev pub RoundEndsAt : Close → Point → Option (List (Option Row)) → Option (List (Option Row)) → Type 0
+RoundEndsAt close.Done at all left = at ≡ between
+RoundEndsAt closed at all left = ClosesAt closed at all left

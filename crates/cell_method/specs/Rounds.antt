@@ -222,18 +222,13 @@ abbrev pub BrokeBy : {O : Type 0} → (O → Bool) → (O → ActLog) → BookLi
 BrokeBy tells log l hands error.OutOfMemory s = IsUnbooked tells log l hands s
 BrokeBy tells log l hands e s = HandsFit tells log hands s
 
--- the end that a round set at this point, if it set one: the method ended the run in the round, or the journal does
--- once the round is closed
-abbrev pub EndedBy : Plan → List Entry → Point → Option (List (Option Row)) → Option (List (Option Row))
-    → Option DriveEnd → Type 0
-EndedBy p J at all left (Some ends.Quit) = HasQuit at all left
-EndedBy p J at all left (Some ends.TooManyLines) = at ≡ Talking 10000
-EndedBy p J at all left e = (at ≡ between) × (e ≡ end_by p J)
-
--- a run that stands so at this point has come to this end
+-- a run that stands so at this point has come to this end: the method ended it in a round, or between two rounds the
+-- journal does, or there were as many rounds as the plan allows
 abbrev pub EndsAs : Plan → Stand → Point → Option (List (Option Row)) → Option (List (Option Row)) → DriveEnd → Type 0
+EndsAs p s at all left ends.Quit = HasQuit at all left
+EndsAs p s at all left ends.TooManyLines = at ≡ Talking 10000
 EndsAs p s at all left ends.TurnLimit = (at ≡ between) × (end_by p s.journal ≡ None) × (s.rounds ≡ p.turns)
-EndsAs p s at all left e = EndedBy p s.journal at all left (Some e)
+EndsAs p s at all left e = (at ≡ between) × (Some e ≡ end_by p s.journal)
 
 -- a run: events led in their order from its start to its end, to the journal, to what the ports and the hands were
 -- asked and to the text that was written

@@ -4,6 +4,7 @@ ghost use Rattle.cell_types.specs.Entries.{actor_of, command_of};
 ghost use Rattle.cell_types.specs.declared.words.Actor.TheVariants as actors;
 ghost use Rattle.cell_rules.specs.Legal.{first_of};
 ghost use Rattle.cell_ports.specs.Logs.{after_sending};
+ghost use Rattle.cell_method.specs.Conversations.{IsSameWriter};
 ghost use Rattle.cell_method.specs.Lines.{lines_left};
 ghost use Rattle.cell_method.specs.Asked.{to_book};
 ghost use Rattle.cell_method.specs.Order.{ClosesAt, Point, Talking};
@@ -11,8 +12,8 @@ ghost use Rattle.cell_method.specs.Replies.{booked_as};
 ghost use Rattle.cell_method.specs.Rounds.{AnswersBy, Broke, Fits, Goes, SameDesk, Stand, after_ask, after_judging};
 
 use crate::ask::{Ask, ask_of};
+use crate::conversation::Conversation;
 use crate::error::DriveError;
-use crate::line::LineReader;
 use crate::onlooker::Onlooker;
 use crate::reply::{Reply, tell};
 use cell_ports::Port;
@@ -115,35 +116,35 @@ fn take<P: Port, L: Onlooker>(
 
 /// Answers the lines of a round, each before it reads on.
 pub(crate) fn take_lines<R: TellsFault, W: Write, P: Port, L: Onlooker>(
-    lines: &mut LineReader<R>,
+    method: &mut Conversation<'_, R, W>,
     book: &mut Book,
     ports: &mut Ports<P>,
-    writer: &mut W,
     onlooker: &mut L,
 ) -> Result<Close, DriveError>
     ensures goes { IfOk result (λ close. (s : Stand) → Fits P.tells P.log book.old.entries ports.old s
-        → (to : Point) × ClosesAt close to (lines_left R.remaining lines.old) (lines_left R.remaining lines.new)
-        × Goes P.tells P.log book.old.limits s (Talking 0) to (lines_left R.remaining lines.old)
-        (lines_left R.remaining lines.new) book.new.entries ports.new (SameDesk s) (W.contents writer.old)
-        (W.contents writer.new)) }
+        → (to : Point) × ClosesAt close to (lines_left R.remaining method.old.lines)
+        (lines_left R.remaining method.new.lines) × Goes P.tells P.log book.old.limits s (Talking 0) to
+        (lines_left R.remaining method.old.lines) (lines_left R.remaining method.new.lines) book.new.entries ports.new
+        (SameDesk s) (W.contents method.old.writer.now) (W.contents method.new.writer.now)) }
     ensures broke { IsErr result → (s : Stand) → Fits P.tells P.log book.old.entries ports.old s
-        → Broke P.tells P.log book.old.limits s (Talking 0) (lines_left R.remaining lines.old) book.new.entries
+        → Broke P.tells P.log book.old.limits s (Talking 0) (lines_left R.remaining method.old.lines) book.new.entries
         ports.new (SameDesk s) }
     ensures memory { IfErr result (λ e. e ≢ DriveError.OutOfMemory) }
     ensures limits { book.new.limits ≡ book.old.limits }
+    ensures writer { IsSameWriter method.old method.new }
 {
     for _count in 0..MAX_LINES {
-        if !lines.advance()? {
+        if !method.lines.advance()? {
             return Ok(Close::Quit);
         }
-        let wanted = match ask_of(lines) {
+        let wanted = match ask_of(&method.lines) {
             Ask::Done => return Ok(Close::Done),
             Ask::Quit => return Ok(Close::Quit),
             Ask::Book(entry) => Some(entry),
             Ask::Nothing => None,
         };
-        let reply = take(wanted, lines.four(), book, ports, onlooker);
-        tell(writer, reply)?;
+        let reply = take(wanted, method.lines.four(), book, ports, onlooker);
+        tell(method.writer, reply)?;
     }
     Ok(Close::Long)
 }

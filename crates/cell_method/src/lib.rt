@@ -7,6 +7,7 @@
 
 mod ask;
 mod booking;
+mod conversation;
 mod entry_line;
 mod error;
 mod line;
@@ -19,6 +20,7 @@ mod split;
 
 pub use ask::{Ask, ask_of};
 pub use booking::MAX_LINES;
+pub use conversation::Conversation;
 pub use entry_line::tell_entries;
 pub use error::DriveError;
 pub use line::{LineReader, ReadFault};

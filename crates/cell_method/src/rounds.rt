@@ -5,19 +5,21 @@ ghost use Rattle.cell_types.specs.declared.words.Entry.{Entry as EntryValue};
 ghost use Rattle.cell_rules.specs.declared.limits.BookLimits.{BookLimits};
 ghost use Rattle.cell_rules.specs.Legal.{legal};
 ghost use Rattle.cell_rules.specs.Safety.{IsSafe};
+ghost use Rattle.cell_method.specs.Conversations.{IsSameWriter};
 ghost use Rattle.cell_method.specs.Ends.{end_by, is_finished};
 ghost use Rattle.cell_method.specs.Lines.{Row, lines_left};
-ghost use Rattle.cell_method.specs.Order.{Point, Showing, between};
-ghost use Rattle.cell_method.specs.Rounds.{Broke, BrokeBy, Driven, EndedBy, Fits, FitsDesk, Goes, HandsFit, SameDesk};
+ghost use Rattle.cell_method.specs.Order.{Point, RoundEndsAt, Showing, between};
+ghost use Rattle.cell_method.specs.Rounds.{Broke, BrokeBy, Driven, Fits, FitsDesk, Goes, HandsFit, SameDesk};
 ghost use Rattle.cell_method.specs.Rounds.{Stand, start};
 ghost use Rattle.cell_method.specs.Shown.{round_line};
 
 use crate::booking::{Close, take_lines};
+use crate::conversation::Conversation;
 use crate::error::DriveError;
-use crate::line::LineReader;
 use crate::onlooker::Onlooker;
 use crate::operator::{Desk, operate};
 use crate::reading_line::show;
+use cell_plant::Ported;
 use cell_ports::{OperatorPort, Plan, Port};
 use cell_rows::TellsFault;
 use cell_turns::Ports;
@@ -89,118 +91,113 @@ fn end_at(book: &Book, plan: &Plan) -> Option<DriveEnd>
     }
 }
 
-// The round of a number. It answers the end that it sets, if it does.
+// The round of a number, and how its lines closed. Where the method said that the round is over, the operator has had
+// his turn too.
 fn take_round<R: TellsFault, W: Write, P: Port, O: OperatorPort, L: Onlooker>(
     number: u32,
-    lines: &mut LineReader<R>,
+    method: &mut Conversation<'_, R, W>,
     book: &mut Book,
-    ports: &mut Ports<P>,
-    hands: &mut O,
+    cell: &mut Ported<P, O>,
     desk: &mut Desk,
-    plan: &Plan,
-    writer: &mut W,
     onlooker: &mut L,
-) -> Result<Option<DriveEnd>, DriveError>
-    ensures goes { IfOk result (λ end. (s : Stand) (rounds : ℕ) → rounds + 1 ≡ number
-        → Fits P.tells P.log book.old.entries ports.old s
-        → FitsDesk O.tells O.log desk.old.script desk.old.lost hands.old rounds s
-        → (to : Point) × EndedBy plan.now book.new.entries to (lines_left R.remaining lines.old)
-        (lines_left R.remaining lines.new) end × Goes P.tells P.log book.old.limits s between to
-        (lines_left R.remaining lines.old) (lines_left R.remaining lines.new) book.new.entries ports.new
-        (FitsDesk O.tells O.log desk.new.script desk.new.lost hands.new number) (W.contents writer.old)
-        (W.contents writer.new)) }
+) -> Result<Close, DriveError>
+    ensures goes { IfOk result (λ close. (s : Stand) (rounds : ℕ) → rounds + 1 ≡ number
+        → Fits P.tells P.log book.old.entries cell.old.ports s
+        → FitsDesk O.tells O.log desk.old.script desk.old.lost cell.old.hands rounds s
+        → (to : Point) × RoundEndsAt close to (lines_left R.remaining method.old.lines)
+        (lines_left R.remaining method.new.lines) × Goes P.tells P.log book.old.limits s between to
+        (lines_left R.remaining method.old.lines) (lines_left R.remaining method.new.lines) book.new.entries
+        cell.new.ports (FitsDesk O.tells O.log desk.new.script desk.new.lost cell.new.hands number)
+        (W.contents method.old.writer.now) (W.contents method.new.writer.now)) }
     ensures broke { IfErr result (λ e. (s : Stand) (rounds : ℕ) → rounds + 1 ≡ number
-        → Fits P.tells P.log book.old.entries ports.old s
-        → FitsDesk O.tells O.log desk.old.script desk.old.lost hands.old rounds s
-        → Broke P.tells P.log book.old.limits s between (lines_left R.remaining lines.old) book.new.entries ports.new
-        (BrokeBy O.tells O.log book.old.limits hands.new e)) }
+        → Fits P.tells P.log book.old.entries cell.old.ports s
+        → FitsDesk O.tells O.log desk.old.script desk.old.lost cell.old.hands rounds s
+        → Broke P.tells P.log book.old.limits s between (lines_left R.remaining method.old.lines) book.new.entries
+        cell.new.ports (BrokeBy O.tells O.log book.old.limits cell.new.hands e)) }
     ensures limits { book.new.limits ≡ book.old.limits }
+    ensures writer { IsSameWriter method.old method.new }
 {
-    show_readings(ports, writer)?;
-    open_round(writer, number)?;
+    show_readings(&mut cell.ports, method.writer)?;
+    open_round(method.writer, number)?;
     onlooker.opened(number);
-    match take_lines(lines, book, ports, writer, onlooker)? {
+    match take_lines(method, book, &mut cell.ports, onlooker)? {
         Close::Done => {}
-        Close::Quit => return Ok(Some(DriveEnd::Quit)),
-        Close::Long => return Ok(Some(DriveEnd::TooManyLines)),
+        Close::Quit => return Ok(Close::Quit),
+        Close::Long => return Ok(Close::Long),
     }
-    operate(desk, hands, book, writer, onlooker)?;
+    operate(desk, &mut cell.hands, book, method.writer, onlooker)?;
     onlooker.closed();
-    Ok(end_at(book, plan))
+    Ok(Close::Done)
 }
 
 // Rounds, until one ends the run.
 fn take_rounds<R: TellsFault, W: Write, P: Port, O: OperatorPort, L: Onlooker>(
-    lines: &mut LineReader<R>,
+    method: &mut Conversation<'_, R, W>,
     book: &mut Book,
-    ports: &mut Ports<P>,
-    hands: &mut O,
+    cell: &mut Ported<P, O>,
     desk: &mut Desk,
     plan: &Plan,
-    writer: &mut W,
     onlooker: &mut L,
 ) -> Result<DriveEnd, DriveError>
     requires { desk.old.lost ≡ false }
     ensures run { IfOk result (λ end. Driven P.tells P.log plan.now book.old.limits
-        (start P.log book.old.entries ports.old (O.log hands.old) desk.old.script) (lines_left R.remaining lines.old)
-        (lines_left R.remaining lines.new) end book.new.entries ports.new (HandsFit O.tells O.log hands.new)
-        (W.contents writer.old) (W.contents writer.new)) }
+        (start P.log book.old.entries cell.old.ports (O.log cell.old.hands) desk.old.script)
+        (lines_left R.remaining method.old.lines) (lines_left R.remaining method.new.lines) end book.new.entries
+        cell.new.ports (HandsFit O.tells O.log cell.new.hands) (W.contents method.old.writer.now)
+        (W.contents method.new.writer.now)) }
     ensures broke { IfErr result (λ e. Broke P.tells P.log book.old.limits
-        (start P.log book.old.entries ports.old (O.log hands.old) desk.old.script) between
-        (lines_left R.remaining lines.old) book.new.entries ports.new
-        (BrokeBy O.tells O.log book.old.limits hands.new e)) }
+        (start P.log book.old.entries cell.old.ports (O.log cell.old.hands) desk.old.script) between
+        (lines_left R.remaining method.old.lines) book.new.entries cell.new.ports
+        (BrokeBy O.tells O.log book.old.limits cell.new.hands e)) }
     ensures limits { book.new.limits ≡ book.old.limits }
+    ensures writer { IsSameWriter method.old method.new }
 {
     for round in 0..plan.turns {
-        let end = take_round(
-            round + 1,
-            lines,
-            book,
-            ports,
-            hands,
-            desk,
-            plan,
-            writer,
-            onlooker,
-        )?;
-        if let Some(end) = end {
+        match take_round(round + 1, method, book, cell, desk, onlooker)? {
+            Close::Done => {}
+            Close::Quit => return Ok(DriveEnd::Quit),
+            Close::Long => return Ok(DriveEnd::TooManyLines),
+        }
+        if let Some(end) = end_at(book, plan) {
             return Ok(end);
         }
     }
     Ok(DriveEnd::TurnLimit)
 }
 
-/// Lets a method drive a cell over these ports, in rounds, by entries.
+/// Lets a method drive a cell over these ports and hands, in rounds, by entries.
 pub fn drive<R: TellsFault, W: Write, P: Port, O: OperatorPort, L: Onlooker>(
-    lines: &mut LineReader<R>,
+    method: &mut Conversation<'_, R, W>,
     book: &mut Book,
-    ports: &mut Ports<P>,
-    hands: &mut O,
+    cell: &mut Ported<P, O>,
     script: Script,
     plan: &Plan,
-    writer: &mut W,
     onlooker: &mut L,
 ) -> Result<DriveEnd, DriveError>
     // Events lead in their order from the start to this end, to the journal, to what the ports were asked, to what the
     // operator's hands did and to what was written.
     ensures run { IfOk result (λ end. Driven P.tells P.log plan.now book.old.limits
-        (start P.log book.old.entries ports.old (O.log hands.old) script) (lines_left R.remaining lines.old)
-        (lines_left R.remaining lines.new) end book.new.entries ports.new (HandsFit O.tells O.log hands.new)
-        (W.contents writer.old) (W.contents writer.new)) }
+        (start P.log book.old.entries cell.old.ports (O.log cell.old.hands) script)
+        (lines_left R.remaining method.old.lines) (lines_left R.remaining method.new.lines) end book.new.entries
+        cell.new.ports (HandsFit O.tells O.log cell.new.hands) (W.contents method.old.writer.now)
+        (W.contents method.new.writer.now)) }
     // The same where it breaks off, but for what was written and which lines are left. Memory is refused only to the
     // booking of a plate that the operator has taken out.
     ensures broke { IfErr result (λ e. Broke P.tells P.log book.old.limits
-        (start P.log book.old.entries ports.old (O.log hands.old) script) between (lines_left R.remaining lines.old)
-        book.new.entries ports.new (BrokeBy O.tells O.log book.old.limits hands.new e)) }
+        (start P.log book.old.entries cell.old.ports (O.log cell.old.hands) script) between
+        (lines_left R.remaining method.old.lines) book.new.entries cell.new.ports
+        (BrokeBy O.tells O.log book.old.limits cell.new.hands e)) }
     ensures legal { legal book.new.limits book.new.entries ≡ true }
     ensures safe { IsSafe book.new.entries }
     ensures limits { book.new.limits ≡ book.old.limits }
+    // What the method is told still goes to the same writer.
+    ensures writer { IsSameWriter method.old method.new }
 {
     let mut desk = Desk {
         script,
         lost: false,
     };
-    let answer = take_rounds(lines, book, ports, hands, &mut desk, plan, writer, onlooker);
+    let answer = take_rounds(method, book, cell, &mut desk, plan, onlooker);
     book.is_lawful();
     answer
 }

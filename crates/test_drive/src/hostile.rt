@@ -2,6 +2,7 @@
 use crate::sample::{COMMANDS, ENTRIES, driven, has_line};
 use cell_drive::{DriveOptions, drive_texts};
 use cell_output::WriteFault;
+use cell_runs::Texts;
 use std::process::Abort;
 use std::sync::Wait;
 use std::test::Fail;
@@ -59,21 +60,17 @@ fn a_round_has_ten_thousand_lines_at_most(rt: HostRuntime) -> Result<(), Fail> {
     Ok(())
 }
 
+// The texts of a run with one plate.
+fn one_plate() -> Texts<'static> {
+    Texts::new(b"plates = 1\n", b"", b"")
+}
+
 // The answer where the reader gives this many bytes of `lamp,feed,green,` and then fails.
 fn over_failing_reader<R: AllocGlobal + Abort + Wait>(rt: &R, driving: DriveOptions<'_>) {
     let mut output = Vec::new(rt.alloc());
     let mut errors = Vec::new(rt.alloc());
     let lines = FailingReader::new(b"lamp,feed,green,\nlamp".as_slice(), 19);
-    let answer = drive_texts(
-        rt,
-        b"plates = 1\n".as_slice(),
-        b"".as_slice(),
-        b"".as_slice(),
-        driving,
-        lines,
-        &mut output,
-        &mut errors,
-    );
+    let answer = drive_texts(rt, one_plate(), driving, lines, &mut output, &mut errors);
     assert!(rt; answer == Ok(3));
 }
 
@@ -87,13 +84,12 @@ fn a_reader_that_fails_ends_the_run(rt: HostRuntime) {
 fn a_closed_output_ends_the_run(rt: HostRuntime) {
     let mut errors = Vec::new(rt.alloc());
     for &driving in &[ENTRIES, COMMANDS] {
+        let lines = b"done,,,\n".as_slice();
         let answer = drive_texts(
             &rt,
-            b"plates = 1\n".as_slice(),
-            b"".as_slice(),
-            b"".as_slice(),
+            one_plate(),
             driving,
-            b"done,,,\n".as_slice(),
+            lines,
             &mut Unwilling,
             &mut errors,
         );

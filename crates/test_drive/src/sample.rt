@@ -1,6 +1,6 @@
 //! What a method has written.
 use cell_drive::{DriveOptions, drive_texts};
-use cell_measures::Durations;
+use cell_runs::Texts;
 use std::process::Abort;
 use std::sync::Wait;
 use std::test::Fail;
@@ -10,7 +10,6 @@ pub(crate) const ENTRIES: DriveOptions<'static> = DriveOptions {
     raw: false,
     journal: false,
     explain: false,
-    durations: Durations::ONE,
     from: None,
 };
 
@@ -19,7 +18,6 @@ pub(crate) const COMMANDS: DriveOptions<'static> = DriveOptions {
     raw: true,
     journal: false,
     explain: false,
-    durations: Durations::ONE,
     from: None,
 };
 
@@ -53,16 +51,8 @@ pub(crate) fn driven<R: AllocGlobal + Abort + Wait>(
 ) -> Written {
     let mut output = Vec::new(rt.alloc());
     let mut errors = Vec::new(rt.alloc());
-    let answer = drive_texts(
-        rt,
-        settings.as_bytes(),
-        faults.as_bytes(),
-        operator.as_bytes(),
-        driving,
-        lines,
-        &mut output,
-        &mut errors,
-    );
+    let texts = Texts::new(settings.as_bytes(), faults.as_bytes(), operator.as_bytes());
+    let answer = drive_texts(rt, texts, driving, lines, &mut output, &mut errors);
     assert!(rt; answer == Ok(status));
     Written { output, errors }
 }

@@ -1,4 +1,5 @@
 //! What the tests share: sweeps of few runs, and the lines that they print.
+use cell_output::WatchedWriter;
 use cell_sim::Fault;
 use cell_sweep::{Sweep, sweep_texts};
 use std::process::Abort;
@@ -15,7 +16,8 @@ pub(crate) fn printed<R: AllocGlobal + Abort + Wait>(
     let [settings, operator] = texts;
     let mut output = Vec::new(rt.alloc());
     let mut errors = Vec::new(rt.alloc());
-    let answer = sweep_texts(rt, settings, operator, sweep, &mut output, &mut errors);
+    let mut writer = WatchedWriter::new(&mut output);
+    let answer = sweep_texts(rt, settings, operator, sweep, &mut writer, &mut errors);
     assert!(rt; answer == Ok(status));
     assert!(rt; errors.is_empty() != sweep.progress);
     Ok(String::from_utf8(output).ok().ok_or("no text")?)

@@ -1,6 +1,6 @@
 //! A sweep beside the single runs of which it tells.
 use crate::sweep::sample::{field, in_csv, line_with, printed};
-use cell_output::WriteFault;
+use cell_output::{WatchedWriter, WriteFault};
 use cell_runs::run_texts;
 use cell_sim::Fault;
 use cell_sweep::{Sweep, sweep_texts};
@@ -138,7 +138,8 @@ fn a_long_sweep_begins_at_once(rt: HostRuntime) -> Result<(), Fail> {
     };
     let mut output = FailingWriter::new(Vec::new(rt.alloc()), 350);
     let mut errors = Vec::new(rt.alloc());
-    let answer = sweep_texts(&rt, SETTINGS, b"", longer, &mut output, &mut errors);
+    let mut writer = WatchedWriter::new(&mut output);
+    let answer = sweep_texts(&rt, SETTINGS, b"", longer, &mut writer, &mut errors);
     assert!(rt; answer == Err(WriteFault));
     let written = output.inner().as_slice();
     assert!(rt; written.len() == 350 && due.as_str().as_bytes().starts_with(written));

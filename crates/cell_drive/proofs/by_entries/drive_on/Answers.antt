@@ -6,8 +6,8 @@ use Rattle.cell_method.specs.Rounds.{entry_lines}
 use Rattle.cell_drive.proofs.Drove.{drove, of-ok, of-told}
 use Rattle.cell_drive.proofs.by_entries.drive_on.Goals as goal
 
-pub returns : goal.returns
-returns g c = of-told _ c.tell_run.ensures.told c.tell_run.ensures.status c.tell_run.ensures.memory
+pub returns-clause-run : goal.returns-clause-run
+returns-clause-run g c = of-told _ c.tell_run.ensures.told c.tell_run.ensures.status c.tell_run.ensures.memory
     (λ status told is ended.
     drove _ _ c.args.inputs.plan c.args.inputs.script c.args.book.entries _ _ _ _ _ _ _ _ _ _ _ _ _ _ status
     refl c.requires

@@ -9,10 +9,11 @@ use Rattle.cell_method.proofs.booking.take_lines.Goals.{in-Book, in-Nothing}
 
 pub loop-count-init : goal.loop-count-init
 loop-count-init g c = record {
+  writer = refl;
   limits = refl;
   goes = λ s fits. goes-nothing g.P.Port.tells g.P.Port.log c.args.book.now.limits s (Talking 0)
-      (lines_left g.R.Read.remaining c.args.lines.now) c.args.book.now.entries c.args.ports.now
-      (g.W.Write.contents c.args.writer.now) fits;
+      (lines_left g.R.Read.remaining c.args.method.now.lines) c.args.book.now.entries c.args.ports.now
+      (g.W.Write.contents c.args.method.now.writer.now) fits;
 }
 
 pub returns-in_err-advance-clause-broke : goal.returns-in_err-advance-clause-broke
@@ -23,9 +24,9 @@ pub returns-then-not-branch-clause-goes : goal.returns-then-not-branch-clause-go
 returns-then-not-branch-clause-goes g c = λ s fits.
     let found : c.in_ok-advance.field-0 ≡ false = search rules in
     let goes = c.loop-count.invariant.goes s fits in
-    let takes : TakesLine (lines_left g.R.Read.remaining c.loop-count.lines)
+    let takes : TakesLine (lines_left g.R.Read.remaining c.loop-count.method.lines)
     (lines_left g.R.Read.remaining c.advance.new.self) (current c.advance.new.self) false =
-    (subst (TakesLine (lines_left g.R.Read.remaining c.loop-count.lines)
+    (subst (TakesLine (lines_left g.R.Read.remaining c.loop-count.method.lines)
     (lines_left g.R.Read.remaining c.advance.new.self)
     (current c.advance.new.self)) found c.in_ok-advance.ensures.line) in (
       Talking c.loop-count._count,
@@ -41,7 +42,7 @@ returns-in-Done-clause-goes g c = λ s fits.
       Acting,
       refl,
       goes-close _ _ _ _ _ _ _ _ _ _ _ _ _ _ (current c.advance.new.self) _ (c.loop-count.invariant.goes s fits)
-          (subst (TakesLine (lines_left g.R.Read.remaining c.loop-count.lines)
+          (subst (TakesLine (lines_left g.R.Read.remaining c.loop-count.method.lines)
           (lines_left g.R.Read.remaining c.advance.new.self)
           (current c.advance.new.self)) found c.in_ok-advance.ensures.line)
           few c.in-Done.ensures (λ t. refl),
@@ -54,7 +55,7 @@ returns-in-Quit-clause-goes g c = λ s fits.
       Over,
       tt,
       goes-close _ _ _ _ _ _ _ _ _ _ _ _ _ _ (current c.advance.new.self) _ (c.loop-count.invariant.goes s fits)
-          (subst (TakesLine (lines_left g.R.Read.remaining c.loop-count.lines)
+          (subst (TakesLine (lines_left g.R.Read.remaining c.loop-count.method.lines)
           (lines_left g.R.Read.remaining c.advance.new.self)
           (current c.advance.new.self)) found c.in_ok-advance.ensures.line)
           few c.in-Quit.ensures (λ t. refl),
@@ -74,7 +75,7 @@ returns-in_err-tell-clause-broke g c =
     let (failed, answers) = c.take-reply.ensures.answers in
     λ _ s fits. broke-line _ _ _ _ _ _ _ _ _ _ _ _ _ _ _ (current c.advance.new.self) c.match-ask_of.wanted
     failed c.take-reply.result (c.loop-count.invariant.goes s fits)
-    (subst (TakesLine (lines_left g.R.Read.remaining c.loop-count.lines)
+    (subst (TakesLine (lines_left g.R.Read.remaining c.loop-count.method.lines)
     (lines_left g.R.Read.remaining c.advance.new.self)
     (current c.advance.new.self)) found c.in_ok-advance.ensures.line)
     few asks (answers-limits _ _ _ _ _ _ _ _ _ _ _ c.loop-count.invariant.limits answers)
@@ -91,10 +92,11 @@ loop-count-preserved g c =
     let few : c.loop-count._count < 10000 = search (rules, tests) in
     let (failed, answers) = c.take-reply.ensures.answers in
     record {
+      writer = c.loop-count.invariant.writer;
       limits = c.take-reply.ensures.limits ∙ c.loop-count.invariant.limits;
       goes = λ s fits. goes-line _ _ _ _ _ _ _ _ _ _ _ _ _ _ _ _ (current c.advance.new.self)
           c.match-ask_of.wanted failed c.take-reply.result (c.loop-count.invariant.goes s fits)
-          (subst (TakesLine (lines_left g.R.Read.remaining c.loop-count.lines)
+          (subst (TakesLine (lines_left g.R.Read.remaining c.loop-count.method.lines)
           (lines_left g.R.Read.remaining c.advance.new.self) (current c.advance.new.self)) found
           c.in_ok-advance.ensures.line)
           few asks (answers-limits _ _ _ _ _ _ _ _ _ _ _ c.loop-count.invariant.limits answers)

@@ -1,8 +1,6 @@
 use Rattle.std.proofs.Common.{refl, rules}
-use Rattle.cell_method.specs.Lines.{lines_left}
 use Rattle.cell_method.specs.Order.{between}
 use Rattle.cell_method.specs.declared.booking.Close.TheVariants as close
-use Rattle.cell_method.proofs.Ending.{closed-ends}
 use Rattle.cell_method.proofs.Runs.{broke-here, broke-operated, goes-operated, lines-broke, lines-done}
 use Rattle.cell_method.proofs.Runs.{lines-taken, readings-broke}
 use Rattle.cell_method.proofs.Turns.{err-of}
@@ -53,8 +51,7 @@ returns-clause-goes g c = λ s rounds next fits desk.
     next (c.in_ok-show_readings.ensures.goes _ s _ _ fits) c.in_ok-open_round.ensures.told (search rules)
     c.in_ok-take_lines.ensures.goes in (
       between,
-      closed-ends c.args.plan.now c.operate.new.book.entries (lines_left g.R.Read.remaining c.args.lines.now)
-          (lines_left g.R.Read.remaining c.take_lines.new.lines) _ c.end_at.ensures,
+      refl,
       goes-operated _ _ _ _ _ _ _ _ _ _ _ _ _ _ _ _ _ _ _ _ _ _ _ failed c.in_ok-take_lines.ensures.limits
           (lines-done _ _ _ _ _ _ _ _ _ _ _ taken) operates,
     )
