@@ -10,6 +10,6 @@ mod operator;
 mod plates;
 mod words;
 
-pub use ending::write_ending;
+pub use ending::{EndedRun, write_ending};
 pub use faults::motions;
 pub use operator::lines_done;

@@ -170,19 +170,28 @@ fn say_journal(alloc: Global, text: &[u8]) -> Said
     }
 }
 
-/// Writes what is to be said of a journal's text, as `explain_journal` does, to a writer that notes whether a write of
-/// it was refused.
-pub fn explain_journal_watched<W: Write>(
+/// Writes what is to be said of a journal's text to a writer that notes whether a write of it was refused, and gives
+/// the exit status, which is the audit's.
+///
+/// A legal journal: the audit's lines, status 0. A refused entry: its line, its number, its record, the refusal, also
+/// as a sentence, and since which entry it is so, in one line, status 1. A record that can't be read: its line, its
+/// number, itself and what may stand in the first field that can't be read, status 1. Lines are counted from 1, and a
+/// record's line is the one in which it begins. Where memory is refused (status 4) nothing is written.
+pub fn explain_journal<W: Write>(
     alloc: Global,
     text: &[u8],
     writer: &mut WatchedWriter<'_, W>,
 ) -> Result<u8, WriteFault>
     ensures writer { IsSameWriter writer.old writer.new }
+    // The status is that of an answer of the audit.
     ensures status { IfOk result (EndsAsAudit text.now) }
+    // Of a legal journal what is written is the audit's lines.
     ensures legal { IfOk result (λ s. s ≡ 0
         → TellsAudit (Some text.now) (bytes_held W.contents writer.old) (bytes_held W.contents writer.new) s) }
+    // What is written is what is said of the text with this status.
     ensures told { IfOk result (λ s. Tells (SaysJournal text.now s) (bytes_held W.contents writer.old)
         (bytes_held W.contents writer.new)) }
+    // Where the writer failed, a first part of it was written.
     ensures part { IsErr result → (s : ℕ) × TellsPart (SaysJournal text.now s) (bytes_held W.contents writer.old)
         (bytes_held W.contents writer.new) }
     // It answers that the writer failed only where a write was refused.
@@ -190,33 +199,4 @@ pub fn explain_journal_watched<W: Write>(
 {
     let said = say_journal(alloc, text);
     said.write(writer)
-}
-
-/// Writes what is to be said of a journal's text, and gives the exit status, which is the audit's.
-///
-/// A legal journal: the audit's lines, status 0. A refused entry: its line, its number, its record, the refusal, also
-/// as a sentence, and since which entry it is so, in one line, status 1. A record that can't be read: its line, its
-/// number, itself and what may stand in the first field that can't be read, status 1. Lines are counted from 1, and a
-/// record's line is the one in which it begins. Where memory is refused (status 4) nothing is written.
-///
-/// That `WriteFault` comes only where a refused write was noted is a clause of `explain_journal_watched`, of which this
-/// is the case of a new writer that notes.
-pub fn explain_journal<W: Write>(
-    alloc: Global,
-    text: &[u8],
-    writer: &mut W,
-) -> Result<u8, WriteFault>
-    // The status is that of an answer of the audit.
-    ensures status { IfOk result (EndsAsAudit text.now) }
-    // Of a legal journal what is written is the audit's lines.
-    ensures legal { IfOk result (λ s. s ≡ 0
-        → TellsAudit (Some text.now) (W.contents writer.old) (W.contents writer.new) s) }
-    // What is written is what is said of the text with this status.
-    ensures told { IfOk result (λ s. Tells (SaysJournal text.now s) (W.contents writer.old) (W.contents writer.new)) }
-    // Where the writer failed, a first part of it was written.
-    ensures part { IsErr result → (s : ℕ) × TellsPart (SaysJournal text.now s) (W.contents writer.old)
-        (W.contents writer.new) }
-{
-    let mut writer = WatchedWriter::new(writer);
-    explain_journal_watched(alloc, text, &mut writer)
 }

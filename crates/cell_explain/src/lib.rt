@@ -17,8 +17,6 @@ mod unread;
 mod wanted;
 mod words;
 
-pub use journal::{explain_journal, explain_journal_watched};
-pub use script::{
-    explain_faults, explain_faults_watched, explain_operator, explain_operator_watched,
-};
-pub use settings::{explain_settings, explain_settings_watched};
+pub use journal::explain_journal;
+pub use script::{explain_faults, explain_operator};
+pub use settings::explain_settings;

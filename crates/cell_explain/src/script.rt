@@ -99,17 +99,24 @@ fn say_script<L: ScriptLine + Drop>(alloc: Global, text: &[u8], name: &str, kind
     say_lines(alloc, text, name, kind, &answer)
 }
 
-/// Writes what is to be said of a script of faults, as `explain_faults` does, to a writer that notes whether a write of
-/// it was refused.
-pub fn explain_faults_watched<W: Write>(
+/// Writes what is to be said of a script of faults to a writer that notes whether a write of it was refused, and gives
+/// the exit status.
+///
+/// A good script: how many lines it has, status 0. The first record that is no fault: its line, its number, itself and
+/// what may stand in the first field that can't be read, status 1; of a second fault of one motion that it is one. More
+/// than 1,000 records: the line of the first too many, status 1. Where memory is refused (status 4) nothing is written.
+pub fn explain_faults<W: Write>(
     alloc: Global,
     text: &[u8],
     writer: &mut WatchedWriter<'_, W>,
 ) -> Result<u8, WriteFault>
     ensures writer { IsSameWriter writer.old writer.new }
+    // The status is that of an answer to the script.
     ensures status { IfOk result (EndsAsFaults text.now) }
+    // What is written is what is said of the script with this status.
     ensures told { IfOk result (λ s. Tells (SaysScript (codes "faults") next_fault text.now s)
         (bytes_held W.contents writer.old) (bytes_held W.contents writer.new)) }
+    // Where the writer failed, a first part of it was written.
     ensures part { IsErr result → (s : ℕ) × TellsPart (SaysScript (codes "faults") next_fault text.now s)
         (bytes_held W.contents writer.old) (bytes_held W.contents writer.new) }
     // It answers that the writer failed only where a write was refused.
@@ -119,43 +126,24 @@ pub fn explain_faults_watched<W: Write>(
     said.write(writer)
 }
 
-/// Writes what is to be said of a script of faults, and gives the exit status.
+/// Writes what is to be said of the operator's script to a writer that notes whether a write of it was refused, and
+/// gives the exit status.
 ///
-/// A good script: how many lines it has, status 0. The first record that is no fault: its line, its number, itself and
-/// what may stand in the first field that can't be read, status 1; of a second fault of one motion that it is one. More
-/// than 1,000 records: the line of the first too many, status 1. Where memory is refused (status 4) nothing is written.
-///
-/// That `WriteFault` comes only where a refused write was noted is a clause of `explain_faults_watched`, of which this
-/// is the case of a new writer that notes.
-pub fn explain_faults<W: Write>(
-    alloc: Global,
-    text: &[u8],
-    writer: &mut W,
-) -> Result<u8, WriteFault>
-    // The status is that of an answer to the script.
-    ensures status { IfOk result (EndsAsFaults text.now) }
-    // What is written is what is said of the script with this status.
-    ensures told { IfOk result (λ s. Tells (SaysScript (codes "faults") next_fault text.now s) (W.contents writer.old)
-        (W.contents writer.new)) }
-    // Where the writer failed, a first part of it was written.
-    ensures part { IsErr result → (s : ℕ) × TellsPart (SaysScript (codes "faults") next_fault text.now s)
-        (W.contents writer.old) (W.contents writer.new) }
-{
-    let mut writer = WatchedWriter::new(writer);
-    explain_faults_watched(alloc, text, &mut writer)
-}
-
-/// Writes what is to be said of the operator's script, as `explain_operator` does, to a writer that notes whether a
-/// write of it was refused.
-pub fn explain_operator_watched<W: Write>(
+/// A good script: how many lines it has, status 0. The first record that is no line: its line, its number, itself and
+/// what may stand in the first field that can't be read, status 1. More than 1,000 records: the line of the first too
+/// many, status 1. Where memory is refused (status 4) nothing is written.
+pub fn explain_operator<W: Write>(
     alloc: Global,
     text: &[u8],
     writer: &mut WatchedWriter<'_, W>,
 ) -> Result<u8, WriteFault>
     ensures writer { IsSameWriter writer.old writer.new }
+    // The status is that of an answer to the script.
     ensures status { IfOk result (EndsAsScript text.now) }
+    // What is written is what is said of the script with this status.
     ensures told { IfOk result (λ s. Tells (SaysScript (codes "operator") line_of text.now s)
         (bytes_held W.contents writer.old) (bytes_held W.contents writer.new)) }
+    // Where the writer failed, a first part of it was written.
     ensures part { IsErr result → (s : ℕ) × TellsPart (SaysScript (codes "operator") line_of text.now s)
         (bytes_held W.contents writer.old) (bytes_held W.contents writer.new) }
     // It answers that the writer failed only where a write was refused.
@@ -163,30 +151,4 @@ pub fn explain_operator_watched<W: Write>(
 {
     let said = say_script::<Line>(alloc, text, "operator", Kind::Operator);
     said.write(writer)
-}
-
-/// Writes what is to be said of the operator's script, and gives the exit status.
-///
-/// A good script: how many lines it has, status 0. The first record that is no line: its line, its number, itself and
-/// what may stand in the first field that can't be read, status 1. More than 1,000 records: the line of the first too
-/// many, status 1. Where memory is refused (status 4) nothing is written.
-///
-/// That `WriteFault` comes only where a refused write was noted is a clause of `explain_operator_watched`, of which
-/// this is the case of a new writer that notes.
-pub fn explain_operator<W: Write>(
-    alloc: Global,
-    text: &[u8],
-    writer: &mut W,
-) -> Result<u8, WriteFault>
-    // The status is that of an answer to the script.
-    ensures status { IfOk result (EndsAsScript text.now) }
-    // What is written is what is said of the script with this status.
-    ensures told { IfOk result (λ s. Tells (SaysScript (codes "operator") line_of text.now s) (W.contents writer.old)
-        (W.contents writer.new)) }
-    // Where the writer failed, a first part of it was written.
-    ensures part { IsErr result → (s : ℕ) × TellsPart (SaysScript (codes "operator") line_of text.now s)
-        (W.contents writer.old) (W.contents writer.new) }
-{
-    let mut writer = WatchedWriter::new(writer);
-    explain_operator_watched(alloc, text, &mut writer)
 }

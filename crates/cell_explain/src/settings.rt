@@ -235,17 +235,24 @@ fn say_settings(alloc: Global, text: &[u8]) -> Said
     said
 }
 
-/// Writes what is to be said of settings, as `explain_settings` does, to a writer that notes whether a write of it was
-/// refused.
-pub fn explain_settings_watched<W: Write>(
+/// Writes what is to be said of settings to a writer that notes whether a write of it was refused, and gives the exit
+/// status, which is that of `check_lines`.
+///
+/// First the line of `check_lines`. Of settings that are refused there is a second line: where they are wrong and what
+/// is wanted there. A text that is no TOML is told by its line and column, a key by its line where that is found, and
+/// by its path. Where memory is refused (status 4) nothing is written.
+pub fn explain_settings<W: Write>(
     alloc: Global,
     text: &[u8],
     writer: &mut WatchedWriter<'_, W>,
 ) -> Result<u8, WriteFault>
     ensures writer { IsSameWriter writer.old writer.new }
+    // The status is that of an answer to the settings.
     ensures status { IfOk result (EndsAsCheck text.now) }
+    // What is written is what is said of the settings with this status.
     ensures told { IfOk result (λ s. Tells (SaysSettings text.now s) (bytes_held W.contents writer.old)
         (bytes_held W.contents writer.new)) }
+    // Where the writer failed, a first part of it was written.
     ensures part { IsErr result → (s : ℕ) × TellsPart (SaysSettings text.now s) (bytes_held W.contents writer.old)
         (bytes_held W.contents writer.new) }
     // It answers that the writer failed only where a write was refused.
@@ -253,29 +260,4 @@ pub fn explain_settings_watched<W: Write>(
 {
     let said = say_settings(alloc, text);
     said.write(writer)
-}
-
-/// Writes what is to be said of settings, and gives the exit status, which is that of `check_lines`.
-///
-/// First the line of `check_lines`. Of settings that are refused there is a second line: where they are wrong and what
-/// is wanted there. A text that is no TOML is told by its line and column, a key by its line where that is found, and
-/// by its path. Where memory is refused (status 4) nothing is written.
-///
-/// That `WriteFault` comes only where a refused write was noted is a clause of `explain_settings_watched`, of which
-/// this is the case of a new writer that notes.
-pub fn explain_settings<W: Write>(
-    alloc: Global,
-    text: &[u8],
-    writer: &mut W,
-) -> Result<u8, WriteFault>
-    // The status is that of an answer to the settings.
-    ensures status { IfOk result (EndsAsCheck text.now) }
-    // What is written is what is said of the settings with this status.
-    ensures told { IfOk result (λ s. Tells (SaysSettings text.now s) (W.contents writer.old) (W.contents writer.new)) }
-    // Where the writer failed, a first part of it was written.
-    ensures part { IsErr result → (s : ℕ) × TellsPart (SaysSettings text.now s) (W.contents writer.old)
-        (W.contents writer.new) }
-{
-    let mut writer = WatchedWriter::new(writer);
-    explain_settings_watched(alloc, text, &mut writer)
 }

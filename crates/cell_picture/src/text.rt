@@ -69,14 +69,8 @@ const SENTENCE: usize = 160;
 /// its plates, its axes and what is booked of it, and beside them the zones' holders and the counts. The answer stands
 /// in the last line, where there is one. Frames and arrows are of ASCII, or of Unicode where that is asked for.
 ///
-/// After `WriteFault` a first part of the text was written. That it comes only where a refused write was noted is a
-/// clause of `draw_text_watched`, of which this is the case of a new writer.
-pub fn draw_text<W: Write>(writer: &mut W, scene: &Scene, unicode: bool) -> Result<(), WriteFault> {
-    draw_text_watched(&mut WatchedWriter::new(writer), scene, unicode)
-}
-
-/// Draws a scene as text over a writer that notes whether a write of it was refused.
-pub fn draw_text_watched<W: Write>(
+/// The writer notes whether a write of it was refused. After `WriteFault` a first part of the text was written.
+pub fn draw_text<W: Write>(
     writer: &mut WatchedWriter<'_, W>,
     scene: &Scene,
     unicode: bool,

@@ -14,7 +14,7 @@ use crate::page::write_page;
 use cell_audit::{AuditError, read_rows};
 use cell_drawing::draw_picture;
 use cell_measures::Durations;
-use cell_output::status;
+use cell_output::{WatchedWriter, status};
 use cell_picture::{Scene, draw_text, facts_after};
 use cell_rows::{RowReader, TellsFault, Watched};
 use cell_types::{Entry, Totals, read_fields};
@@ -39,6 +39,15 @@ pub enum Form {
     TimedPage(Durations),
     /// As one picture file in which the entries play, in SVG.
     Moving,
+}
+
+// Where the reading of a text stopped.
+#[derive(Clone, Copy)]
+struct Stop {
+    // The audit's answer, unless it is that the text is legal.
+    answer: Option<AuditError>,
+    // The entry of the record that was read last, if it is one's.
+    entry: Option<Entry>,
 }
 
 // The status of an audit's answer.
@@ -119,31 +128,27 @@ fn barred(book: &Book, stopped: Option<Entry>) -> Option<Entry>
 }
 
 // The entry at which a text stopped, if the answer is that it is refused and its book refuses it.
-fn refused_entry(book: &Book, answer: Option<AuditError>, stopped: Option<Entry>) -> Option<Entry>
-    ensures { IsRefused book.now.entries answer result }
+fn refused_entry(book: &Book, stop: Stop) -> Option<Entry>
+    ensures { IsRefused book.now.entries stop.answer result }
 {
-    match answer {
-        Some(AuditError::Refused(_, _)) => barred(book, stopped),
+    match stop.answer {
+        Some(AuditError::Refused(_, _)) => barred(book, stop.entry),
         Some(AuditError::Unreadable(_)) | Some(AuditError::ReadFault) => None,
         Some(AuditError::OutOfMemory) | None => None,
     }
 }
 
 // Writes the page of a book.
-fn draw_page<W: Write>(
-    writer: &mut W,
-    book: &Book,
-    answer: Option<AuditError>,
-    stopped: Option<Entry>,
-) -> Result<bool, ShowError>
+fn draw_page<W: Write>(writer: &mut W, book: &Book, stop: Stop) -> Result<bool, ShowError>
     ensures entry { (n : ℕ) → result ≢ Err (ShowError.NoSuchEntry n) }
     ensures long { result ≡ Err ShowError.TooManyEntries → 20000 < length book.now.entries }
-    ensures page { result ≡ Ok true → IsPage Form.Page book.now.entries answer (W.contents writer.old)
+    ensures page { result ≡ Ok true → IsPage Form.Page book.now.entries stop.answer (W.contents writer.old)
         (W.contents writer.new) }
     ensures nothing { IfErr result (λ e. e ≢ ShowError.WriteFault → writer.new ≡ writer.old) }
     ensures memory { result ≢ Ok false }
 {
-    let refused = refused_entry(book, answer, stopped);
+    let answer = stop.answer;
+    let refused = refused_entry(book, stop);
     write_page(writer, book, answer, refused, None)?;
     Ok(true)
 }
@@ -154,20 +159,20 @@ fn draw_timed_page<W: Write>(
     writer: &mut W,
     durations: Durations,
     book: &Book,
-    answer: Option<AuditError>,
-    stopped: Option<Entry>,
+    stop: Stop,
 ) -> Result<bool, ShowError>
     ensures entry { (n : ℕ) → result ≢ Err (ShowError.NoSuchEntry n) }
     ensures long { result ≡ Err ShowError.TooManyEntries → 20000 < length book.now.entries }
-    ensures page { result ≡ Ok true → IsPage (Form.TimedPage durations) book.now.entries answer (W.contents writer.old)
-        (W.contents writer.new) }
+    ensures page { result ≡ Ok true → IsPage (Form.TimedPage durations) book.now.entries stop.answer
+        (W.contents writer.old) (W.contents writer.new) }
     ensures nothing { IfErr result (λ e. e ≢ ShowError.WriteFault → writer.new ≡ writer.old) }
     ensures memory { result ≡ Ok false → writer.new ≡ writer.old }
 {
+    let answer = stop.answer;
     let Some(chart) = chart_of(alloc, &durations, book, answer)? else {
         return Ok(false);
     };
-    let refused = refused_entry(book, answer, stopped);
+    let refused = refused_entry(book, stop);
     write_page(writer, book, answer, refused, Some(chart.as_slice()))?;
     Ok(true)
 }
@@ -195,18 +200,18 @@ fn draw<W: Write>(
     form: Form,
     book: &Book,
     entries: u32,
-    answer: Option<AuditError>,
-    stopped: Option<Entry>,
+    stop: Stop,
 ) -> Result<bool, ShowError>
     requires { entries ≤ length book.now.entries }
     ensures entry { (n : ℕ) → result ≢ Err (ShowError.NoSuchEntry n) }
     ensures bound { result ≡ Err ShowError.TooManyEntries → HasBound form }
     ensures long { result ≡ Err ShowError.TooManyEntries → 20000 < length book.now.entries }
-    ensures page { result ≡ Ok true → IsPage form book.now.entries answer (W.contents writer.old)
+    ensures page { result ≡ Ok true → IsPage form book.now.entries stop.answer (W.contents writer.old)
         (W.contents writer.new) }
     ensures nothing { IfErr result (λ e. e ≢ ShowError.WriteFault → writer.new ≡ writer.old) }
     ensures memory { result ≡ Ok false → writer.new ≡ writer.old }
 {
+    let answer = stop.answer;
     let (facts, last) = facts_after(book, entries);
     let scene = Scene {
         facts: &facts,
@@ -215,15 +220,15 @@ fn draw<W: Write>(
         answer,
     };
     match form {
-        Form::Text => draw_text(writer, &scene, false)?,
-        Form::Unicode => draw_text(writer, &scene, true)?,
+        Form::Text => draw_text(&mut WatchedWriter::new(writer), &scene, false)?,
+        Form::Unicode => draw_text(&mut WatchedWriter::new(writer), &scene, true)?,
         Form::Picture => draw_picture(writer, &scene)?,
-        Form::Page => return draw_page(writer, book, answer, stopped),
+        Form::Page => return draw_page(writer, book, stop),
         Form::Chart(durations) => {
             return draw_times(alloc, writer, &durations, book, entries, answer);
         }
         Form::TimedPage(durations) => {
-            return draw_timed_page(alloc, writer, durations, book, answer, stopped);
+            return draw_timed_page(alloc, writer, durations, book, stop);
         }
         Form::Moving => return draw_entries(writer, book, entries, answer),
     }
@@ -267,8 +272,11 @@ pub fn show_rows<R: TellsFault, W: Write>(
         return Err(ShowError::NoSuchEntry(entries));
     }
     let answer = reading.answer.err();
-    let stopped = entry_of(rows);
-    if draw(alloc, writer, form, &reading.book, shown, answer, stopped)? {
+    let stop = Stop {
+        answer,
+        entry: entry_of(rows),
+    };
+    if draw(alloc, writer, form, &reading.book, shown, stop)? {
         Ok(status)
     } else {
         Ok(status::OUT_OF_MEMORY)

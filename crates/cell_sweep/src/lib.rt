@@ -12,4 +12,4 @@ mod service;
 mod sweep;
 
 pub use kinds::{KINDS, KindsError, read_kinds};
-pub use sweep::{Sweep, sweep_texts, sweep_texts_watched};
+pub use sweep::{Sweep, sweep_texts};

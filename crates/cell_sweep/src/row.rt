@@ -4,7 +4,7 @@ ghost use Rattle.cell_sweep.specs.Cases.{script_of};
 ghost use Rattle.cell_sweep.specs.Rows.{IsToldOf, IsWait, first_line};
 
 use crate::runs::Ran;
-use cell_explain::endings::write_ending;
+use cell_explain::endings::{EndedRun, write_ending};
 use cell_measures::{Durations, measure};
 use cell_sim::PlannedFault;
 use cell_types::Totals;
@@ -59,16 +59,15 @@ fn wait_of(alloc: Global, ran: &Ran, faults: &[u8], operator: &[u8]) -> io::Resu
 {
     let mut text = Vec::new(alloc);
     let outcome = &ran.outcome;
-    write_ending(
-        alloc,
-        outcome.book.journal(),
-        0,
-        outcome.end,
-        &ran.plan,
+    let run = EndedRun {
+        journal: outcome.book.journal(),
+        before: 0,
+        end: outcome.end,
+        plan: &ran.plan,
         faults,
         operator,
-        &mut text,
-    )?;
+    };
+    write_ending(alloc, &run, &mut text)?;
     Ok(Vec::from_slice(alloc, first_line(text.as_slice()))?)
 }
 

@@ -2,8 +2,9 @@
 ghost use Rattle.std.specs.Prelude.{IfErr, IfOk};
 ghost use Rattle.cell_sweep.specs.Rows.{IsNoRun, RefusesRun, RunsTo};
 
+use cell_measures::Durations;
 use cell_ports::Plan;
-use cell_runs::{InputError, Inputs, Outcome, read_inputs, simulate};
+use cell_runs::{InputError, Inputs, Outcome, Texts, read_inputs, simulate};
 use cell_sim::{SimOperator, World};
 use cell_workers::End;
 use std::alloc::AllocError;
@@ -39,7 +40,7 @@ pub(crate) struct Ran {
 }
 
 /// Runs the simulated cell by its texts over a new world. A run that ends for want of memory is none.
-pub(crate) fn run_texts<R: AllocGlobal + Wait>(
+pub(crate) fn run_alone<R: AllocGlobal + Wait>(
     rt: &R,
     settings: &[u8],
     faults: &[u8],
@@ -49,12 +50,18 @@ pub(crate) fn run_texts<R: AllocGlobal + Wait>(
         ran.outcome.end) }
     ensures refused { IfErr result (IsNoRun (RefusesRun settings.now faults.now operator.now)) }
 {
+    let texts = Texts {
+        settings,
+        faults,
+        operator,
+        durations: Durations::ONE,
+    };
     let Inputs {
         plan,
         faults,
         script,
         durations,
-    } = match read_inputs(rt.alloc(), settings, faults, operator) {
+    } = match read_inputs(rt.alloc(), texts) {
         Ok(inputs) => inputs,
         Err(error) => return Err(NoRun::Refused(error)),
     };

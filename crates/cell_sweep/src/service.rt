@@ -3,7 +3,7 @@ ghost use Rattle.std.specs.Prelude.{true, IfErr};
 ghost use Rattle.cell_sweep.specs.Rows.{IsNoRun, RefusesServed};
 
 use crate::lines::text_of;
-use crate::runs::{NoRun, Ran, run_texts};
+use crate::runs::{NoRun, Ran, run_alone};
 use cell_explain::endings::lines_done;
 use cell_rows::read_script;
 use cell_types::{Entry, MACHINES, Machine, PlateId, Station, stations_of};
@@ -154,7 +154,7 @@ pub(crate) fn serve<R: AllocGlobal + Wait>(
     let mut script = lines_of(alloc, operator)?;
     for _try in 0..MOST_TRIES {
         let text = text_of(alloc, script.as_slice())?;
-        let mut ran = run_texts(rt, settings, faults, text.as_slice())?;
+        let mut ran = run_alone(rt, settings, faults, text.as_slice())?;
         match served_further(alloc, script.as_slice(), &mut ran)? {
             Some(further) => script = further,
             None => return Ok(text),

@@ -11,11 +11,12 @@ ghost use Rattle.cell_sweep.specs.Sweeps.{TellsCases, wanted};
 use crate::cases::script_of;
 use crate::print::{Ends, counts_text, head_of, line_of};
 use crate::row::{Row, row_of};
-use crate::runs::{NoRun, run_texts};
+use crate::runs::{NoRun, run_alone};
 use crate::service::serve;
 use cell_explain::endings::motions;
+use cell_measures::Durations;
 use cell_output::{WatchedWriter, WriteFault, status};
-use cell_runs::{read_inputs, refuse_input};
+use cell_runs::{Texts, read_inputs, refuse_input};
 use cell_sim::{Fault, PlannedFault};
 use cell_types::{AXES, Axis, axis_number};
 use std::alloc::AllocError;
@@ -90,9 +91,11 @@ struct Task<'a> {
 
 // What is counted while a sweep goes on: its runs by their ends, and how many there will be.
 #[derive(Drop)]
-struct Tally {
+struct Tally<'a, E> {
     ends: Ends,
     all: u64,
+    // Where it is told how many runs are done.
+    errors: &'a mut E,
 }
 
 // The operator's script by which a run with this script of faults goes.
@@ -127,7 +130,7 @@ fn run_case<R: AllocGlobal + Wait>(
     let faults = script_of(rt.alloc(), planned)?;
     let faults = faults.as_str().as_bytes();
     let operator = script_for(rt, task, faults)?;
-    let ran = run_texts(rt, task.settings, faults, operator.as_slice())?;
+    let ran = run_alone(rt, task.settings, faults, operator.as_slice())?;
     let row = row_of(rt.alloc(), planned, &ran, faults, operator.as_slice())?;
     Ok(row)
 }
@@ -152,16 +155,16 @@ fn counts_of<R: AllocGlobal + Wait>(rt: &R, task: &Task<'_>) -> Result<[u32; 9],
         return Ok([count; 9]);
     }
     let operator = script_for(rt, task, b"")?;
-    let ran = run_texts(rt, task.settings, b"", operator.as_slice())?;
+    let ran = run_alone(rt, task.settings, b"", operator.as_slice())?;
     Ok(motions(ran.outcome.book.journal(), 0))
 }
 
 // Tells how many runs are done. The line is written over by what follows; whether it could be written says nothing.
-fn tell_progress<E: Write>(errors: &mut E, tally: &Tally) {
+fn tell_progress<E: Write>(tally: &mut Tally<'_, E>) {
     let done = tally.ends.runs();
     let all = tally.all;
-    let _ = write!(errors, "{done} of {all} runs\r");
-    let _ = errors.flush();
+    let _ = write!(tally.errors, "{done} of {all} runs\r");
+    let _ = tally.errors.flush();
 }
 
 // Writes what is told of the run with one fault, and counts it.
@@ -170,8 +173,7 @@ fn write_case<R: AllocGlobal + Wait, W: Write, E: Write>(
     task: &Task<'_>,
     planned: PlannedFault,
     writer: &mut WatchedWriter<'_, W>,
-    tally: &mut Tally,
-    errors: &mut E,
+    tally: &mut Tally<'_, E>,
 ) -> Result<(), Stop>
     ensures writer { IsSameWriter writer.old writer.new }
     ensures told { OnOk result (TellsCase task.now.settings.now task.now.operator.now
@@ -186,7 +188,7 @@ fn write_case<R: AllocGlobal + Wait, W: Write, E: Write>(
     writer.write_bytes(line.as_slice())?;
     tally.ends.add(row.end);
     if task.sweep.progress {
-        tell_progress(errors, tally);
+        tell_progress(tally);
     }
     Ok(())
 }
@@ -198,8 +200,7 @@ fn write_kinds<R: AllocGlobal + Wait, W: Write, E: Write>(
     axis: Axis,
     motion: u32,
     writer: &mut WatchedWriter<'_, W>,
-    tally: &mut Tally,
-    errors: &mut E,
+    tally: &mut Tally<'_, E>,
 ) -> Result<(), Stop>
     ensures writer { IsSameWriter writer.old writer.new }
     ensures told { OnOk result (TellsCases task.now.settings.now task.now.operator.now
@@ -216,7 +217,7 @@ fn write_kinds<R: AllocGlobal + Wait, W: Write, E: Write>(
             motion,
             fault: *kind,
         };
-        write_case(rt, task, planned, writer, tally, errors)?;
+        write_case(rt, task, planned, writer, tally)?;
     }
     Ok(())
 }
@@ -228,8 +229,7 @@ fn write_motions<R: AllocGlobal + Wait, W: Write, E: Write>(
     axis: Axis,
     count: u32,
     writer: &mut WatchedWriter<'_, W>,
-    tally: &mut Tally,
-    errors: &mut E,
+    tally: &mut Tally<'_, E>,
 ) -> Result<(), Stop>
     ensures writer { IsSameWriter writer.old writer.new }
     ensures told { OnOk result (TellsCases task.now.settings.now task.now.operator.now
@@ -241,7 +241,7 @@ fn write_motions<R: AllocGlobal + Wait, W: Write, E: Write>(
         (has_refused writer.new)) }
 {
     for before in 0..count {
-        write_kinds(rt, task, axis, before + 1, writer, tally, errors)?;
+        write_kinds(rt, task, axis, before + 1, writer, tally)?;
     }
     Ok(())
 }
@@ -252,8 +252,7 @@ fn write_rows<R: AllocGlobal + Wait, W: Write, E: Write>(
     task: &Task<'_>,
     counts: &[u32; 9],
     writer: &mut WatchedWriter<'_, W>,
-    tally: &mut Tally,
-    errors: &mut E,
+    tally: &mut Tally<'_, E>,
 ) -> Result<(), Stop>
     ensures writer { IsSameWriter writer.old writer.new }
     ensures told { OnOk result (TellsCases task.now.settings.now task.now.operator.now
@@ -266,7 +265,7 @@ fn write_rows<R: AllocGlobal + Wait, W: Write, E: Write>(
 {
     for axis in AXES {
         let count = counts[axis_number(axis)];
-        write_motions(rt, task, axis, count, writer, tally, errors)?;
+        write_motions(rt, task, axis, count, writer, tally)?;
     }
     Ok(())
 }
@@ -291,9 +290,10 @@ fn write_sweep<R: AllocGlobal + Wait, W: Write, E: Write>(
     let mut tally = Tally {
         ends: Ends::default(),
         all: count_all(&counts, task.sweep.kinds),
+        errors,
     };
     writer.write_bytes(head_of(csv).as_bytes())?;
-    write_rows(rt, task, &counts, writer, &mut tally, errors)?;
+    write_rows(rt, task, &counts, writer, &mut tally)?;
     let text = counts_text(rt.alloc(), csv, tally.ends)?;
     writer.write_bytes(text.as_slice())?;
     Ok(())
@@ -318,9 +318,14 @@ fn end_sweep<W: Write>(
     }
 }
 
-/// Runs the simulated cell once for each fault of a sweep, as `sweep_texts` does, and writes what is told of it to a
-/// writer that notes whether a write of it was refused.
-pub fn sweep_texts_watched<R: AllocGlobal + Wait, W: Write, E: Write>(
+/// Runs the simulated cell in rounds once for each fault of a sweep, alone, and writes a row of each run, and then,
+/// unless it is CSV, how many runs had each end; gives the exit status.
+///
+/// The faults are those of each kind in each motion of each axis. The settings or the operator's script, where one is
+/// refused, are told as by `run_texts`, and nothing runs. Else the status is 0, however the runs end, or 4 where memory
+/// was refused, with the rows of the runs before. Where the operator's service makes the script too long, that is told
+/// behind these rows, with status 1. The writer notes whether a write of it was refused.
+pub fn sweep_texts<R: AllocGlobal + Wait, W: Write, E: Write>(
     rt: &R,
     settings: &[u8],
     operator: &[u8],
@@ -329,6 +334,8 @@ pub fn sweep_texts_watched<R: AllocGlobal + Wait, W: Write, E: Write>(
     errors: &mut E,
 ) -> Result<u8, WriteFault>
     ensures writer { IsSameWriter writer.old writer.new }
+    // What is written is of the first text that is refused, or of one run for each fault; or the status says that the
+    // sweep broke off.
     ensures whole { IfOk result (SweepsTexts settings.now operator.now
         (wanted sweep.entry.kinds.now sweep.entry.motions sweep.entry.service sweep.entry.csv)
         (bytes_held W.contents writer.old) (bytes_held W.contents writer.new)) }
@@ -337,7 +344,13 @@ pub fn sweep_texts_watched<R: AllocGlobal + Wait, W: Write, E: Write>(
     // It answers that the writer failed only where a write was refused.
     ensures fault { IsErr result → has_refused writer.new ≡ true }
 {
-    if let Err(error) = read_inputs(rt.alloc(), settings, b"", operator) {
+    let texts = Texts {
+        settings,
+        faults: b"",
+        operator,
+        durations: Durations::ONE,
+    };
+    if let Err(error) = read_inputs(rt.alloc(), texts) {
         return refuse_input(writer, error);
     }
     let task = Task {
@@ -347,32 +360,4 @@ pub fn sweep_texts_watched<R: AllocGlobal + Wait, W: Write, E: Write>(
     };
     let swept = write_sweep(rt, &task, writer, errors);
     end_sweep(writer, swept)
-}
-
-/// Runs the simulated cell in rounds once for each fault of a sweep, alone, and writes a row of each run, and then,
-/// unless it is CSV, how many runs had each end; gives the exit status.
-///
-/// The faults are those of each kind in each motion of each axis. The settings or the operator's script, where one is
-/// refused, are told as by `run_texts`, and nothing runs. Else the status is 0, however the runs end, or 4 where memory
-/// was refused, with the rows of the runs before. Where the operator's service makes the script too long, that is told
-/// behind these rows, with status 1. That `WriteFault` comes only where a refused write was noted is a clause of
-/// `sweep_texts_watched`, of which this is the case of a new writer that notes.
-pub fn sweep_texts<R: AllocGlobal + Wait, W: Write, E: Write>(
-    rt: &R,
-    settings: &[u8],
-    operator: &[u8],
-    sweep: Sweep<'_>,
-    output: &mut W,
-    errors: &mut E,
-) -> Result<u8, WriteFault>
-    // What is written is of the first text that is refused, or of one run for each fault; or the status says that the
-    // sweep broke off.
-    ensures whole { IfOk result (SweepsTexts settings.now operator.now
-        (wanted sweep.entry.kinds.now sweep.entry.motions sweep.entry.service sweep.entry.csv) (W.contents output.old)
-        (W.contents output.new)) }
-    // Where the writer failed, what was written before only grew.
-    ensures part { IsErr result → Grows (W.contents output.old) (W.contents output.new) }
-{
-    let mut writer = WatchedWriter::new(output);
-    sweep_texts_watched(rt, settings, operator, sweep, &mut writer, errors)
 }

@@ -2,6 +2,7 @@
 use cell_audit::AuditError;
 use cell_drawing::draw_picture;
 use cell_journal::Snapshot;
+use cell_output::WatchedWriter;
 use cell_picture::{Facts, Scene, ShownPlate, draw_text, facts_after, facts_of};
 use cell_show::Form;
 use cell_types::{AxisState, Cause, Colour, Entry, Machine, PlateId, Pose, Totals};
@@ -86,8 +87,8 @@ pub const FAILED_PRESS: [&str; 14] = [
 // Draws a scene as text, or as an SVG file. Whether that was done.
 fn draws<W: Write>(writer: &mut W, scene: &Scene, form: Form) -> bool {
     match form {
-        Form::Text => draw_text(writer, scene, false).is_ok(),
-        Form::Unicode => draw_text(writer, scene, true).is_ok(),
+        Form::Text => draw_text(&mut WatchedWriter::new(writer), scene, false).is_ok(),
+        Form::Unicode => draw_text(&mut WatchedWriter::new(writer), scene, true).is_ok(),
         Form::Picture | Form::Page | Form::Chart(_) | Form::TimedPage(_) | Form::Moving => {
             draw_picture(writer, scene).is_ok()
         }

@@ -17,6 +17,21 @@ use plate_book::Book;
 use std::alloc::{AllocError, Global};
 use std::io::{Result, Write};
 
+/// A run that ended, of which it is told why.
+#[derive(Clone, Copy)]
+pub struct EndedRun<'a> {
+    /// The journal that it left.
+    pub journal: &'a Journal,
+    /// How many entries the journal had before the run.
+    pub before: u32,
+    pub end: End,
+    pub plan: &'a Plan,
+    /// The script of faults.
+    pub faults: &'a [u8],
+    /// The operator's script.
+    pub operator: &'a [u8],
+}
+
 // A book by a plan's limits with the entries of a journal, which are allowed one after another.
 fn book_of(alloc: Global, journal: &Journal, plan: &Plan) -> std::result::Result<Book, AllocError>
     ensures { IfOk result (λ book. book ≡ record { limits = limits_of plan.now; entries = journal.now.entries }) }
@@ -42,38 +57,27 @@ fn write_run<W: Write>(writer: &mut W, book: &Book, end: End, plan: &Plan) -> Re
     write_laid_back(writer, book)
 }
 
-/// Writes why a run by this plan, which left this journal, had this end: the limit that ended it, where one did; how
-/// many plates weren't admitted, and how many were laid back; a line for each machine that is failed, with its cause
-/// and its entry; for each plate that stands in the cell, with the entry by which it would go on and what refuses that;
-/// for the first record of the operator's script that isn't done, with its line and what it waits for; and for each
-/// fault whose motion was never reached.
+/// Writes why a run ended so: the limit that ended it, where one did; how many plates weren't admitted, and how many
+/// were laid back; a line for each machine that is failed, with its cause and its entry; for each plate that stands in
+/// the cell, with the entry by which it would go on and what refuses that; for the first record of the operator's
+/// script that isn't done, with its line and what it waits for; and for each fault whose motion was never reached.
 ///
-/// The journal had so many entries `before` the run, which count for neither script. The scripts are those of the run;
-/// one that can't be read has no lines. An error is the writer's, or that memory was refused, or that the journal isn't
-/// legal by the plan's limits.
-pub fn write_ending<W: Write>(
-    alloc: Global,
-    journal: &Journal,
-    before: u32,
-    end: End,
-    plan: &Plan,
-    faults: &[u8],
-    operator: &[u8],
-    writer: &mut W,
-) -> Result<()>
+/// Entries from before the run count for neither script. A script that can't be read has no lines. An error is the
+/// writer's, or that memory was refused, or that the journal isn't legal by the plan's limits.
+pub fn write_ending<W: Write>(alloc: Global, run: &EndedRun<'_>, writer: &mut W) -> Result<()>
     // What is written is the ending of the journal, the run's end and plan, and the scripts.
-    ensures text { OnOk result (TellsEnding journal.now.entries before end plan.now faults.now operator.now
-        (W.contents writer.old) (W.contents writer.new)) }
+    ensures text { OnOk result (TellsEnding run.now.journal.now.entries run.now.before run.now.end run.now.plan.now
+        run.now.faults.now run.now.operator.now (W.contents writer.old) (W.contents writer.new)) }
     // It is written of legal journals alone.
-    ensures legal { OnOk result (legal greatest journal.now.entries ≡ true) }
+    ensures legal { OnOk result (legal greatest run.now.journal.now.entries ≡ true) }
     // They are legal by the plan's limits too.
-    ensures planned { OnOk result (legal (limits_of plan.now) journal.now.entries ≡ true) }
+    ensures planned { OnOk result (legal (limits_of run.now.plan.now) run.now.journal.now.entries ≡ true) }
 {
-    let book = book_of(alloc, journal, plan)?;
+    let book = book_of(alloc, run.journal, run.plan)?;
     book.is_lawful();
-    write_run(writer, &book, end, plan)?;
+    write_run(writer, &book, run.end, run.plan)?;
     write_failures(writer, &book)?;
     write_plates(writer, &book)?;
-    write_operator(alloc, writer, &book, before, operator)?;
-    write_faults(alloc, writer, &book, before, faults)
+    write_operator(alloc, writer, &book, run.before, run.operator)?;
+    write_faults(alloc, writer, &book, run.before, run.faults)
 }

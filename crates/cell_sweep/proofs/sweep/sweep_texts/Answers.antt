@@ -1,7 +1,7 @@
 -- Texts that are good have a sweep, which is whole or breaks off
 use Rattle.std.proofs.Common.{◌∙◌}
 use Rattle.cell_sweep.proofs.Steps.{blamed, grows-twice, swept-grows, sweeps-or-breaks}
-use Rattle.cell_sweep.proofs.sweep.sweep_texts_watched.Goals as goal
+use Rattle.cell_sweep.proofs.sweep.sweep_texts.Goals as goal
 
 pub returns-clause-writer : goal.returns-clause-writer
 returns-clause-writer g c = c.end_sweep.ensures.writer ∙ c.write_sweep-swept.ensures.writer
@@ -9,7 +9,7 @@ returns-clause-writer g c = c.end_sweep.ensures.writer ∙ c.write_sweep-swept.e
 pub returns-clause-whole : goal.returns-clause-whole
 returns-clause-whole g c =
     sweeps-or-breaks c.write_sweep-swept.result c.end_sweep.result _ _ _ _ _ _ _ c.read_inputs.result
-    c.read_inputs.ensures c.in_default.not-Err c.write_sweep-swept.ensures.told c.write_sweep-swept.ensures.part
+    c.read_inputs.ensures.inputs c.in_default.not-Err c.write_sweep-swept.ensures.told c.write_sweep-swept.ensures.part
     c.write_sweep-swept.ensures.stops c.end_sweep.ensures.status
 
 pub returns-clause-part : goal.returns-clause-part

@@ -1,7 +1,7 @@
 -- What is written is what is said of the journal's text, with its status
 use Rattle.cell_explain.proofs.Ends.{journal-end, ended, legal-lines, tells}
 use Rattle.cell_explain.specs.Told.{SaysJournal}
-use Rattle.cell_explain.proofs.journal.explain_journal_watched.Goals as goal
+use Rattle.cell_explain.proofs.journal.explain_journal.Goals as goal
 
 pub returns-clause-status : goal.returns-clause-status
 returns-clause-status g c = ended c.write.result _ _ _ _ _ c.write.ensures.whole

@@ -3,7 +3,7 @@ use Rattle.cell_explain.proofs.Ends.{ended, script-end, tells}
 use Rattle.std.specs.Prelude.{codes}
 use Rattle.operator_desk.specs.Lines.{line_of}
 use Rattle.cell_explain.specs.Scripts.{SaysScript}
-use Rattle.cell_explain.proofs.script.explain_operator_watched.Goals as goal
+use Rattle.cell_explain.proofs.script.explain_operator.Goals as goal
 
 pub returns-clause-status : goal.returns-clause-status
 returns-clause-status g c = ended c.write.result _ _ _ _ _ c.write.ensures.whole
