@@ -1,14 +1,14 @@
 -- The subcommand that clap's matches name, and what is matched below it.
 use Rattle.std.proofs.Common.{◌≡◌, ℕ, Bor, List, Option, Some, None, ap, map, option_map, refl, sym, ◌∙◌}
 use Rattle.std.specs.Prelude.{IfSome, true}
-use Rattle.clap.specs.Words.{all_of, is_simple, is_simple_and_free, matched_of, raw_values, rows_of}
+use Rattle.std.proofs.lemmas.Bool.{and_parts}
+use Rattle.clap.specs.Faults.{is_free_app}
+use Rattle.clap.specs.Words.{all_of, built, is_simple, is_simple_and_free, matched_of, raw_values, rows_of}
 use Rattle.clap.specs.declared.parser.matches.Found.{Found}
 use Rattle.clap.proofs.WalkLemmas.{raw_values-rows}
-use Rattle.cell_command.specs.Orders.{values_or_none}
-use Rattle.cell_command.specs.Shape.{accompanied, cellctl, checking, control, controlling, driving, explain, explore}
-use Rattle.cell_command.specs.Shape.{exploring, file_rule, flag_rule, flagged, in_rounds, journal_rule, judging}
-use Rattle.cell_command.specs.Shape.{measure, measuring, optional_rule, path_rule, pictured, reading, repeated_rule}
-use Rattle.cell_command.specs.Shape.{scripted, several_rule, show, showing, simulating, sweep, sweeping}
+use Rattle.cell_command.specs.Shape.{accompanied, cellctl, commands, control, explain, explore, file_rule, flag_rule}
+use Rattle.cell_command.specs.Shape.{flagged, in_rounds, journal_rule, measure, optional_rule, path_rule, pictured}
+use Rattle.cell_command.specs.Shape.{repeated_rule, scripted, several_rule, show, sweep}
 
 abbrev pub both : {X A B : Type 0} → (X → A) → (X → B) → X → A × B
 both f g x = (f x, g x)
@@ -33,21 +33,11 @@ pub same-values : (found : Found) (id : List ℕ) (texts values : List (Bor (Lis
 same-values found id texts values h same =
     sym (raw_values-rows found id) ∙ sym h ∙ ap (λ (l : List (Bor (List ℕ))). Some (map (λ v. v.now) l)) (sym same)
 
--- the values that were found, or none
-pub any-values : (found : Found) (id : List ℕ) (texts : Option (List (List ℕ)))
-    → texts ≡ option_map raw_values (matched_of found id)
-    → values_or_none texts ≡ values_or_none (all_of id (rows_of found))
-any-values found id texts h = ap values_or_none (h ∙ raw_values-rows found id)
-
--- the program's command line is one of which clap's definitions tell the matches and the faults
-pub cellctl-simple : is_simple cellctl ≡ true
-unfolding accompanied checking control controlling driving explain explore exploring file_rule flag_rule flagged
-    in_rounds journal_rule judging measure measuring optional_rule path_rule pictured reading repeated_rule scripted
-    several_rule show showing simulating sweep sweeping
-cellctl-simple = refl
-
+-- the program's command line is one of which clap's definitions tell the faults and the matches
 pub cellctl-free : is_simple_and_free cellctl ≡ true
-unfolding accompanied checking control controlling driving explain explore exploring file_rule flag_rule flagged
-    in_rounds journal_rule judging measure measuring optional_rule path_rule pictured reading repeated_rule scripted
-    several_rule show showing simulating sweep sweeping
+unfolding accompanied commands control explain explore file_rule flag_rule flagged in_rounds journal_rule measure
+    optional_rule path_rule pictured repeated_rule scripted several_rule show sweep
 cellctl-free = refl
+
+pub cellctl-simple : is_simple cellctl ≡ true
+cellctl-simple = (and_parts (is_simple cellctl) (is_free_app (built cellctl)) cellctl-free).0

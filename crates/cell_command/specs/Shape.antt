@@ -1,7 +1,18 @@
 -- The command line that the program knows
-use Rattle.std.specs.Prelude.{true, Some, codes}
-use Rattle.clap.specs.Words.{App, Rule, Shape, Text, new_app, new_rule, with_rule, with_subcommand}
+use Rattle.std.specs.Prelude.{◌≡◌, false, true, Some, List, [], ◌∷◌, codes}
+use Rattle.std.specs.List.{fold}
+use Rattle.clap.specs.Words.{App, Rule, Shape, Text, app_of, new_app, new_rule, with_rule, with_subcommand}
 use Rattle.clap.specs.declared.builder.ArgAction.TheVariants.{Append, SetTrue}
+use Rattle.clap.specs.declared.builder.command.Command.{Command}
+use Rattle.clap.specs.declared.builder.command.Command.TheViews.{out-Command}
+
+-- a command has no argument that its subcommands have too
+abbrev pub IsLocal : Command → Type 0
+IsLocal command = (out-Command command).has_globals ≡ false
+
+-- a command is as its definition says, and has no such argument
+abbrev pub IsCommand : App → Command → Type 0
+IsCommand app command = (app_of command ≡ app) × IsLocal command
 
 -- the program's name alone asks for help, and `--version` for the version
 abbrev pub for_people : Shape → Shape
@@ -28,6 +39,10 @@ path_rule id = record (new_rule id) { required = true; value_names = 1 }
 abbrev pub check : App
 check = with_rule (new_app (codes "check")) (path_rule (codes "settings"))
 
+-- a command with these rules more
+abbrev pub with_rules : App → List Rule → App
+with_rules a rules = fold with_rule a rules
+
 -- a flag
 unfoldable pub flag_rule : Text → Rule
 flag_rule id = record (new_rule id) { long = Some id; action = Some SetTrue }
@@ -46,17 +61,17 @@ journal_rule = record (file_rule (codes "file")) { short = Some 102 }
 
 -- the command that shows the cell, with the flags for a picture and a page
 unfoldable pub pictured : App
-pictured = with_rule (with_rule (new_app (codes "show")) (flag_rule (codes "svg"))) (flag_rule (codes "html"))
+pictured = with_rules (new_app (codes "show")) (flag_rule (codes "svg") ∷ flag_rule (codes "html") ∷ [])
 
 -- the same with the flag for other signs and the options for durations, for another journal, which is shown beside, and
 -- for one that plays
 unfoldable pub accompanied : App
-accompanied = with_rule (with_rule (with_rule (with_rule pictured (flag_rule (codes "unicode"))) times_rule)
-    (file_rule (codes "beside"))) (file_rule (codes "animate"))
+accompanied = with_rules pictured
+    (flag_rule (codes "unicode") ∷ times_rule ∷ file_rule (codes "beside") ∷ file_rule (codes "animate") ∷ [])
 
 -- the same with the option for a file, and how many entries are shown, which may be given
 unfoldable pub show : App
-show = with_rule (with_rule accompanied journal_rule) (optional_rule (codes "entry"))
+show = with_rules accompanied (journal_rule ∷ optional_rule (codes "entry") ∷ [])
 
 -- words of which one at least has to be given
 unfoldable pub several_rule : Text → Rule
@@ -67,22 +82,21 @@ unfoldable pub repeated_rule : Text → Rule
 repeated_rule id = record (file_rule id) { action = Some Append }
 
 unfoldable pub explain : App
-explain =
-    with_input (with_rule (with_rule (with_rule (new_app (codes "explain")) (file_rule (codes "settings")))
-    (file_rule (codes "faults"))) (file_rule (codes "operator")))
+explain = with_input (with_rules (new_app (codes "explain"))
+    (file_rule (codes "settings") ∷ file_rule (codes "faults") ∷ file_rule (codes "operator") ∷ []))
 
 -- the command that measures journals: the option with the durations of motions, the flag of CSV, and the journals
 unfoldable pub measure : App
-measure = with_rule (with_rule (with_rule (new_app (codes "measure")) times_rule) (flag_rule (codes "csv")))
-    (several_rule (codes "journals"))
+measure = with_rules (new_app (codes "measure"))
+    (times_rule ∷ flag_rule (codes "csv") ∷ several_rule (codes "journals") ∷ [])
 
 -- a command with the flags of those that run the cell, and the option for durations
 unfoldable pub flagged : App → App
-flagged a = with_rule (with_rule (with_rule a (flag_rule (codes "journal"))) (flag_rule (codes "explain"))) times_rule
+flagged a = with_rules a (flag_rule (codes "journal") ∷ flag_rule (codes "explain") ∷ times_rule ∷ [])
 
 -- a command with the paths of a run's two scripts
 unfoldable pub scripted : App → App
-scripted a = with_rule (with_rule a (path_rule (codes "faults"))) (path_rule (codes "operator"))
+scripted a = with_rules a (path_rule (codes "faults") ∷ path_rule (codes "operator") ∷ [])
 
 -- a command with the paths of a run's three files
 abbrev pub filed : App → App
@@ -91,8 +105,7 @@ filed a = scripted (with_rule a (path_rule (codes "settings")))
 -- a command that runs the cell in rounds, with the options for the files of a journal that is followed and of one from
 -- which the run goes on, and the flag for measures
 unfoldable pub in_rounds : App → App
-in_rounds a = with_rule (with_rule (with_rule a (file_rule (codes "follow"))) (file_rule (codes "from")))
-    (flag_rule (codes "measures"))
+in_rounds a = with_rules a (file_rule (codes "follow") ∷ file_rule (codes "from") ∷ flag_rule (codes "measures") ∷ [])
 
 -- the command that runs the cell on one thread
 abbrev pub sim : App
@@ -101,20 +114,16 @@ sim = filed (in_rounds (flagged (new_app (codes "sim"))))
 -- the command that runs the cell once for each fault: the options with the kinds and with how many motions, the flags
 -- of the service and of CSV, and the paths of the settings and of the operator's script
 unfoldable pub sweep : App
-sweep =
-    let optioned = with_rule (with_rule (new_app (codes "sweep")) (file_rule (codes "kinds")))
-    (file_rule (codes "motions")) in
-    let chosen = with_rule (with_rule optioned (flag_rule (codes "service"))) (flag_rule (codes "csv")) in
-    with_rule (with_rule chosen (path_rule (codes "settings"))) (path_rule (codes "operator"))
+sweep = with_rules (new_app (codes "sweep"))
+    (file_rule (codes "kinds") ∷ file_rule (codes "motions") ∷ flag_rule (codes "service") ∷ flag_rule (codes "csv")
+    ∷ path_rule (codes "settings") ∷ path_rule (codes "operator") ∷ [])
 
 -- the command that looks at every order of events: the machines that may fail, the flag of repairs, the limit, the flag
 -- of the journal and the number of plates
 unfoldable pub explore : App
-explore =
-    let asked = with_rule (with_rule (new_app (codes "explore")) (repeated_rule (codes "fail")))
-    (flag_rule (codes "repair")) in
-    with_rule (with_rule (with_rule asked (file_rule (codes "limit"))) (flag_rule (codes "journal")))
-    (path_rule (codes "plates"))
+explore = with_rules (new_app (codes "explore"))
+    (repeated_rule (codes "fail") ∷ flag_rule (codes "repair") ∷ file_rule (codes "limit") ∷ flag_rule (codes "journal")
+    ∷ path_rule (codes "plates") ∷ [])
 
 -- the command by which a method drives the cell, with the flag for commands to the bare machines and the option for
 -- the file of a journal from which the run goes on
@@ -126,59 +135,25 @@ drive =
 -- the command that controls a cell at the other end of two pipes: the option with the journal's file, the flags of
 -- going on, of the device, of waiting and of an explanation, and the paths of the settings and of the operator's script
 unfoldable pub control : App
-control =
-    let kept = with_rule (with_rule (with_rule (new_app (codes "control")) (file_rule (codes "journal")))
-    (flag_rule (codes "resume"))) (flag_rule (codes "sync")) in
-    let chosen = with_rule (with_rule kept (flag_rule (codes "wait"))) (flag_rule (codes "explain")) in
-    with_rule (with_rule chosen (path_rule (codes "settings"))) (path_rule (codes "operator"))
+control = with_rules (new_app (codes "control"))
+    (file_rule (codes "journal") ∷ flag_rule (codes "resume") ∷ flag_rule (codes "sync") ∷ flag_rule (codes "wait")
+    ∷ flag_rule (codes "explain") ∷ path_rule (codes "settings") ∷ path_rule (codes "operator") ∷ [])
 
 -- the command that runs the cell on threads, with the flag for measures
 abbrev pub run : App
 run = filed (with_rule (flagged (new_app (codes "run"))) (flag_rule (codes "measures")))
 
--- the program with the commands that judge a journal
-unfoldable pub judging : App
-judging = with_subcommand (with_subcommand (new_app (codes "cellctl")) audit.top) migrate.top
+-- the program's commands, in the order of its help
+unfoldable pub commands : List App
+commands = audit ∷ migrate ∷ show ∷ explain ∷ measure ∷ check ∷ sim ∷ sweep ∷ explore ∷ drive ∷ control ∷ run ∷ []
 
--- the program with the commands that judge and show a journal
-unfoldable pub showing : App
-showing = with_subcommand judging show.top
+-- a program with a command more
+abbrev pub with_command : App → App → App
+with_command program command = with_subcommand program command.top
 
--- the program with the commands that read a journal
-unfoldable pub reading : App
-reading = with_subcommand showing explain.top
-
--- the program with the commands that read journals, one or several
-unfoldable pub measuring : App
-measuring = with_subcommand reading measure.top
-
--- the program with the commands that run nothing
-unfoldable pub checking : App
-checking = with_subcommand measuring check.top
-
--- the program with all commands but those which sweep the cell, look at every order of events, let a method drive it,
--- control a cell or run it on threads
-unfoldable pub simulating : App
-simulating = with_subcommand checking sim.top
-
--- the program with all commands but those which look at every order of events, let a method drive the cell, control a
--- cell or run it on threads
-unfoldable pub sweeping : App
-sweeping = with_subcommand simulating sweep.top
-
--- the program with all commands but those which let a method drive the cell, control a cell or run it on threads
-unfoldable pub exploring : App
-exploring = with_subcommand sweeping explore.top
-
--- the program with all commands but those which control a cell or run it on threads
-unfoldable pub driving : App
-driving = with_subcommand exploring drive.top
-
--- the program with all commands but that which runs the cell on threads
-unfoldable pub controlling : App
-controlling = with_subcommand driving control.top
+-- the program with its commands
+abbrev pub with_commands : App
+with_commands = fold with_command (new_app (codes "cellctl")) commands
 
 abbrev pub cellctl : App
-cellctl =
-    let whole = with_subcommand controlling run.top in
-    record whole { top = for_people whole.top }
+cellctl = record with_commands { top = for_people with_commands.top }

@@ -1,5 +1,13 @@
 //! The texts of the help, in lines of at most 79 columns. The manual page is made of them.
 
+/// What is printed of a command.
+pub(crate) struct Texts {
+    /// Its line in the list of commands.
+    pub(crate) about: &'static str,
+    pub(crate) help: &'static str,
+    pub(crate) example: &'static str,
+}
+
 /// The program's version.
 pub(crate) const VERSION: &str = "1.0.0";
 
@@ -20,9 +28,9 @@ Where it is known which file failed, a second line says which, and why.
 
 Example: cellctl audit examples/whole.journal";
 
-pub(crate) const AUDIT_ABOUT: &str = "Say whether a journal is legal, and what it counts";
-
-pub(crate) const AUDIT_HELP: &str = "\
+pub(crate) const AUDIT: Texts = Texts {
+    about: "Say whether a journal is legal, and what it counts",
+    help: "\
 Judges a journal's text, which it reads from FILE, or on standard input where
 no file is named.
 
@@ -78,13 +86,13 @@ The refusals, in their order:
   PlateStillThere STATION  PlateExpected  NotReturnable
 
 Exit status: 0 legal, 1 refused or unreadable, 2 wrong arguments, 3 a read or a
-write failed, 4 out of memory.";
+write failed, 4 out of memory.",
+    example: "Example: cellctl audit examples/whole.journal",
+};
 
-pub(crate) const AUDIT_EXAMPLE: &str = "Example: cellctl audit examples/whole.journal";
-
-pub(crate) const MIGRATE_ABOUT: &str = "Write a journal of profile 1 in profile 2";
-
-pub(crate) const MIGRATE_HELP: &str = "\
+pub(crate) const MIGRATE: Texts = Texts {
+    about: "Write a journal of profile 1 in profile 2",
+    help: "\
 Reads a journal's text of profile 1 from FILE, or on standard input where no
 file is named, and prints the same journal's text of profile 2: the record
 profile,2,, and then the same entries' records.
@@ -98,13 +106,13 @@ profile 2
   unreadable 0
 
 Exit status: 0 migrated, 1 refused or unreadable, 2 wrong arguments, 3 a read
-or a write failed, 4 out of memory.";
+or a write failed, 4 out of memory.",
+    example: "Example: cellctl migrate examples/whole.journal",
+};
 
-pub(crate) const MIGRATE_EXAMPLE: &str = "Example: cellctl migrate examples/whole.journal";
-
-pub(crate) const CHECK_ABOUT: &str = "Say whether a run's settings are good";
-
-pub(crate) const CHECK_HELP: &str = "\
+pub(crate) const CHECK: Texts = Texts {
+    about: "Say whether a run's settings are good",
+    help: "\
 Reads a run's settings, in TOML, from a file:
   plates = 5               how many plates are laid in: required, 1 to 100000
   journal_limit = 100000   how many entries the journal has at most, but for
@@ -132,13 +140,13 @@ The faults, in this order:
   OutOfRange  the number is outside its range
 
 Exit status: 0 good, 1 a fault, 2 wrong arguments, 3 a read or a write failed,
-4 out of memory.";
+4 out of memory.",
+    example: "Example: cellctl check examples/cell.toml",
+};
 
-pub(crate) const CHECK_EXAMPLE: &str = "Example: cellctl check examples/cell.toml";
-
-pub(crate) const SIM_ABOUT: &str = "Run the simulated cell on one thread";
-
-pub(crate) const SIM_HELP: &str = "\
+pub(crate) const SIM: Texts = Texts {
+    about: "Run the simulated cell on one thread",
+    help: "\
 Runs the simulated cell on one thread, in rounds, until nothing more is to be
 done in it. It reads three files. SETTINGS is TOML, as of the command check.
 FAULTS and OPERATOR have records of four fields, by the rules of CSV, at most
@@ -216,15 +224,15 @@ told by the line of the command audit, and nothing runs. It goes with neither
 --follow nor --measures.
 
 Exit status: 0 finished or followed, 1 another end, another or no entry, or a
-text refused, 2 wrong arguments, 3 a read or a write failed, 4 out of memory.";
-
-pub(crate) const SIM_EXAMPLE: &str = "\
+text refused, 2 wrong arguments, 3 a read or a write failed, 4 out of memory.",
+    example: "\
 Example: cellctl sim examples/press_fails.toml \\
-           examples/press_fails.faults examples/press_fails.operator";
+           examples/press_fails.faults examples/press_fails.operator",
+};
 
-pub(crate) const DRIVE_ABOUT: &str = "Let a control method drive the simulated cell";
-
-pub(crate) const DRIVE_HELP: &str = "\
+pub(crate) const DRIVE: Texts = Texts {
+    about: "Let a control method drive the simulated cell",
+    help: "\
 Lets a control method, a process of its own, drive the simulated cell in
 rounds: it reads the method's lines on standard input and writes to standard
 output. SETTINGS, FAULTS and OPERATOR are the files of the command sim, and are
@@ -262,20 +270,16 @@ rule was broken first. With --from the run goes on from a journal, as of the
 command sim.
 
 Exit status: 0 finished with nothing untrue and no rule broken, 1 else, or a
-text refused, 2 wrong arguments, 3 a read or a write failed, 4 out of memory.";
-
-pub(crate) const DRIVE_EXAMPLE: &str = "\
-Example: cellctl drive examples/cell.toml /dev/null /dev/null";
+text refused, 2 wrong arguments, 3 a read or a write failed, 4 out of memory.",
+    example: "\
+Example: cellctl drive examples/cell.toml /dev/null /dev/null",
+};
 
 pub(crate) const RAW_HELP: &str = "Take commands to the bare machines, and no entries";
 
-pub(crate) const CONTROL_ABOUT: &str = "Control a cell over the standard streams";
-
-pub(crate) const CONTROL_USAGE: &str = "\
-cellctl control [--journal FILE [--resume] [--sync]]
-           [--wait] [--explain] <SETTINGS> <OPERATOR>";
-
-pub(crate) const CONTROL_HELP: &str = "\
+pub(crate) const CONTROL: Texts = Texts {
+    about: "Control a cell over the standard streams",
+    help: "\
 Controls a cell, one's own or that of drive --raw, in rounds: it reads the
 cell's lines on standard input and writes its commands to standard output.
 SETTINGS and OPERATOR are the files of the command sim. docs/DRIVING.md has the
@@ -314,11 +318,15 @@ the run ended so, and in place of its end maybe
 A stalled run ends, unless --wait lets it wait for what the cell's desk wants.
 
 Exit status: 0 finished, 1 another end, or a text or a journal refused, 2 wrong
-arguments, 3 a read or a write failed, 4 out of memory.";
-
-pub(crate) const CONTROL_EXAMPLE: &str = "\
+arguments, 3 a read or a write failed, 4 out of memory.",
+    example: "\
 Example: cellctl control --journal run.journal examples/press_fails.toml \\
-           examples/press_fails.operator < from_cell > to_cell";
+           examples/press_fails.operator < from_cell > to_cell",
+};
+
+pub(crate) const CONTROL_USAGE: &str = "\
+cellctl control [--journal FILE [--resume] [--sync]]
+           [--wait] [--explain] <SETTINGS> <OPERATOR>";
 
 pub(crate) const AHEAD_HELP: &str = "The file to which the journal is written ahead";
 
@@ -328,9 +336,9 @@ pub(crate) const SYNC_HELP: &str = "Have each record on the device before its co
 
 pub(crate) const WAIT_HELP: &str = "Let a stalled run wait for the cell's desk";
 
-pub(crate) const RUN_ABOUT: &str = "Run the simulated cell on threads";
-
-pub(crate) const RUN_HELP: &str = "\
+pub(crate) const RUN: Texts = Texts {
+    about: "Run the simulated cell on threads",
+    help: "\
 Runs the simulated cell with a worker for each machine and one for the
 operator, each on a thread of its own, until nothing more is to be done in it.
 It reads the three files of the command sim, whose --help has their words, and
@@ -349,21 +357,15 @@ run's journal, as the command measure does.
 
 Exit status: 0 finished, 1 another end, a text refused or a journal that
 disagrees, 2 wrong arguments, 3 a read or a write failed, 4 out of memory, or
-no thread could be started, of which a second line on standard error tells.";
-
-pub(crate) const RUN_EXAMPLE: &str = "\
+no thread could be started, of which a second line on standard error tells.",
+    example: "\
 Example: cellctl run examples/press_fails.toml \\
-           examples/press_fails.faults examples/press_fails.operator";
+           examples/press_fails.faults examples/press_fails.operator",
+};
 
-pub(crate) const SHOW_ABOUT: &str = "Draw the cell as a journal's first entries left it";
-
-pub(crate) const SHOW_USAGE: &str = "\
-cellctl show [--svg | --html | --unicode] [--file FILE] [ENTRY]
-       cellctl show (--svg | --html) --times FILE [--file FILE] [ENTRY]
-       cellctl show --html --beside OTHER [--times FILE] [--file FILE] [ENTRY]
-       cellctl show --svg --animate JOURNAL [ENTRY]";
-
-pub(crate) const SHOW_HELP: &str = "\
+pub(crate) const SHOW: Texts = Texts {
+    about: "Draw the cell as a journal's first entries left it",
+    help: "\
 Reads a journal's text from FILE, or on standard input where no file is named,
 as the command audit does, and draws the cell as its first ENTRY entries left
 it, or all of them where no ENTRY is given: each station with its plate, a
@@ -390,17 +392,19 @@ refused as a last step.
 
 Exit status: 0 legal, 1 refused or unreadable, 2 wrong arguments, no such entry
 or too many entries for a page, 3 a read or a write failed, 4 out of memory.
-The status is that of the journal, and not of OTHER.";
+The status is that of the journal, and not of OTHER.",
+    example: "Example: cellctl show --file examples/whole.journal 20",
+};
 
-pub(crate) const SHOW_EXAMPLE: &str = "Example: cellctl show --file examples/whole.journal 20";
+pub(crate) const SHOW_USAGE: &str = "\
+cellctl show [--svg | --html | --unicode] [--file FILE] [ENTRY]
+       cellctl show (--svg | --html) --times FILE [--file FILE] [ENTRY]
+       cellctl show --html --beside OTHER [--times FILE] [--file FILE] [ENTRY]
+       cellctl show --svg --animate JOURNAL [ENTRY]";
 
-pub(crate) const EXPLAIN_ABOUT: &str = "Say why a journal, settings or a script is refused";
-
-pub(crate) const EXPLAIN_USAGE: &str = "\
-cellctl explain [FILE]
-       cellctl explain --settings FILE | --faults FILE | --operator FILE";
-
-pub(crate) const EXPLAIN_HELP: &str = "\
+pub(crate) const EXPLAIN: Texts = Texts {
+    about: "Say why a journal, settings or a script is refused",
+    help: "\
 Reads a journal's text from FILE, or on standard input where no file is named,
 or with an option a file with settings, with the script of faults or with the
 operator's script.
@@ -416,9 +420,13 @@ key; for a script how many lines it has, or the line and the field that can't
 be read and what may stand there.
 
 Exit status: 0 good, 1 refused or unreadable, 2 wrong arguments, 3 a read or a
-write failed, 4 out of memory.";
+write failed, 4 out of memory.",
+    example: "Example: cellctl explain examples/refused.journal",
+};
 
-pub(crate) const EXPLAIN_EXAMPLE: &str = "Example: cellctl explain examples/refused.journal";
+pub(crate) const EXPLAIN_USAGE: &str = "\
+cellctl explain [FILE]
+       cellctl explain --settings FILE | --faults FILE | --operator FILE";
 
 pub(crate) const JOURNAL_HELP: &str = "Print the run's journal alone";
 
@@ -442,9 +450,9 @@ pub(crate) const ANIMATE_HELP: &str = "Let the entries of this journal play in t
 
 pub(crate) const UNICODE_HELP: &str = "Draw with signs beyond ASCII";
 
-pub(crate) const MEASURE_ABOUT: &str = "Tell how long a journal's events need at least";
-
-pub(crate) const MEASURE_HELP: &str = "\
+pub(crate) const MEASURE: Texts = Texts {
+    about: "Tell how long a journal's events need at least",
+    help: "\
 Tells how long the events of legal journals need at least, and how that time
 goes. An entry begins when all have ended for which it waits: those of its
 machine and of its plate, and those that set a zone free which it wants. A
@@ -466,13 +474,13 @@ A journal that isn't legal is told as audit tells it: alone on standard output,
 and where several are named on standard error, after its name.
 
 Exit status: 0 all legal, 1 a journal or the durations are refused, 2 wrong
-arguments, 3 a read or a write failed, 4 out of memory.";
+arguments, 3 a read or a write failed, 4 out of memory.",
+    example: "Example: cellctl measure examples/whole.journal",
+};
 
-pub(crate) const MEASURE_EXAMPLE: &str = "Example: cellctl measure examples/whole.journal";
-
-pub(crate) const SWEEP_ABOUT: &str = "Run the simulated cell once for each single fault";
-
-pub(crate) const SWEEP_HELP: &str = "\
+pub(crate) const SWEEP: Texts = Texts {
+    about: "Run the simulated cell once for each single fault",
+    help: "\
 Runs the simulated cell on one thread once for each fault: each kind, in each
 motion of each axis, alone. Prints a line for each run: the axis, the motion,
 the kind, the run's end as sim tells it, how many plates were admitted, forged,
@@ -489,14 +497,13 @@ in a failed machine, repairs it and lays back each plate that can come back.
 On a terminal standard error tells how many runs are done.
 
 Exit status: 0 all runs are told, however they ended, 1 a text is refused,
-2 wrong arguments, 3 a read or a write failed, 4 out of memory.";
+2 wrong arguments, 3 a read or a write failed, 4 out of memory.",
+    example: "Example: cellctl sweep --kinds lose_plate,slow:50 examples/press_fails.toml /dev/null",
+};
 
-pub(crate) const SWEEP_EXAMPLE: &str =
-    "Example: cellctl sweep --kinds lose_plate,slow:50 examples/press_fails.toml /dev/null";
-
-pub(crate) const EXPLORE_ABOUT: &str = "Look at every order of events of the cell";
-
-pub(crate) const EXPLORE_HELP: &str = "\
+pub(crate) const EXPLORE: Texts = Texts {
+    about: "Look at every order of events of the cell",
+    help: "\
 Looks at every state that the cell can reach from its opening with PLATES
 plates, 0 to 15, whatever the order in which machines book what is useful,
 motions end, and plates are laid in and taken out. With --fail a machine, feed,
@@ -522,9 +529,9 @@ or, if there is none, to the end.
 On a terminal standard error tells how many states were looked at.
 
 Exit status: 0 nothing is stuck, 1 something is, or there are more states,
-2 wrong arguments, 3 a write failed, 4 out of memory.";
-
-pub(crate) const EXPLORE_EXAMPLE: &str = "Example: cellctl explore --fail press2 1";
+2 wrong arguments, 3 a write failed, 4 out of memory.",
+    example: "Example: cellctl explore --fail press2 1",
+};
 
 pub(crate) const FAIL_HELP: &str = "A machine that may fail; may be given several times";
 

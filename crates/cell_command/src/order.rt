@@ -160,14 +160,8 @@ pub enum Order<'a> {
 
 // The value at an id, if it has one.
 fn value<'a>(matches: &ArgMatches<'a>, id: &str) -> Option<&'a str>
-    ensures { HasValue (rows_of (found_of matches.now)) id.now result }
-{
-    matches.get_str(id)
-}
-
-// The path at an id.
-fn path<'a>(matches: &ArgMatches<'a>, id: &str) -> Option<&'a str>
-    ensures { IfSome result (λ p. HasPath (rows_of (found_of matches.now)) id.now p.now) }
+    ensures value { HasValue (rows_of (found_of matches.now)) id.now result }
+    ensures path { IfSome result (λ p. HasPath (rows_of (found_of matches.now)) id.now p.now) }
 {
     matches.get_str(id)
 }
@@ -238,16 +232,14 @@ fn drive_words<'a>(matches: &ArgMatches<'a>) -> Option<Driving<'a>>
 fn control_words<'a>(matches: &ArgMatches<'a>) -> Option<Controlling<'a>>
     ensures { IfSome result (IsControlled (rows_of (found_of matches.now))) }
 {
-    let settings = path(matches, "settings")?;
-    let operator = path(matches, "operator")?;
     Some(Controlling {
         journal: value(matches, "journal"),
         resume: flag(matches, "resume"),
         sync: flag(matches, "sync"),
         wait: flag(matches, "wait"),
         explain: flag(matches, "explain"),
-        settings,
-        operator,
+        settings: value(matches, "settings")?,
+        operator: value(matches, "operator")?,
     })
 }
 
@@ -283,9 +275,8 @@ fn explain_words<'a>(matches: &ArgMatches<'a>) -> Explaining<'a>
 fn values<'a>(alloc: Global, matches: &ArgMatches<'a>, id: &str) -> Option<Vec<&'a str>>
     ensures { IfSome result (λ values. HasValues (rows_of (found_of matches.now)) id.now values.items) }
 {
-    let mut values = Vec::new(alloc);
-    match values.extend_from_slice(matches.get_strs(id)?) {
-        Ok(()) => Some(values),
+    match Vec::from_slice(alloc, matches.get_strs(id)?) {
+        Ok(values) => Some(values),
         Err(_) => None,
     }
 }
@@ -305,13 +296,10 @@ fn measure_words<'a>(alloc: Global, matches: &ArgMatches<'a>) -> Option<Measurin
 fn three_paths<'a>(matches: &ArgMatches<'a>) -> Option<Paths<'a>>
     ensures { IfSome result (HasPaths (rows_of (found_of matches.now))) }
 {
-    let settings = path(matches, "settings")?;
-    let faults = path(matches, "faults")?;
-    let operator = path(matches, "operator")?;
     Some(Paths {
-        settings,
-        faults,
-        operator,
+        settings: value(matches, "settings")?,
+        faults: value(matches, "faults")?,
+        operator: value(matches, "operator")?,
     })
 }
 
@@ -319,15 +307,13 @@ fn three_paths<'a>(matches: &ArgMatches<'a>) -> Option<Paths<'a>>
 fn sweep_words<'a>(matches: &ArgMatches<'a>) -> Option<Sweeping<'a>>
     ensures { IfSome result (IsSwept (rows_of (found_of matches.now))) }
 {
-    let settings = path(matches, "settings")?;
-    let operator = path(matches, "operator")?;
     Some(Sweeping {
         kinds: value(matches, "kinds"),
         motions: value(matches, "motions"),
         service: flag(matches, "service"),
         csv: flag(matches, "csv"),
-        settings,
-        operator,
+        settings: value(matches, "settings")?,
+        operator: value(matches, "operator")?,
     })
 }
 
@@ -335,12 +321,9 @@ fn sweep_words<'a>(matches: &ArgMatches<'a>) -> Option<Sweeping<'a>>
 fn any_values<'a>(alloc: Global, matches: &ArgMatches<'a>, id: &str) -> Option<Vec<&'a str>>
     ensures { IfSome result (λ values. HasAnyValues (rows_of (found_of matches.now)) id.now values.items) }
 {
-    let Some(texts) = matches.get_strs(id) else {
-        return Some(Vec::new(alloc));
-    };
-    match Vec::from_slice(alloc, texts) {
-        Ok(values) => Some(values),
-        Err(_) => None,
+    match matches.get_strs(id) {
+        Some(_) => values(alloc, matches, id),
+        None => Some(Vec::new(alloc)),
     }
 }
 
@@ -349,7 +332,7 @@ fn explore_words<'a>(alloc: Global, matches: &ArgMatches<'a>) -> Option<Explorin
     ensures { IfSome result (IsExplored (rows_of (found_of matches.now))) }
 {
     let failing = any_values(alloc, matches, "fail")?;
-    let plates = path(matches, "plates")?;
+    let plates = value(matches, "plates")?;
     let journal = flag(matches, "journal");
     Some(Exploring {
         failing,
@@ -370,7 +353,7 @@ fn order_of<'a>(alloc: Global, name: &str, matches: &ArgMatches<'a>) -> Option<O
         "show" => Some(Order::Show(show_words(matches))),
         "explain" => Some(Order::Explain(explain_words(matches))),
         "measure" => Some(Order::Measure(measure_words(alloc, matches)?)),
-        "check" => Some(Order::Check(path(matches, "settings")?)),
+        "check" => Some(Order::Check(value(matches, "settings")?)),
         "sim" => sim_words(matches),
         "sweep" => Some(Order::Sweep(sweep_words(matches)?)),
         "explore" => Some(Order::Explore(explore_words(alloc, matches)?)),

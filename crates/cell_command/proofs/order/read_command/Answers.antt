@@ -8,7 +8,7 @@ use Rattle.cell_command.proofs.order.read_command.Goals as goal
 
 pub returns-in-Some-order_of-clause-order : goal.returns-in-Some-order_of-clause-order
 returns-in-Some-order_of-clause-order c =
-    let app = c.in_ok-command.ensures.app in
+    let app = c.in_ok-command.ensures.0 in
     let parsed = (c.in_ok-matches.ensures.matches (ap is_simple app ∙ cellctl-simple)).1 in
     let here : subcommand_rows_of c.in_ok-matches.matches
     ≡ Some (c.in-Some.name.now, rows_of (found_of c.in-Some.inner.now)) =
@@ -22,13 +22,13 @@ returns-in-Some-order_of-clause-order c =
 
 pub returns-in-Some-order_of-clause-fault : goal.returns-in-Some-order_of-clause-fault
 returns-in-Some-order_of-clause-fault c =
-    let app = c.in_ok-command.ensures.app in
+    let app = c.in_ok-command.ensures.0 in
     sym (ap (λ (a : App). fault_of a (map (λ w. w.now) c.args.words.now)) app)
     ∙ c.in_ok-matches.ensures.kinds (ap is_simple_and_free app ∙ cellctl-free)
 
 pub returns-in_err-matches-clause-fault : goal.returns-in_err-matches-clause-fault
 returns-in_err-matches-clause-fault c =
-    let app = c.in_ok-command.ensures.app in
+    let app = c.in_ok-command.ensures.0 in
     let why = c.in_err-matches.field-0.0 in
     let is : c.from_residual-in_err-matches.result ≡ Err why = search rules in
     rw is (subst (λ kinds. HasKind kinds why) (ap (λ (a : App). fault_of a (map (λ w. w.now) c.args.words.now)) app)
