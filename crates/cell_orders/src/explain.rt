@@ -10,7 +10,7 @@ use crate::texts::{
 };
 use cell_command::Explaining;
 use cell_explain::explain_settings;
-use cell_output::WriteFault;
+use cell_output::{WatchedWriter, WriteFault};
 use std::io::{Read, Write};
 use std::rt::Files;
 
@@ -57,7 +57,10 @@ fn explain_settings_in<'a, R: AllocGlobal + Files, W: Write>(
     ensures { IfOk result (λ written. IfOk written (ExplainsSettings (W.contents output.old) (W.contents output.new))) }
 {
     match settings_in(rt, path)? {
-        Some(text) => Ok(explain_settings(rt.alloc(), text.as_slice(), output)),
+        Some(text) => {
+            let mut writer = WatchedWriter::new(output);
+            Ok(explain_settings(rt.alloc(), text.as_slice(), &mut writer))
+        }
         None => Ok(tell_too_long(output)),
     }
 }

@@ -7,7 +7,7 @@ use crate::failure::Failure;
 use crate::mistaken::wrong;
 use cell_command::{Escaped, Exploring};
 use cell_explore::{MOST_PLATES, ProgressLine, Question, explore_lines};
-use cell_output::WriteFault;
+use cell_output::{WatchedWriter, WriteFault};
 use std::alloc::Global;
 use std::io::Write;
 
@@ -48,7 +48,7 @@ pub fn explore_words<'a, W: Write, E: Write>(
         &question,
         limit,
         exploring.journal,
-        output,
+        &mut WatchedWriter::new(output),
         &mut line,
     ))
 }

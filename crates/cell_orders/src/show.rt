@@ -19,6 +19,14 @@ use std::io;
 use std::io::{Read, Write};
 use std::rt::Files;
 
+// What is shown of a journal: in which form, how many entries, or all where there is no count, and what beside it.
+#[derive(Drop)]
+struct Show<C, B> {
+    form: Form,
+    count: Option<C>,
+    beside: Option<B>,
+}
+
 // The form that the flags ask for, if they ask for one alone.
 fn form_of(showing: &Showing<'_>) -> Option<Form>
     ensures { result ≡ form_of showing.now.svg showing.now.html showing.now.unicode }
@@ -62,18 +70,16 @@ fn show_entries<I: Read + Drop, O: Read + Drop, W: Write, E: Write>(
     input: I,
     output: &mut W,
     errors: &mut E,
-    form: Form,
-    entry: Option<u32>,
-    other: Option<O>,
+    show: Show<u32, O>,
 ) -> io::Result<Result<u8, WriteFault>>
     ensures shown { IfOk result (λ written. IfOk written
-        (Shows entry (I.remaining input) (W.contents output.old) (W.contents output.new) (E.contents errors.old)
+        (Shows show.count (I.remaining input) (W.contents output.old) (W.contents output.new) (E.contents errors.old)
         (E.contents errors.new))) }
     ensures some { IfOk result (λ written. IfOk written
-        (ShowsSome entry (W.contents output.old) (W.contents output.new) (E.contents errors.old)
+        (ShowsSome show.count (W.contents output.old) (W.contents output.new) (E.contents errors.old)
         (E.contents errors.new))) }
 {
-    match show_with(alloc, input, output, form, entry, other) {
+    match show_with(alloc, input, output, show.form, show.count, show.beside) {
         Ok(status) => Ok(Ok(status)),
         Err(ShowError::WriteFault) => Ok(Err(WriteFault)),
         Err(error) => {
@@ -114,23 +120,38 @@ fn show_count<I: Read + Drop, O: Read + Drop, W: Write, E: Write>(
     input: I,
     output: &mut W,
     errors: &mut E,
-    form: Form,
-    count: Option<Count>,
-    other: Option<O>,
+    show: Show<Count, O>,
 ) -> io::Result<Result<u8, WriteFault>>
-    ensures shown { (entry : Option ℕ) → IsAsked count entry
+    ensures shown { (entry : Option ℕ) → IsAsked show.count entry
         → IfOk result (λ written. IfOk written
         (Shows entry (I.remaining input) (W.contents output.old) (W.contents output.new) (E.contents errors.old)
         (E.contents errors.new))) }
-    ensures some { (entry : Option ℕ) → IsAsked count entry
+    ensures some { (entry : Option ℕ) → IsAsked show.count entry
         → IfOk result (λ written. IfOk written
         (ShowsSome entry (W.contents output.old) (W.contents output.new) (E.contents errors.old)
         (E.contents errors.new))) }
 {
+    let Show {
+        form,
+        count,
+        beside,
+    } = show;
     match count {
-        None => show_entries(alloc, input, output, errors, form, None, other),
+        None => {
+            let all = Show {
+                form,
+                count: None,
+                beside,
+            };
+            show_entries(alloc, input, output, errors, all)
+        }
         Some(Count::Number(entry)) => {
-            show_entries(alloc, input, output, errors, form, Some(entry), other)
+            let first = Show {
+                form,
+                count: Some(entry),
+                beside,
+            };
+            show_entries(alloc, input, output, errors, first)
         }
         Some(Count::Beyond) => show_beyond(alloc, input, errors, form),
     }
@@ -142,17 +163,15 @@ fn show_in<'a, R: AllocGlobal + Files, O: Read + Drop, W: Write, E: Write>(
     path: &'a str,
     output: &mut W,
     errors: &mut E,
-    form: Form,
-    count: Option<Count>,
-    other: Option<O>,
+    show: Show<Count, O>,
 ) -> Result<Result<u8, WriteFault>, Failure<'a>>
-    ensures { (entry : Option ℕ) → IsAsked count entry
+    ensures { (entry : Option ℕ) → IsAsked show.count entry
         → IfOk result (λ written. IfOk written
         (ShowsSome entry (W.contents output.old) (W.contents output.new) (E.contents errors.old)
         (E.contents errors.new))) }
 {
     let mut reader = open_noted(rt, path)?;
-    let shown = match show_count(rt.alloc(), &mut reader, output, errors, form, count, other) {
+    let shown = match show_count(rt.alloc(), &mut reader, output, errors, show) {
         Ok(told) => unless_wanting(told),
         Err(error) => Err(error),
     };
@@ -166,19 +185,17 @@ fn show_text<'a, R: AllocGlobal + Files, I: Read + Drop, O: Read + Drop, W: Writ
     input: I,
     output: &mut W,
     errors: &mut E,
-    form: Form,
-    count: Option<Count>,
     file: Option<&'a str>,
-    other: Option<O>,
+    show: Show<Count, O>,
 ) -> Result<Result<u8, WriteFault>, Failure<'a>>
-    ensures { (entry : Option ℕ) → IsAsked count entry
+    ensures { (entry : Option ℕ) → IsAsked show.count entry
         → IfOk result (λ written. IfOk written (λ status. OfText file.entry (I.remaining input)
         (λ text. Shows entry text (W.contents output.old) (W.contents output.new) (E.contents errors.old)
         (E.contents errors.new) status))) }
 {
     match file {
-        None => Ok(show_count(rt.alloc(), input, output, errors, form, count, other)?),
-        Some(path) => show_in(rt, path, output, errors, form, count, other),
+        None => Ok(show_count(rt.alloc(), input, output, errors, show)?),
+        Some(path) => show_in(rt, path, output, errors, show),
     }
 }
 
@@ -188,30 +205,34 @@ fn show_files<'a, R: AllocGlobal + Files, I: Read + Drop, W: Write, E: Write>(
     input: I,
     output: &mut W,
     errors: &mut E,
-    form: Form,
-    count: Option<Count>,
-    showing: Showing<'a>,
+    file: Option<&'a str>,
+    show: Show<Count, &'a str>,
 ) -> Result<Result<u8, WriteFault>, Failure<'a>>
-    ensures { (entry : Option ℕ) → IsAsked count entry
-        → IfOk result (λ written. IfOk written (λ status. OfText showing.entry.file (I.remaining input)
+    ensures { (entry : Option ℕ) → IsAsked show.entry.count entry
+        → IfOk result (λ written. IfOk written (λ status. OfText file.entry (I.remaining input)
         (λ text. Shows entry text (W.contents output.old) (W.contents output.new) (E.contents errors.old)
         (E.contents errors.new) status))) }
 {
-    let Some(path) = showing.beside else {
-        let other: Option<&[u8]> = None;
-        return show_text(rt, input, output, errors, form, count, showing.file, other);
-    };
-    let mut other = open_noted(rt, path)?;
-    let shown = show_text(
-        rt,
-        input,
-        output,
-        errors,
+    let Show {
         form,
         count,
-        showing.file,
-        Some(&mut other),
-    )?;
+        beside,
+    } = show;
+    let Some(path) = beside else {
+        let alone: Show<Count, &[u8]> = Show {
+            form,
+            count,
+            beside: None,
+        };
+        return show_text(rt, input, output, errors, file, alone);
+    };
+    let mut other = open_noted(rt, path)?;
+    let both = Show {
+        form,
+        count,
+        beside: Some(&mut other),
+    };
+    let shown = show_text(rt, input, output, errors, file, both)?;
     unless_noted(path, Ok(shown), other.error)
 }
 
@@ -261,14 +282,24 @@ fn show_entry<'a, R: AllocGlobal + Files, I: Read + Drop, W: Write, E: Write>(
         (W.contents output.new) (E.contents errors.old) (E.contents errors.new))) }
 {
     let Some(word) = showing.entry else {
-        return show_files(rt, input, output, errors, form, None, showing);
+        let all = Show {
+            form,
+            count: None,
+            beside: showing.beside,
+        };
+        return show_files(rt, input, output, errors, showing.file, all);
     };
     let Some(count) = read_count(word) else {
         let word = Escaped(word);
         writeln!(errors, "error: ENTRY is a whole number, and not '{word}'")?;
         return Ok(Ok(status::WRONG_ARGUMENTS));
     };
-    show_files(rt, input, output, errors, form, Some(count), showing)
+    let first = Show {
+        form,
+        count: Some(count),
+        beside: showing.beside,
+    };
+    show_files(rt, input, output, errors, showing.file, first)
 }
 
 // Whether another journal is to be shown beside, and no page is asked for.

@@ -194,10 +194,10 @@ pub(crate) fn explain_faults_in<'a, R: AllocGlobal + Files, W: Write>(
     let script = script_in(rt, path)?;
     let bytes = script.bytes.as_slice();
     if !script.cuts_record::<PlannedFault>(alloc)? {
-        return Ok(explain_faults(alloc, bytes, output));
+        return Ok(explain_faults(alloc, bytes, &mut WatchedWriter::new(output)));
     }
     let mut said = Vec::new(alloc);
-    let explained = explain_faults(alloc, bytes, &mut said);
+    let explained = explain_faults(alloc, bytes, &mut WatchedWriter::new(&mut said));
     Ok(tell_cut(output, said.as_slice(), explained))
 }
 
@@ -213,10 +213,10 @@ pub(crate) fn explain_operator_in<'a, R: AllocGlobal + Files, W: Write>(
     let script = script_in(rt, path)?;
     let bytes = script.bytes.as_slice();
     if !script.cuts_record::<Line>(alloc)? {
-        return Ok(explain_operator(alloc, bytes, output));
+        return Ok(explain_operator(alloc, bytes, &mut WatchedWriter::new(output)));
     }
     let mut said = Vec::new(alloc);
-    let explained = explain_operator(alloc, bytes, &mut said);
+    let explained = explain_operator(alloc, bytes, &mut WatchedWriter::new(&mut said));
     Ok(tell_cut(output, said.as_slice(), explained))
 }
 
@@ -230,10 +230,10 @@ fn explain_read<W: Write>(
 {
     let bytes = read.bytes.as_slice();
     if !read.cuts_record(alloc)? {
-        return Ok(explain_journal(alloc, bytes, output));
+        return Ok(explain_journal(alloc, bytes, &mut WatchedWriter::new(output)));
     }
     let mut said = Vec::new(alloc);
-    let explained = explain_journal(alloc, bytes, &mut said);
+    let explained = explain_journal(alloc, bytes, &mut WatchedWriter::new(&mut said));
     Ok(tell_cut(output, said.as_slice(), explained))
 }
 

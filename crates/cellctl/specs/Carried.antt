@@ -1,5 +1,5 @@
 -- What is written for the words of a command line, and the status with which the program ends
-use Rattle.std.specs.Prelude.{◌≡◌, ◌≢◌, ◌⊎◌, ℕ, Bool, true, false, List, Option, Some, None, Result, Ok, Err, IfOk}
+use Rattle.std.specs.Prelude.{◌≡◌, ◌≢◌, ◌⊎◌, ℕ, Bool, true, List, Option, Some, None, Result, Ok, Err, IfOk}
 use Rattle.std.specs.Prelude.{MatchResult, ⊤}
 use Rattle.std.specs.Borrow.{Bor}
 use Rattle.std.specs.Io.KnownBytes.{Appends, Keeps}
@@ -19,6 +19,8 @@ use Rattle.cell_drive.specs.Drives.{DrivesTexts, TellsMeasures}
 use Rattle.cell_sim.specs.declared.fault.Fault.{Fault}
 use Rattle.cell_sweep.specs.Sweeps.{SweepsTexts, Wanted, wanted}
 use Rattle.cell_runs.specs.Runs.{TellsRun, TellsPart as PartOfRun}
+use Rattle.cell_runs.specs.declared.texts.Mode.{Mode}
+use Rattle.cell_runs.specs.declared.texts.Mode.TheVariants as modes
 use Rattle.cell_runs.specs.RunsFrom.{TellsPartFrom, TellsRunFrom}
 use Rattle.cell_runs.specs.Told.{AreEntries, PartOfRefused, TellsFollowed, TellsPartFollowed, TellsRefused}
 use Rattle.cell_orders.specs.Measured.{MeasuresJournals}
@@ -36,15 +38,15 @@ abbrev pub TellsUnfit : Option (Bor (List ℕ)) → Option (List ℕ) → Option
 TellsUnfit times old new written = TellsTooLong old new written ⊎ (IsGiven times × TellsTimes old new written)
 
 -- what a run by some texts writes
-abbrev pub RunsTexts : Bool → Bool → Option (List ℕ) → Option (List ℕ) → Result ℕ WriteFault → Type 0
-RunsTexts threads journal old new written = (settings : List ℕ) × (faults : List ℕ) × (operator : List ℕ)
-    × MatchResult written (TellsRun settings faults operator threads journal old new)
-    (λ _. PartOfRun settings faults operator threads journal old new)
+abbrev pub RunsTexts : Mode → Bool → Option (List ℕ) → Option (List ℕ) → Result ℕ WriteFault → Type 0
+RunsTexts mode journal old new written = (settings : List ℕ) × (faults : List ℕ) × (operator : List ℕ)
+    × MatchResult written (TellsRun settings faults operator mode journal old new)
+    (λ _. PartOfRun settings faults operator mode journal old new)
 
 -- what a run by the texts of its files writes, unless the settings are too long or the durations are refused
-abbrev pub RunsFiles : Bool → Running → Option (List ℕ) → Option (List ℕ) → Result ℕ WriteFault → Type 0
-RunsFiles threads running old new written =
-    RunsTexts threads running.journal old new written ⊎ TellsUnfit running.times old new written
+abbrev pub RunsFiles : Mode → Running → Option (List ℕ) → Option (List ℕ) → Result ℕ WriteFault → Type 0
+RunsFiles mode running old new written =
+    RunsTexts mode running.journal old new written ⊎ TellsUnfit running.times old new written
 
 -- the text of a journal is refused or can't be read, which is told as an audit tells it
 abbrev pub RefusesJournal : Option (List ℕ) → Option (List ℕ) → Result ℕ WriteFault → Type 0
@@ -77,30 +79,30 @@ DrivesFiles driving input old new written =
     DrivesFrom driving.from driving input old new written ⊎ TellsUnfit driving.running.times old new written
 
 -- what is measured of a run by some texts, of one on threads by the journal that is left of it
-abbrev pub MeasuresRun : Bool → List ℕ → List ℕ → List ℕ → Option (List ℕ) → Option (List ℕ) → Type 0
-MeasuresRun true settings faults operator run new = (measures : List ℕ) × Appends run new measures
-MeasuresRun false settings faults operator run new = TellsMeasures settings faults operator run new
+abbrev pub MeasuresRun : Mode → List ℕ → List ℕ → List ℕ → Option (List ℕ) → Option (List ℕ) → Type 0
+MeasuresRun modes.Threads settings faults operator run new = (measures : List ℕ) × Appends run new measures
+MeasuresRun modes.Rounds settings faults operator run new = TellsMeasures settings faults operator run new
 
 -- what is written behind a run with a status: nothing where memory was refused for it or for its measures, which the
 -- status tells, and else the measures
-abbrev pub AddsMeasures : Bool → List ℕ → List ℕ → List ℕ → ℕ → ℕ → Option (List ℕ) → Option (List ℕ) → Type 0
-AddsMeasures threads settings faults operator ran status run new =
+abbrev pub AddsMeasures : Mode → List ℕ → List ℕ → List ℕ → ℕ → ℕ → Option (List ℕ) → Option (List ℕ) → Type 0
+AddsMeasures mode settings faults operator ran status run new =
     ((status ≡ 4) × (new ≡ run))
-    ⊎ ((ran ≢ 4) × (status ≡ ran) × MeasuresRun threads settings faults operator run new)
+    ⊎ ((ran ≢ 4) × (status ≡ ran) × MeasuresRun mode settings faults operator run new)
 
 -- what is written of a run by some texts and then of its measures: the status is the run's, but where memory was
 -- refused for the measures
-abbrev pub MeasuresTexts : Bool → Bool → Option (List ℕ) → Option (List ℕ) → Result ℕ WriteFault → Type 0
-MeasuresTexts threads journal old new written = (settings : List ℕ) × (faults : List ℕ) × (operator : List ℕ)
+abbrev pub MeasuresTexts : Mode → Bool → Option (List ℕ) → Option (List ℕ) → Result ℕ WriteFault → Type 0
+MeasuresTexts mode journal old new written = (settings : List ℕ) × (faults : List ℕ) × (operator : List ℕ)
     × IfOk written (λ status. (run : Option (List ℕ)) × (ran : ℕ)
-    × TellsRun settings faults operator threads journal old run ran
-    × AddsMeasures threads settings faults operator ran status run new)
+    × TellsRun settings faults operator mode journal old run ran
+    × AddsMeasures mode settings faults operator ran status run new)
 
 -- what is written of a run by the texts of its files and then of its measures, unless the settings are too long or the
 -- durations are refused
-abbrev pub MeasuresFiles : Bool → Running → Option (List ℕ) → Option (List ℕ) → Result ℕ WriteFault → Type 0
-MeasuresFiles threads running old new written =
-    MeasuresTexts threads running.journal old new written ⊎ TellsUnfit running.times old new written
+abbrev pub MeasuresFiles : Mode → Running → Option (List ℕ) → Option (List ℕ) → Result ℕ WriteFault → Type 0
+MeasuresFiles mode running old new written =
+    MeasuresTexts mode running.journal old new written ⊎ TellsUnfit running.times old new written
 
 -- what is written where some journal is followed by three texts
 abbrev pub FollowsTexts : Bool → Option (List ℕ) → Option (List ℕ) → Result ℕ WriteFault → Type 0
@@ -177,10 +179,10 @@ CarriesOut (order.Explain explaining) input old new old_errors new_errors writte
 CarriesOut (order.Measure measuring) input old new old_errors new_errors written = MeasuresJournals measuring written
 CarriesOut (order.Check path) input old new old_errors new_errors written =
     ChecksSettings old new written × (new_errors ≡ old_errors)
-CarriesOut (order.Sim running) input old new old_errors new_errors written = RunsFiles false running old new written
-    × (new_errors ≡ old_errors)
+CarriesOut (order.Sim running) input old new old_errors new_errors written =
+    RunsFiles modes.Rounds running old new written × (new_errors ≡ old_errors)
 CarriesOut (order.SimMeasured running) input old new old_errors new_errors written =
-    MeasuresFiles false running old new written × (new_errors ≡ old_errors)
+    MeasuresFiles modes.Rounds running old new written × (new_errors ≡ old_errors)
 CarriesOut (order.Follow path running) input old new old_errors new_errors written =
     FollowsFiles running old new written × (new_errors ≡ old_errors)
 CarriesOut (order.SimFrom continuing) input old new old_errors new_errors written =
@@ -191,10 +193,10 @@ CarriesOut (order.Explore exploring) input old new old_errors new_errors written
     ExploresWords exploring old new old_errors new_errors written
 CarriesOut (order.Drive driving) input old new old_errors new_errors written = DrivesFiles driving input old new written
 CarriesOut (order.Control controlling) input old new old_errors new_errors written = ⊤
-CarriesOut (order.Run running) input old new old_errors new_errors written = RunsFiles true running old new written
-    × (new_errors ≡ old_errors)
+CarriesOut (order.Run running) input old new old_errors new_errors written =
+    RunsFiles modes.Threads running old new written × (new_errors ≡ old_errors)
 CarriesOut (order.RunMeasured running) input old new old_errors new_errors written =
-    MeasuresFiles true running old new written × (new_errors ≡ old_errors)
+    MeasuresFiles modes.Threads running old new written × (new_errors ≡ old_errors)
 
 -- the status of an order for which this was written
 abbrev pub ended : Result ℕ WriteFault → ℕ

@@ -7,7 +7,8 @@ use crate::orders::{Carried, Sources, sources_in, with_ending, without_ending};
 use cell_audit::Audited;
 use cell_command::{Continuing, Running};
 use cell_orders::{Failure, book_in, wrong};
-use cell_runs::run_from_read_kept;
+use cell_output::WatchedWriter;
+use cell_runs::run_after;
 use std::io::Write;
 use std::rt::Files;
 use std::sync::Wait;
@@ -23,24 +24,10 @@ fn continue_sources<R: AllocGlobal + Wait, W: Write>(
     ensures { (text : List ℕ) → IsRead before.now text
         → GoesOnTexts running.entry.journal (W.contents output.old) (W.contents output.new) result.written }
 {
-    let told = run_from_read_kept(
-        rt,
-        before,
-        sources.settings.as_slice(),
-        sources.faults.as_slice(),
-        sources.operator.as_slice(),
-        &sources.durations,
-        running.journal,
-        output,
-    );
+    let mut writer = WatchedWriter::new(output);
+    let told = run_after(rt, before, sources.texts(), running.journal, &mut writer);
     let entries = before.book.journal().len();
-    with_ending(
-        told,
-        entries,
-        running.explain,
-        sources.faults,
-        sources.operator,
-    )
+    with_ending(told, entries, running.explain, sources)
 }
 
 // Runs the simulated cell from the journal in a file on, by what the run's files say.

@@ -2,11 +2,12 @@
 
 use cell_audit::{AuditError, write_answer};
 use cell_command::Controlling;
-use cell_control::{ControlOptions, Orders, control_cell, empty_book, read_orders, refuse_orders};
+use cell_control::{ControlOptions, Orders, Streams, control_cell, read_orders, refuse_orders};
 use cell_journal_file::{JournalFile, Past, PastError, read_past};
 use cell_orders::{Failure, script_in, settings_in, tell_too_long, wrong};
 use cell_output::{WatchedWriter, WriteFault, status};
 use cell_plant::Unkept;
+use cell_runs::empty_book;
 use plate_book::Book;
 use std::fs::{File, OpenFile};
 use std::io;
@@ -81,7 +82,7 @@ fn begin_in<'a, R: Files>(rt: &R, path: &'a str) -> Result<Option<Opened<R::File
 fn past_in<'a, R: AllocGlobal + Files>(
     rt: &R,
     path: &'a str,
-    orders: &Orders,
+    orders: &Orders<'_>,
 ) -> Result<Result<Opened<R::File>, PastError>, Failure<'a>> {
     let opened = File::options().read(true).append(true).open(rt, path);
     let mut file = about(path, opened)?;
@@ -98,7 +99,7 @@ fn past_in<'a, R: AllocGlobal + Files>(
 fn started<R: AllocGlobal, F: Write + OpenFile + Drop, E: Write>(
     rt: &R,
     opened: Opened<F>,
-    orders: &Orders,
+    orders: &Orders<'_>,
     sync: bool,
     errors: &mut E,
 ) -> io::Result<(Book, JournalFile<F>)> {
@@ -118,31 +119,18 @@ fn started<R: AllocGlobal, F: Write + OpenFile + Drop, E: Write>(
 }
 
 // Controls a cell, and writes its journal ahead to the file of a path.
-fn control_kept<'a, R: AllocGlobal + Files, I: Read + Drop, W: Write, E: Write>(
+fn control_kept<'a, R: AllocGlobal + Files, I: Read + Drop, W: Write + Drop, E: Write + Drop>(
     rt: &R,
     path: &'a str,
     opened: Opened<R::File>,
-    orders: Orders,
-    operator: &[u8],
+    orders: Orders<'_>,
     controlling: &Controlling<'a>,
-    input: I,
-    output: &mut W,
-    errors: &mut E,
+    mut streams: Streams<I, W, E>,
 ) -> Result<Result<u8, WriteFault>, Failure<'a>> {
-    let started = started(rt, opened, &orders, controlling.sync, errors);
+    let started = started(rt, opened, &orders, controlling.sync, &mut streams.errors);
     let (book, mut journal) = about(path, started)?;
     let options = options_of(controlling);
-    let told = control_cell(
-        rt.alloc(),
-        orders,
-        book,
-        operator,
-        options,
-        &mut journal,
-        input,
-        output,
-        errors,
-    );
+    let told = control_cell(rt.alloc(), orders, book, options, &mut journal, streams);
     match journal.fault() {
         Some(error) => about(path, Err(error)),
         None => Ok(Ok(told.status?)),
@@ -150,70 +138,44 @@ fn control_kept<'a, R: AllocGlobal + Files, I: Read + Drop, W: Write, E: Write>(
 }
 
 // Controls a cell, and keeps no journal.
-fn control_unkept<'a, R: AllocGlobal, I: Read + Drop, W: Write, E: Write>(
+fn control_unkept<'a, R: AllocGlobal, I: Read + Drop, W: Write + Drop, E: Write + Drop>(
     rt: &R,
-    orders: Orders,
-    operator: &[u8],
+    orders: Orders<'_>,
     controlling: &Controlling<'a>,
-    input: I,
-    output: &mut W,
-    errors: &mut E,
+    streams: Streams<I, W, E>,
 ) -> Result<Result<u8, WriteFault>, Failure<'a>> {
     let alloc = rt.alloc();
     let book = empty_book(alloc, &orders.plan)?;
     let options = options_of(controlling);
-    let told = control_cell(
-        alloc,
-        orders,
-        book,
-        operator,
-        options,
-        &mut Unkept,
-        input,
-        output,
-        errors,
-    );
+    let told = control_cell(alloc, orders, book, options, &mut Unkept, streams);
     Ok(Ok(told.status?))
 }
 
 // Controls a cell by orders that were read.
-fn control_orders<'a, R: AllocGlobal + Files, I: Read + Drop, W: Write, E: Write>(
+fn control_orders<'a, R: AllocGlobal + Files, I: Read + Drop, W: Write + Drop, E: Write + Drop>(
     rt: &R,
-    orders: Orders,
-    operator: &[u8],
+    orders: Orders<'_>,
     controlling: &Controlling<'a>,
-    input: I,
-    output: &mut W,
-    errors: &mut E,
+    mut streams: Streams<I, W, E>,
 ) -> Result<Result<u8, WriteFault>, Failure<'a>> {
     let Some(path) = controlling.journal else {
-        return control_unkept(rt, orders, operator, controlling, input, output, errors);
+        return control_unkept(rt, orders, controlling, streams);
     };
     let opened = if controlling.resume {
         match past_in(rt, path, &orders)? {
             Ok(opened) => opened,
-            Err(why) => return Ok(refuse_past(errors, why)?),
+            Err(why) => return Ok(refuse_past(&mut streams.errors, why)?),
         }
     } else {
         match begin_in(rt, path)? {
             Some(opened) => opened,
             None => {
                 let why = "the file of --journal is there already, and --resume goes on from it";
-                return Ok(wrong(errors, why)?);
+                return Ok(wrong(&mut streams.errors, why)?);
             }
         }
     };
-    control_kept(
-        rt,
-        path,
-        opened,
-        orders,
-        operator,
-        controlling,
-        input,
-        output,
-        errors,
-    )
+    control_kept(rt, path, opened, orders, controlling, streams)
 }
 
 /// Controls the cell whose lines are on the input, by what two files say. They are read before any is judged; all that
@@ -236,16 +198,13 @@ pub(crate) fn control_words<'a, R: AllocGlobal + Files, I: Read + Drop, W: Write
     let Some(settings) = settings else {
         return Ok(tell_too_long(errors));
     };
+    let streams = Streams {
+        input,
+        output,
+        errors,
+    };
     match read_orders(rt.alloc(), settings.as_slice(), operator.as_slice()) {
-        Ok(orders) => control_orders(
-            rt,
-            orders,
-            operator.as_slice(),
-            &controlling,
-            input,
-            output,
-            errors,
-        ),
-        Err(error) => Ok(refuse_orders(errors, error)),
+        Ok(orders) => control_orders(rt, orders, &controlling, streams),
+        Err(error) => Ok(refuse_orders(streams.errors, error)),
     }
 }

@@ -24,36 +24,32 @@ fn refuse_journal<W: Write>(output: &mut W, why: AuditError) -> Result<u8, Write
     write_answer(&mut WatchedWriter::new(output), Err(why))
 }
 
+// What a method drives: a cell by the files of a run, as its order says.
+#[derive(Drop)]
+struct Driven<'a> {
+    driving: Driving<'a>,
+    sources: Sources,
+}
+
 // Lets a method on the input drive the simulated cell by the texts of a run, from a journal on, if there is one.
 fn drive_sources<R: AllocGlobal + Wait, I: Read + Drop, W: Write, E: Write>(
     rt: &R,
     input: I,
     output: &mut W,
     errors: &mut E,
-    driving: Driving<'_>,
-    sources: Sources,
+    driven: &Driven<'_>,
     from: Option<&Journal>,
 ) -> Result<u8, WriteFault>
-    ensures { DrivesSome driving.entry.raw (option_map (λ j. j.now.entries) from.entry) (I.remaining input)
+    ensures { DrivesSome driven.now.driving.raw (option_map (λ j. j.now.entries) from.entry) (I.remaining input)
         (W.contents output.old) (W.contents output.new) result }
 {
-    let told = DriveOptions {
-        raw: driving.raw,
-        journal: driving.running.journal,
-        explain: driving.running.explain,
-        durations: sources.durations,
+    let options = DriveOptions {
+        raw: driven.driving.raw,
+        journal: driven.driving.running.journal,
+        explain: driven.driving.running.explain,
         from,
     };
-    drive_texts(
-        rt,
-        sources.settings.as_slice(),
-        sources.faults.as_slice(),
-        sources.operator.as_slice(),
-        told,
-        input,
-        output,
-        errors,
-    )
+    drive_texts(rt, driven.sources.texts(), options, input, output, errors)
 }
 
 // The same from a journal that was read on, or it is told that the journal is refused.
@@ -62,17 +58,16 @@ fn drive_read<R: AllocGlobal + Wait, I: Read + Drop, W: Write, E: Write>(
     input: I,
     output: &mut W,
     errors: &mut E,
-    driving: Driving<'_>,
-    sources: Sources,
+    driven: &Driven<'_>,
     before: &Audited,
 ) -> Result<u8, WriteFault>
     ensures { (text : List ℕ) → IsRead before.now text
-        → DrivesRead driving.entry (I.remaining input) (W.contents output.old) (W.contents output.new) result }
+        → DrivesRead driven.now.driving (I.remaining input) (W.contents output.old) (W.contents output.new) result }
 {
     match before.answer {
         Ok(_) => {
             let from = Some(before.book.journal());
-            drive_sources(rt, input, output, errors, driving, sources, from)
+            drive_sources(rt, input, output, errors, driven, from)
         }
         Err(why) => refuse_journal(output, why),
     }
@@ -94,11 +89,12 @@ pub(crate) fn drive_files<'a, R: AllocGlobal + Files + Wait, I: Read + Drop, W: 
         Ok(sources) => sources,
         Err(told) => return Ok(told),
     };
+    let driven = Driven { driving, sources };
     match driving.from {
         Some(path) => {
             let before = book_in(rt, path)?;
-            Ok(drive_read(rt, input, output, errors, driving, sources, &before))
+            Ok(drive_read(rt, input, output, errors, &driven, &before))
         }
-        None => Ok(drive_sources(rt, input, output, errors, driving, sources, None)),
+        None => Ok(drive_sources(rt, input, output, errors, &driven, None)),
     }
 }

@@ -18,7 +18,7 @@ ghost use Rattle.clap.specs.Words.{kind_of};
 ghost use Rattle.cellctl.specs.Carried.{IsTurnedAway, Obeys, ended, status_of_error};
 
 use cell_command::{Escaped, Resource, read_words};
-use cell_explain::endings::write_ending;
+use cell_explain::endings::{EndedRun, write_ending};
 use cell_orders::{Failure, Noted};
 use cell_output::status;
 use clap::Error;
@@ -100,16 +100,15 @@ fn finish<W: Write, E: Write>(
         output.flush()?;
     }
     if let Some(ending) = ending {
-        write_ending(
-            alloc,
-            &ending.run.journal,
-            ending.before,
-            ending.run.end,
-            &ending.run.plan,
-            ending.faults.as_slice(),
-            ending.operator.as_slice(),
-            errors,
-        )?;
+        let run = EndedRun {
+            journal: &ending.run.journal,
+            before: ending.before,
+            end: ending.run.end,
+            plan: &ending.run.plan,
+            faults: ending.faults.as_slice(),
+            operator: ending.operator.as_slice(),
+        };
+        write_ending(alloc, &run, errors)?;
     }
     Ok(status)
 }

@@ -18,8 +18,8 @@ use cell_orders::{
     Failure, audit_file, book_in, check_file, durations_in, explain_words, explore_words,
     measure_words, migrate_file, script_in, settings_in, show_words, tell_times, tell_too_long,
 };
-use cell_output::{WriteFault, status};
-use cell_runs::{KeptRun, Left, follow_read_kept, run_texts_kept};
+use cell_output::{WatchedWriter, WriteFault, status};
+use cell_runs::{KeptRun, Left, Mode, Texts, follow_kept, run_kept};
 use std::io::{Read, Write};
 use std::rt::Files;
 use std::sync::Wait;
@@ -55,6 +55,23 @@ pub(crate) struct Sources {
     pub(crate) faults: Vec<u8>,
     pub(crate) operator: Vec<u8>,
     pub(crate) durations: Durations,
+}
+
+impl Sources {
+    /// The texts of the run.
+    pub(crate) fn texts(&self) -> Texts<'_>
+        ensures settings { result.settings.now ≡ self.now.settings.items }
+        ensures faults { result.faults.now ≡ self.now.faults.items }
+        ensures operator { result.operator.now ≡ self.now.operator.items }
+        ensures durations { result.durations ≡ self.now.durations }
+    {
+        Texts {
+            settings: self.settings.as_slice(),
+            faults: self.faults.as_slice(),
+            operator: self.operator.as_slice(),
+            durations: self.durations,
+        }
+    }
 }
 
 /// Nothing is to be explained.
@@ -114,8 +131,7 @@ pub(crate) fn with_ending(
     ran: Result<(u8, Left), WriteFault>,
     before: u32,
     explain: bool,
-    faults: Vec<u8>,
-    operator: Vec<u8>,
+    sources: Sources,
 ) -> Carried
     ensures ok { IfOk ran (λ told. result.written ≡ Ok told.0) }
     ensures err { IfErr ran (λ e. result.written ≡ Err e) }
@@ -125,6 +141,11 @@ pub(crate) fn with_ending(
         Err(WriteFault) => return without_ending(Err(WriteFault)),
     };
     let lacks_thread = matches!(&left, Left::NoThread);
+    let Sources {
+        faults,
+        operator,
+        ..
+    } = sources;
     let ending = match left {
         Left::Run(run) if explain => Some(Ending {
             run,
@@ -146,37 +167,29 @@ pub(crate) fn with_ending(
 fn run_sources<R: AllocGlobal + Threads + Wait + Sync, W: Write>(
     rt: &R,
     output: &mut W,
-    threads: bool,
+    mode: Mode,
     running: Running<'_>,
     sources: Sources,
 ) -> Carried
-    ensures { RunsTexts threads running.entry.journal (W.contents output.old) (W.contents output.new) result.written }
+    ensures { RunsTexts mode running.entry.journal (W.contents output.old) (W.contents output.new) result.written }
 {
-    let ran = run_texts_kept(
-        rt,
-        sources.settings.as_slice(),
-        sources.faults.as_slice(),
-        sources.operator.as_slice(),
-        &sources.durations,
-        threads,
-        running.journal,
-        output,
-    );
-    with_ending(ran, 0, running.explain, sources.faults, sources.operator)
+    let mut writer = WatchedWriter::new(output);
+    let ran = run_kept(rt, sources.texts(), mode, running.journal, &mut writer);
+    with_ending(ran, 0, running.explain, sources)
 }
 
 // Runs the simulated cell by what its files say, on threads or in rounds. The files are all read before any is judged.
 fn run_files<'a, R: AllocGlobal + Files + Threads + Wait + Sync, W: Write>(
     rt: &R,
     output: &mut W,
-    threads: bool,
+    mode: Mode,
     running: Running<'a>,
 ) -> Result<Carried, Failure<'a>>
-    ensures { IfOk result (λ c. RunsFiles threads running.entry (W.contents output.old) (W.contents output.new)
+    ensures { IfOk result (λ c. RunsFiles mode running.entry (W.contents output.old) (W.contents output.new)
         c.written) }
 {
     match sources_in(rt, output, running)? {
-        Ok(sources) => Ok(run_sources(rt, output, threads, running, sources)),
+        Ok(sources) => Ok(run_sources(rt, output, mode, running, sources)),
         Err(told) => Ok(without_ending(told)),
     }
 }
@@ -199,46 +212,38 @@ fn status_with(run: u8, measures: u8) -> u8
 fn tell_measures<R: AllocGlobal + Wait, W: Write>(
     rt: &R,
     output: &mut W,
-    threads: bool,
-    settings: &[u8],
-    faults: &[u8],
-    operator: &[u8],
-    durations: &Durations,
+    mode: Mode,
+    texts: Texts<'_>,
     left: &Left,
 ) -> Result<u8, WriteFault>
     ensures told { OnOk result ((told : List ℕ) × Appends (W.contents output.old) (W.contents output.new) told) }
     ensures status { IfOk result (λ status. (status ≡ 0) ⊎ (status ≡ 4)) }
-    ensures measured { result ≡ Ok 0 → MeasuresRun threads settings.now faults.now operator.now
-        (W.contents output.old) (W.contents output.new) }
+    ensures measured { result ≡ Ok 0 → MeasuresRun mode texts.entry.settings.now texts.entry.faults.now
+        texts.entry.operator.now (W.contents output.old) (W.contents output.new) }
     ensures memory { result ≡ Ok 4 → output.new ≡ output.old }
 {
-    if threads {
-        return tell_least(rt.alloc(), output, left, durations);
+    match mode {
+        Mode::Rounds => measure_texts(rt, texts, output),
+        Mode::Threads => tell_least(rt.alloc(), output, left, &texts.durations),
     }
-    measure_texts(rt, settings, faults, operator, durations, output)
 }
 
 // Tells what is measured of a run that has this status, unless memory was refused for it, and gives the status of both.
 fn add_measures<R: AllocGlobal + Wait, W: Write>(
     rt: &R,
     output: &mut W,
-    threads: bool,
-    settings: &[u8],
-    faults: &[u8],
-    operator: &[u8],
-    durations: &Durations,
+    mode: Mode,
+    texts: Texts<'_>,
     status: u8,
     left: &Left,
 ) -> Result<u8, WriteFault>
-    ensures { IfOk result (λ both. AddsMeasures threads settings.now faults.now operator.now status both
-        (W.contents output.old) (W.contents output.new)) }
+    ensures { IfOk result (λ both. AddsMeasures mode texts.entry.settings.now texts.entry.faults.now
+        texts.entry.operator.now status both (W.contents output.old) (W.contents output.new)) }
 {
     if status == status::OUT_OF_MEMORY {
         return Ok(status);
     }
-    let measured = tell_measures(
-        rt, output, threads, settings, faults, operator, durations, left,
-    )?;
+    let measured = tell_measures(rt, output, mode, texts, left)?;
     Ok(status_with(status, measured))
 }
 
@@ -246,32 +251,28 @@ fn add_measures<R: AllocGlobal + Wait, W: Write>(
 fn measure_sources<R: AllocGlobal + Threads + Wait + Sync, W: Write>(
     rt: &R,
     output: &mut W,
-    threads: bool,
+    mode: Mode,
     running: Running<'_>,
     sources: Sources,
 ) -> Carried
-    ensures { MeasuresTexts threads running.entry.journal (W.contents output.old) (W.contents output.new)
+    ensures { MeasuresTexts mode running.entry.journal (W.contents output.old) (W.contents output.new)
         result.written }
 {
-    let settings = sources.settings.as_slice();
-    let faults = sources.faults.as_slice();
-    let operator = sources.operator.as_slice();
-    let durations = &sources.durations;
-    let journal = running.journal;
-    let ran = run_texts_kept(
-        rt, settings, faults, operator, durations, threads, journal, output,
+    let texts = sources.texts();
+    let ran = run_kept(
+        rt,
+        texts,
+        mode,
+        running.journal,
+        &mut WatchedWriter::new(output),
     );
     let Ok((status, left)) = ran else {
         return without_ending(Err(WriteFault));
     };
-    let both = add_measures(
-        rt, output, threads, settings, faults, operator, durations, status, &left,
-    );
-    let Ok(both) = both else {
+    let Ok(both) = add_measures(rt, output, mode, texts, status, &left) else {
         return without_ending(Err(WriteFault));
     };
-    let told = Ok((both, left));
-    with_ending(told, 0, running.explain, sources.faults, sources.operator)
+    with_ending(Ok((both, left)), 0, running.explain, sources)
 }
 
 // Runs the simulated cell by what its files say, on threads or in rounds, and tells what is measured of it. The files
@@ -279,14 +280,14 @@ fn measure_sources<R: AllocGlobal + Threads + Wait + Sync, W: Write>(
 fn measure_files<'a, R: AllocGlobal + Files + Threads + Wait + Sync, W: Write>(
     rt: &R,
     output: &mut W,
-    threads: bool,
+    mode: Mode,
     running: Running<'a>,
 ) -> Result<Carried, Failure<'a>>
-    ensures { IfOk result (λ c. MeasuresFiles threads running.entry (W.contents output.old) (W.contents output.new)
+    ensures { IfOk result (λ c. MeasuresFiles mode running.entry (W.contents output.old) (W.contents output.new)
         c.written) }
 {
     match sources_in(rt, output, running)? {
-        Ok(sources) => Ok(measure_sources(rt, output, threads, running, sources)),
+        Ok(sources) => Ok(measure_sources(rt, output, mode, running, sources)),
         Err(told) => Ok(without_ending(told)),
     }
 }
@@ -302,17 +303,9 @@ fn follow_sources<R: AllocGlobal + Wait, W: Write>(
     ensures { (text : List ℕ) → IsRead followed.now text
         → FollowsTexts running.entry.journal (W.contents output.old) (W.contents output.new) result.written }
 {
-    let told = follow_read_kept(
-        rt,
-        followed,
-        sources.settings.as_slice(),
-        sources.faults.as_slice(),
-        sources.operator.as_slice(),
-        &sources.durations,
-        running.journal,
-        output,
-    );
-    with_ending(told, 0, running.explain, sources.faults, sources.operator)
+    let mut writer = WatchedWriter::new(output);
+    let told = follow_kept(rt, followed, sources.texts(), running.journal, &mut writer);
+    with_ending(told, 0, running.explain, sources)
 }
 
 // Follows the journal in a file by what the run's files say.
@@ -362,8 +355,8 @@ pub(crate) fn carry_out<
             Ok(without_ending(measure_words(rt, output, errors, &measuring)?))
         }
         Order::Check(path) => Ok(without_ending(check_file(rt, output, path)?)),
-        Order::Sim(running) => run_files(rt, output, false, running),
-        Order::SimMeasured(running) => measure_files(rt, output, false, running),
+        Order::Sim(running) => run_files(rt, output, Mode::Rounds, running),
+        Order::SimMeasured(running) => measure_files(rt, output, Mode::Rounds, running),
         Order::Follow(path, running) => follow_files(rt, output, path, running),
         Order::SimFrom(continuing) => continue_words(rt, output, errors, continuing),
         Order::Sweep(sweeping) => {
@@ -378,7 +371,7 @@ pub(crate) fn carry_out<
         Order::Control(controlling) => {
             Ok(written_out(control_words(rt, input, output, errors, controlling)?))
         }
-        Order::Run(running) => run_files(rt, output, true, running),
-        Order::RunMeasured(running) => measure_files(rt, output, true, running),
+        Order::Run(running) => run_files(rt, output, Mode::Threads, running),
+        Order::RunMeasured(running) => measure_files(rt, output, Mode::Threads, running),
     }
 }

@@ -6,7 +6,7 @@ ghost use Rattle.cellctl.specs.Swept.{AreKinds, AreMotions, HasNoKind, IsNoCount
 
 use cell_command::Sweeping;
 use cell_orders::{Failure, script_in, settings_in, tell_too_long, wrong};
-use cell_output::WriteFault;
+use cell_output::{WatchedWriter, WriteFault};
 use cell_sim::Fault;
 use cell_sweep::{KINDS, KindsError, Sweep, read_kinds, sweep_texts};
 use cell_types::number::read_number;
@@ -62,7 +62,15 @@ fn sweep_files<'a, R: AllocGlobal + Files + Wait, W: Write, E: Write>(
         return Ok(tell_too_long(output));
     };
     let operator = operator.bytes.as_slice();
-    Ok(sweep_texts(rt, settings.as_slice(), operator, sweep, output, errors))
+    let mut writer = WatchedWriter::new(output);
+    Ok(sweep_texts(
+        rt,
+        settings.as_slice(),
+        operator,
+        sweep,
+        &mut writer,
+        errors,
+    ))
 }
 
 /// Runs the simulated cell once for each fault that the words of the command line ask for. With `progress` the errors

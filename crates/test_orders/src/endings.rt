@@ -1,8 +1,8 @@
 //! What is said of a run's end.
 use crate::said::check_said;
-use cell_explain::endings::write_ending;
-use cell_measures::Durations;
-use cell_runs::{Left, run_texts_kept};
+use cell_explain::endings::{EndedRun, write_ending};
+use cell_output::WatchedWriter;
+use cell_runs::{Left, Mode, Texts, run_kept};
 use std::alloc::Global;
 use std::process::Abort;
 use std::sync::Wait;
@@ -29,17 +29,43 @@ line 1, record 1 of the operator's script isn't done: a plate is still at press 
 the fault in motion 99 of press 1 was never reached: it set out 15 times
 ";
 
-// The scripts of the faults and of the operator, the lines of a run, and what is said of its end: nothing, where a text
-// is refused and no journal is kept.
-const RUNS: [(&str, &str, &str, &str); 3] = [
-    (FAULTS, "delivered,6,stop,press1\n", "stalled\n…", WAITING),
-    (
-        FAULTS,
-        "failed,press2,repair,press2\n",
-        "stalled\n…",
-        REFUSED,
-    ),
-    ("x", "", "faults unreadable 1\n", ""),
+// A run by the texts of its settings and scripts, its status and lines, and what is said of its end: nothing, where a
+// text is refused and no journal is kept.
+#[derive(Clone, Copy)]
+struct Case {
+    settings: &'static str,
+    faults: &'static str,
+    operator: &'static str,
+    status: u8,
+    lines: &'static str,
+    wanted: &'static str,
+}
+
+const RUNS: [Case; 3] = [
+    Case {
+        settings: SIX,
+        faults: FAULTS,
+        operator: "delivered,6,stop,press1\n",
+        status: 1,
+        lines: "stalled\n…",
+        wanted: WAITING,
+    },
+    Case {
+        settings: SIX,
+        faults: FAULTS,
+        operator: "failed,press2,repair,press2\n",
+        status: 1,
+        lines: "stalled\n…",
+        wanted: REFUSED,
+    },
+    Case {
+        settings: SIX,
+        faults: "x",
+        operator: "",
+        status: 1,
+        lines: "faults unreadable 1\n",
+        wanted: "",
+    },
 ];
 
 // What is said of the run that is left, if one is, whose journal had so many entries before.
@@ -53,82 +79,74 @@ fn said_of(
 ) -> Vec<u8> {
     let mut said = Vec::new(alloc);
     if let Left::Run(run) = left {
-        let answer = write_ending(
-            alloc,
-            &run.journal,
+        let run = EndedRun {
+            journal: &run.journal,
             before,
-            run.end,
-            &run.plan,
+            end: run.end,
+            plan: &run.plan,
             faults,
-            script,
-            &mut said,
-        );
+            operator: script,
+        };
+        let answer = write_ending(alloc, &run, &mut said);
         assert!(rt; answer.is_ok(), "what is said");
     }
     said
 }
 
 // What is written and said of a run in rounds, and its status.
-fn check_run<R: AllocGlobal + Abort + Threads + Wait + Sync>(
-    rt: &R,
-    settings: &str,
-    faults: &str,
-    operator: &str,
-    status: u8,
-    lines: &str,
-    wanted: &str,
-) {
+fn check_run<R: AllocGlobal + Abort + Threads + Wait + Sync>(rt: &R, case: &Case) {
     let alloc = rt.alloc();
-    let (faults, script) = (faults.as_bytes(), operator.as_bytes());
+    let operator = case.operator;
+    let (faults, script) = (case.faults.as_bytes(), operator.as_bytes());
     let mut written = Vec::new(alloc);
-    let ran = run_texts_kept(
-        rt,
-        settings.as_bytes(),
-        faults,
-        script,
-        &Durations::ONE,
-        false,
-        false,
-        &mut written,
-    );
+    let texts = Texts::new(case.settings.as_bytes(), faults, script);
+    let mut writer = WatchedWriter::new(&mut written);
+    let ran = run_kept(rt, texts, Mode::Rounds, false, &mut writer);
     let Ok((ended, left)) = ran else {
         panic!(rt; "no writer failed at {operator}");
     };
-    assert!(rt; ended == status, "the status of {operator}");
-    check_said(rt, operator, written.as_slice(), lines);
+    assert!(rt; ended == case.status, "the status of {operator}");
+    check_said(rt, operator, written.as_slice(), case.lines);
     assert!(rt;
-        matches!(&left, Left::Run(_)) != wanted.is_empty(),
+        matches!(&left, Left::Run(_)) != case.wanted.is_empty(),
         "what is left of {operator}"
     );
     let said = said_of(rt, alloc, &left, 0, faults, script);
-    check_said(rt, operator, said.as_slice(), wanted);
+    check_said(rt, operator, said.as_slice(), case.wanted);
 }
 
 #[test]
 fn a_run_that_stalled_is_told_by_what_it_waits_for(rt: HostRuntime) {
-    for &(faults, operator, lines, wanted) in &RUNS {
-        check_run(&rt, SIX, faults, operator, 1, lines, wanted);
+    for case in &RUNS {
+        check_run(&rt, case);
     }
 }
 
-// Settings by whose limits a run of six plates ends, the first of its lines, and what is said of that end first.
-const LIMITED: [(&str, &str, &str); 2] = [
-    (
-        "plates = 6\njournal_limit = 1",
-        "full\n…",
-        "the journal is full (journal_limit = 1)\n6 plates weren't admitted\n…",
-    ),
-    (
-        "plates = 6\nturns = 1",
-        "turn limit\n…",
-        "the turns are used up (turns = 1)\n6 plates weren't admitted\n…",
-    ),
+// Runs of six plates that end by a limit of their settings: the first of their lines, and what is said first of the
+// end.
+const LIMITED: [Case; 2] = [
+    Case {
+        settings: "plates = 6\njournal_limit = 1",
+        faults: "",
+        operator: "",
+        status: 1,
+        lines: "full\n…",
+        wanted: "the journal is full (journal_limit = 1)\n6 plates weren't admitted\n…",
+    },
+    Case {
+        settings: "plates = 6\nturns = 1",
+        faults: "",
+        operator: "",
+        status: 1,
+        lines: "turn limit\n…",
+        wanted: "the turns are used up (turns = 1)\n6 plates weren't admitted\n…",
+    },
 ];
 
 #[test]
 fn the_limit_that_ended_a_run_is_told_first(rt: HostRuntime) {
-    for &(settings, lines, wanted) in &LIMITED {
-        check_run(&rt, settings, "", "", 1, lines, wanted);
+    for case in &LIMITED {
+        check_run(&rt, case);
     }
 }
 
@@ -154,30 +172,40 @@ booked failed
 line 2, record 2 of the operator's script isn't done: it waits for a plate at the table, and none is there
 ";
 
-// The faults, the operator's script, the status, the first line, and what is said.
-const COUNTED: [(&str, &str, u8, &str, &str); 3] = [
-    (
-        "feed_belt,2,no_motion,",
-        LAID_BACK,
-        0,
-        "finished\n…",
-        "1 plate was laid back\n",
-    ),
-    ("", WAITS, 1, "stalled\n…", TABLE_WAITS),
-    (
-        "",
-        "\n\r\n\"quarantined\",1,stop,press1\n",
-        0,
-        "finished\n…",
-        "line 3, record 1 of the operator's script isn't done: it waits for 1 plate to be taken into quarantine, and 0 \
-         were\n",
-    ),
+const FOUR: &str = "plates = 4";
+
+const COUNTED: [Case; 3] = [
+    Case {
+        settings: FOUR,
+        faults: "feed_belt,2,no_motion,",
+        operator: LAID_BACK,
+        status: 0,
+        lines: "finished\n…",
+        wanted: "1 plate was laid back\n",
+    },
+    Case {
+        settings: FOUR,
+        faults: "",
+        operator: WAITS,
+        status: 1,
+        lines: "stalled\n…",
+        wanted: TABLE_WAITS,
+    },
+    Case {
+        settings: FOUR,
+        faults: "",
+        operator: "\n\r\n\"quarantined\",1,stop,press1\n",
+        status: 0,
+        lines: "finished\n…",
+        wanted: "line 3, record 1 of the operator's script isn't done: it waits for 1 plate to be taken into \
+            quarantine, and 0 were\n",
+    },
 ];
 
 #[test]
 fn plates_are_counted_and_a_record_waits_by_its_number(rt: HostRuntime) {
-    for &(faults, operator, status, lines, wanted) in &COUNTED {
-        check_run(&rt, "plates = 4", faults, operator, status, lines, wanted);
+    for case in &COUNTED {
+        check_run(&rt, case);
     }
 }
 
@@ -208,16 +236,9 @@ fn an_entry_counts_for_a_line_that_asks_for_it_and_none_from_before_the_run(rt: 
     let alloc = rt.alloc();
     let fault = "feed_belt,2,no_motion,".as_bytes();
     let mut written = Vec::new(alloc);
-    let ran = run_texts_kept(
-        &rt,
-        "plates = 4".as_bytes(),
-        fault,
-        LAID_BACK.as_bytes(),
-        &Durations::ONE,
-        false,
-        false,
-        &mut written,
-    );
+    let texts = Texts::new(FOUR.as_bytes(), fault, LAID_BACK.as_bytes());
+    let mut writer = WatchedWriter::new(&mut written);
+    let ran = run_kept(&rt, texts, Mode::Rounds, false, &mut writer);
     let Ok((_, left)) = ran else {
         panic!(&rt; "no writer failed");
     };

@@ -1,7 +1,7 @@
 //! What is said of journals: legal ones, refused ones and ones that can't be read.
 use crate::said::{Kind, check_texts};
 use cell_explain::explain_journal;
-use cell_output::WriteFault;
+use cell_output::{WatchedWriter, WriteFault};
 
 // A legal journal has the lines of the audit.
 const LEGAL: [(&str, &str); 2] = [
@@ -210,7 +210,7 @@ fn a_writer_that_fails_is_told_of(rt: HostRuntime) {
     for &len in &[0, 1, 10, 60] {
         let mut room = [0; 60];
         let mut writer = &mut room[..len];
-        let answer = explain_journal(rt.alloc(), text, &mut writer);
+        let answer = explain_journal(rt.alloc(), text, &mut WatchedWriter::new(&mut writer));
         assert!(rt; answer == Err(WriteFault), "{len} bytes: {answer:?}");
     }
 }

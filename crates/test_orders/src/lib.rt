@@ -1,5 +1,5 @@
 //! The tests of `cell_command`, of the texts that `cell_orders` reads, of `cell_explain` and `cell_explore`, and of
-//! `run_texts_kept` of `cell_runs`, whose runs are explained.
+//! `run_kept` of `cell_runs`, whose runs are explained.
 #![tactic(auto)]
 
 #[cfg(test)]

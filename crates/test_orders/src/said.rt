@@ -1,5 +1,6 @@
 //! What is said of a text.
 use cell_explain::{explain_faults, explain_journal, explain_operator, explain_settings};
+use cell_output::WatchedWriter;
 use std::process::Abort;
 
 /// What a text is.
@@ -25,12 +26,13 @@ pub(crate) fn check_said<W: AllocGlobal + Abort>(rt: &W, what: &str, said: &[u8]
 fn check_text<W: AllocGlobal + Abort>(rt: &W, kind: Kind, status: u8, text: &str, wanted: &str) {
     let alloc = rt.alloc();
     let mut written = Vec::new(alloc);
+    let mut writer = WatchedWriter::new(&mut written);
     let bytes = text.as_bytes();
     let answer = match kind {
-        Kind::Journal => explain_journal(alloc, bytes, &mut written),
-        Kind::Settings => explain_settings(alloc, bytes, &mut written),
-        Kind::Faults => explain_faults(alloc, bytes, &mut written),
-        Kind::Operator => explain_operator(alloc, bytes, &mut written),
+        Kind::Journal => explain_journal(alloc, bytes, &mut writer),
+        Kind::Settings => explain_settings(alloc, bytes, &mut writer),
+        Kind::Faults => explain_faults(alloc, bytes, &mut writer),
+        Kind::Operator => explain_operator(alloc, bytes, &mut writer),
     };
     check_said(rt, text, written.as_slice(), wanted);
     assert!(rt; answer == Ok(status), "the status of {text}");

@@ -1,7 +1,7 @@
 //! The cell driven by a method, and the machines' own workers measured as a method is.
 use cell_drive::DriveOptions;
-use cell_measures::Durations;
 use cell_output::WriteFault;
+use cell_runs::Texts;
 use std::process::Abort;
 use std::sync::Wait;
 use std::test::Fail;
@@ -14,6 +14,11 @@ const ROOM: usize = 10_000;
 const CLEARED: &[u8] =
     b"admitted,1,stop,feed\nfailed,feed,clear,feed_in\nfailed,feed,repair,feed\n";
 
+// The texts of that run.
+fn one_plate() -> Texts<'static> {
+    Texts::new(b"plates = 1", b"\"press_two\",1,no_motion,\n", CLEARED)
+}
+
 // What is measured of that run, and the status. Where it is marked, memory may be refused to it.
 fn measured<R: AllocGlobal + Wait>(
     rt: &R,
@@ -24,14 +29,7 @@ fn measured<R: AllocGlobal + Wait>(
     if marked {
         call_begins(alloc);
     }
-    let answer = cell_drive::measure_texts(
-        rt,
-        b"plates = 1".as_slice(),
-        b"\"press_two\",1,no_motion,\n".as_slice(),
-        CLEARED,
-        &Durations::ONE,
-        &mut written,
-    );
+    let answer = cell_drive::measure_texts(rt, one_plate(), &mut written);
     if marked {
         call_ends(alloc, answer == Ok(4));
     }
@@ -58,7 +56,6 @@ const BY_ENTRIES: DriveOptions<'static> = DriveOptions {
     raw: false,
     journal: true,
     explain: true,
-    durations: Durations::ONE,
     from: None,
 };
 
@@ -66,7 +63,6 @@ const BY_COMMANDS: DriveOptions<'static> = DriveOptions {
     raw: true,
     journal: true,
     explain: true,
-    durations: Durations::ONE,
     from: None,
 };
 
@@ -90,16 +86,8 @@ fn drive_lines<R: AllocGlobal + Wait>(
     if marked {
         call_begins(alloc);
     }
-    let answer = cell_drive::drive_texts(
-        rt,
-        b"plates = 1".as_slice(),
-        b"\"press_two\",1,no_motion,\n".as_slice(),
-        CLEARED,
-        driving,
-        b"lamp,feed,green,\ndone,,,\nlamp,feed,red,\ndone,,,\nquit,,,\n".as_slice(),
-        &mut output,
-        &mut errors,
-    );
+    let lines = b"lamp,feed,green,\ndone,,,\nlamp,feed,red,\ndone,,,\nquit,,,\n".as_slice();
+    let answer = cell_drive::drive_texts(rt, one_plate(), driving, lines, &mut output, &mut errors);
     if marked {
         call_ends(alloc, answer == Ok(4));
     }

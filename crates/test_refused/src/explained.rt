@@ -1,7 +1,7 @@
 //! Texts that are explained.
 use crate::texts::{PLAIN, PROFILE_1, clearing};
 use cell_explain::{explain_faults, explain_journal, explain_operator, explain_settings};
-use cell_output::WriteFault;
+use cell_output::{WatchedWriter, WriteFault};
 use std::alloc::Global;
 use std::process::Abort;
 use std::test::Fail;
@@ -30,11 +30,12 @@ fn explain(
     if marked {
         call_begins(alloc);
     }
+    let mut writer = WatchedWriter::new(&mut written);
     let answer = match kind {
-        Kind::Journal => explain_journal(alloc, text, &mut written),
-        Kind::Settings => explain_settings(alloc, text, &mut written),
-        Kind::Faults => explain_faults(alloc, text, &mut written),
-        Kind::Operator => explain_operator(alloc, text, &mut written),
+        Kind::Journal => explain_journal(alloc, text, &mut writer),
+        Kind::Settings => explain_settings(alloc, text, &mut writer),
+        Kind::Faults => explain_faults(alloc, text, &mut writer),
+        Kind::Operator => explain_operator(alloc, text, &mut writer),
     };
     if marked {
         call_ends(alloc, answer == Ok(4));

@@ -1,10 +1,9 @@
 //! Whole runs by their texts, in rounds on one thread and on threads.
 use cell_audit::{AuditError, audit, read_journal};
-use cell_explain::endings::write_ending;
+use cell_explain::endings::{EndedRun, write_ending};
 use cell_journal::Journal;
-use cell_measures::Durations;
-use cell_output::WriteFault;
-use cell_runs::{KeptRun, Left, follow_texts, run_from_read_kept, run_texts_kept};
+use cell_output::{WatchedWriter, WriteFault};
+use cell_runs::{KeptRun, Left, Mode, Texts, follow_kept, run_after, run_kept};
 use cell_types::Totals;
 use std::alloc::Global;
 use std::io::ErrorKind;
@@ -18,26 +17,26 @@ use test_samples::{CLEARED_PRESS, STUCK_PRESS, call_begins, call_ends};
 const ROOM: usize = 100_000;
 
 // The texts of a run: its settings, its faults and the operator's script.
-type Texts = [&'static str; 3];
+type Case = [&'static str; 3];
 
 // In rounds the only plate is cleared from the feed belt, which is repaired. This takes few rounds, each of which takes
 // memory for its lists.
-const SHORT: Texts = [
+const SHORT: Case = [
     "plates = 1",
     "\"press_two\",1,no_motion,\n",
     "admitted,1,stop,feed\nfailed,feed,clear,feed_in\n\"failed\",feed,repair,feed\n",
 ];
 
 // On threads one of six plates stays in the second press, and is cleared.
-const LONG: Texts = ["plates = 6", STUCK_PRESS, CLEARED_PRESS];
+const LONG: Case = ["plates = 6", STUCK_PRESS, CLEARED_PRESS];
 
 // One plate is carried through the cell.
-const PLAIN: Texts = ["plates = 1", "", ""];
+const PLAIN: Case = ["plates = 1", "", ""];
 
 // What a run writes, and its status. Where the run is marked, memory may be refused to it.
 fn run<R: AllocGlobal + Abort + Threads + Wait + Sync>(
     rt: &R,
-    texts: Texts,
+    texts: Case,
     threads: bool,
     journal: bool,
     marked: bool,
@@ -72,7 +71,7 @@ fn tells_memory(written: &[u8]) -> bool {
 // The lines of a run, which are these where it has memory.
 fn check_lines<R: AllocGlobal + Abort + Threads + Wait + Sync>(
     rt: &R,
-    texts: Texts,
+    texts: Case,
     threads: bool,
     due: &[u8],
 ) -> Result<(), Fail> {
@@ -149,7 +148,7 @@ fn run_texts_on_threads_with_journal(rt: HostRuntime) -> Result<(), Fail> {
 // A run in rounds with its journal, which is kept. Where it is marked, memory may be refused to it.
 fn keep<R: AllocGlobal + Abort + Threads + Wait + Sync>(
     rt: &R,
-    texts: Texts,
+    texts: Case,
     marked: bool,
 ) -> Result<(Vec<u8>, u8, Option<KeptRun>), Fail> {
     let alloc = rt.alloc();
@@ -163,16 +162,9 @@ fn keep<R: AllocGlobal + Abort + Threads + Wait + Sync>(
     if marked {
         call_begins(alloc);
     }
-    let answer = run_texts_kept(
-        rt,
-        settings,
-        faults,
-        operator,
-        &Durations::ONE,
-        false,
-        false,
-        &mut written,
-    );
+    let texts = Texts::new(settings, faults, operator);
+    let mut writer = WatchedWriter::new(&mut written);
+    let answer = run_kept(rt, texts, Mode::Rounds, false, &mut writer);
     if marked {
         call_ends(alloc, matches!(&answer, Ok((4, _))));
     }
@@ -205,7 +197,7 @@ fn check_kept(rt: &impl Abort, kept: &Option<KeptRun>, whole: &Journal) -> Optio
 
 // Where memory is wanting, a journal that is kept is a first part of the one that is due.
 #[test]
-fn run_texts_kept_in_rounds(rt: HostRuntime) -> Result<(), Fail> {
+fn run_kept_in_rounds(rt: HostRuntime) -> Result<(), Fail> {
     let (due, status, whole) = keep(&rt, SHORT, false)?;
     let whole = whole.expect(&rt, "a run").journal;
     assert!(rt; status == 0);
@@ -222,7 +214,7 @@ fn run_texts_kept_in_rounds(rt: HostRuntime) -> Result<(), Fail> {
 
 // The journal of that plate's run is followed.
 #[test]
-fn follow_texts_of_a_run(rt: HostRuntime) -> Result<(), Fail> {
+fn follow_kept_of_a_run(rt: HostRuntime) -> Result<(), Fail> {
     let (journal, status) = run(&rt, SHORT, false, true, false)?;
     assert!(rt; status == Ok(0));
     let alloc = rt.alloc();
@@ -232,25 +224,20 @@ fn follow_texts_of_a_run(rt: HostRuntime) -> Result<(), Fail> {
         faults.as_bytes(),
         operator.as_bytes(),
     ];
-    let followed = journal.as_slice();
+    let followed = read_journal(alloc, journal.as_slice())?;
+    let texts = Texts::new(settings, faults, operator);
     let mut written = Vec::with_capacity(alloc, ROOM)?;
+    let mut writer = WatchedWriter::new(&mut written);
     call_begins(alloc);
-    let answer = follow_texts(
-        &rt,
-        followed,
-        settings,
-        faults,
-        operator,
-        false,
-        &mut written,
-    );
-    call_ends(alloc, answer == Ok(4));
+    let answer = follow_kept(&rt, &followed, texts, false, &mut writer);
+    let status = answer.map(|(status, _)| status);
+    call_ends(alloc, status == Ok(4));
     let lines = written.as_slice();
-    if answer == Ok(4) {
+    if status == Ok(4) {
         assert!(rt; lines.is_empty() || tells_memory(lines));
     } else {
         let due: &[u8] = b"followed\nadmitted 1\nforged 0\nquarantined 1\ndelivered 0\n";
-        assert!(rt; answer == Ok(0) && lines == due);
+        assert!(rt; status == Ok(0) && lines == due);
     }
     Ok(())
 }
@@ -268,19 +255,11 @@ fn run_from_a_journal_that_was_read(rt: HostRuntime) -> Result<(), Fail> {
         operator.as_bytes(),
     ];
     let before = read_journal(alloc, BEGUN)?;
+    let texts = Texts::new(settings, faults, operator);
     let mut written = Vec::with_capacity(alloc, ROOM)?;
-    let ones = &Durations::ONE;
+    let mut writer = WatchedWriter::new(&mut written);
     call_begins(alloc);
-    let answer = run_from_read_kept(
-        &rt,
-        &before,
-        settings,
-        faults,
-        operator,
-        ones,
-        false,
-        &mut written,
-    );
+    let answer = run_after(&rt, &before, texts, false, &mut writer);
     let status = answer.map(|(status, _)| status);
     call_ends(alloc, status == Ok(4));
     let lines = written.as_slice();
@@ -295,7 +274,7 @@ fn run_from_a_journal_that_was_read(rt: HostRuntime) -> Result<(), Fail> {
 
 // The plate stays on the feed belt, which fails, since the operator waits for more plates, and no plate sets the second
 // press in motion.
-const STALLED: Texts = [
+const STALLED: Case = [
     "plates = 1",
     "\"press_two\",1,no_motion,\n",
     "admitted,1,stop,feed\n\"admitted\",2,repair,feed\n",
@@ -309,20 +288,19 @@ fn ending(
     marked: bool,
 ) -> Result<(Vec<u8>, bool), Fail> {
     let [_, faults, operator] = STALLED;
+    let ended = EndedRun {
+        journal: &run.journal,
+        before: 0,
+        end: run.end,
+        plan: &run.plan,
+        faults: faults.as_bytes(),
+        operator: operator.as_bytes(),
+    };
     let mut written = Vec::with_capacity(alloc, ROOM)?;
     if marked {
         call_begins(alloc);
     }
-    let answer = write_ending(
-        alloc,
-        &run.journal,
-        0,
-        run.end,
-        &run.plan,
-        faults.as_bytes(),
-        operator.as_bytes(),
-        &mut written,
-    );
+    let answer = write_ending(alloc, &ended, &mut written);
     if marked {
         call_ends(alloc, answer.is_err());
     }

@@ -1,6 +1,7 @@
 //! The journals that are told.
 use cell_explore::breadth::{NoProgress, Progress};
 use cell_explore::{ProgressLine, Question, explore_lines, journal_to, nearest_end, search};
+use cell_output::WatchedWriter;
 use std::alloc::Global;
 use std::process::Abort;
 
@@ -59,7 +60,7 @@ fn prints_the_counts(rt: HostRuntime) {
         &ONE_PLATE,
         10_000,
         false,
-        &mut text,
+        &mut WatchedWriter::new(&mut text),
         &mut progress,
     ) else {
         panic!(rt; "a list takes all");
@@ -73,7 +74,9 @@ fn check_more(rt: &impl Abort, alloc: Global, limit: u32, wanted: &[u8]) {
     let mut text = Vec::new(alloc);
     let mut errors = Vec::new(alloc);
     let mut progress = ProgressLine::new(&mut errors, false);
-    let Ok(status) = explore_lines(alloc, &ONE_PLATE, limit, true, &mut text, &mut progress) else {
+    let mut writer = WatchedWriter::new(&mut text);
+    let Ok(status) = explore_lines(alloc, &ONE_PLATE, limit, true, &mut writer, &mut progress)
+    else {
         panic!(rt; "a list takes all");
     };
     assert!(rt; status == 1 && text.as_slice() == wanted, "{status}");

@@ -3,6 +3,7 @@ use crate::reading::texts::{ENDS, TAILS, text_with};
 use cell_audit::{AuditError, audit_text};
 use cell_explain::explain_journal;
 use cell_orders::journal_text;
+use cell_output::WatchedWriter;
 use plate_book::Refusal;
 use std::alloc::Global;
 use std::io;
@@ -19,7 +20,7 @@ const PLAIN: &[u8] = b"\nprofile,2,,\nlamp,feed,green,\nrepaired,feed,,\n";
 // What is said of a journal's text, and the status.
 fn said_of(alloc: Global, text: &[u8]) -> (Vec<u8>, Option<u8>) {
     let mut said = Vec::new(alloc);
-    let status = explain_journal(alloc, text, &mut said).ok();
+    let status = explain_journal(alloc, text, &mut WatchedWriter::new(&mut said)).ok();
     (said, status)
 }
 

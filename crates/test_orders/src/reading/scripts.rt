@@ -2,6 +2,7 @@
 use crate::reading::texts::{ENDS, TAILS, text_with};
 use cell_explain::{explain_faults, explain_operator};
 use cell_orders::script_text;
+use cell_output::WatchedWriter;
 use cell_rows::{LineError, ScriptLine, read_script};
 use cell_sim::PlannedFault;
 use operator_desk::Line;
@@ -32,9 +33,10 @@ fn error_of<L: ScriptLine + Drop>(alloc: Global, text: &[u8]) -> Option<LineErro
 // What is said of a script, and the status.
 fn said_of(alloc: Global, kind: Kind, text: &[u8]) -> (Vec<u8>, Option<u8>) {
     let mut said = Vec::new(alloc);
+    let mut writer = WatchedWriter::new(&mut said);
     let status = match kind {
-        Kind::Faults => explain_faults(alloc, text, &mut said).ok(),
-        Kind::Operator => explain_operator(alloc, text, &mut said).ok(),
+        Kind::Faults => explain_faults(alloc, text, &mut writer).ok(),
+        Kind::Operator => explain_operator(alloc, text, &mut writer).ok(),
     };
     (said, status)
 }

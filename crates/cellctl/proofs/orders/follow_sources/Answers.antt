@@ -1,26 +1,30 @@
--- What is written is by the texts that were read
+-- What is written is by the texts that were read, and what the writer that notes holds is what the output holds
+use Rattle.std.proofs.Common.{List, Option, ℕ, rules}
+use Rattle.std.specs.Prelude.{IfOk}
 use Rattle.std.proofs.lemmas.Result.{IfOk-weaker}
 use Rattle.cell_runs.specs.Runs.{kept_of}
 use Rattle.cell_runs.specs.Told.{TellsFollowed, TellsPartFollowed}
+use Rattle.cell_runs.proofs.Telling.{as-held}
 use Rattle.cellctl.proofs.Written.{as-answered}
 use Rattle.cellctl.proofs.orders.follow_sources.Goals as goal
 
 pub returns : goal.returns
 returns g c = λ text read.
-    let settings = c.as_slice.result.now in
-    let faults = c.as_slice-2.result.now in
-    let operator = c.as_slice-3.result.now in
-    let old = g.W.Write.contents c.args.output.now in
-    let new = g.W.Write.contents c.follow_read_kept-told.new.writer in
-    let alone = c.args.running.journal in (
+    let settings = c.texts.result.settings.now in
+    let faults = c.texts.result.faults.now in
+    let operator = c.texts.result.operator.now in
+    let ran = c.follow_kept-told.result in
+    let journal = c.args.running.journal in (
       text,
       settings,
       faults,
       operator,
-      as-answered c.follow_read_kept-told.result c.with_ending.result.written
-          (TellsFollowed text settings faults operator alone old new)
-          (TellsPartFollowed text settings faults operator alone old new) c.with_ending.ensures.ok
-          c.with_ending.ensures.err
-          (IfOk-weaker c.follow_read_kept-told.result _ _ (λ told keeps. (kept_of told.1, keeps))
-          (c.follow_read_kept-told.ensures.whole text read)) (c.follow_read_kept-told.ensures.part text read),
+      as-answered ran c.with_ending.result.written _ _ c.with_ending.ensures.ok c.with_ending.ensures.err
+          (as-held (λ (old new : Option (List ℕ)). IfOk ran
+          (λ told. TellsFollowed text settings faults operator journal old new told.0)) _ _ _ _
+          (search rules) (search rules)
+          (IfOk-weaker ran _ _ (λ told keeps. (kept_of told.1, keeps)) (c.follow_kept-told.ensures.whole text read)))
+          (λ failed. as-held (λ (old new : Option (List ℕ)).
+          TellsPartFollowed text settings faults operator journal old new)
+          _ _ _ _ (search rules) (search rules) (c.follow_kept-told.ensures.part text read failed)),
     )

@@ -1,24 +1,28 @@
--- What is written is by the texts that were read
+-- What is written is by the texts that were read, and what the writer that notes holds is what the output holds
+use Rattle.std.proofs.Common.{List, Option, ℕ, rules}
+use Rattle.std.specs.Prelude.{IfOk}
 use Rattle.std.proofs.lemmas.Result.{IfOk-weaker}
 use Rattle.cell_runs.specs.Runs.{TellsPart, TellsRun, kept_of}
+use Rattle.cell_runs.proofs.Telling.{as-held}
 use Rattle.cellctl.proofs.Written.{as-answered}
 use Rattle.cellctl.proofs.orders.run_sources.Goals as goal
 
 pub returns : goal.returns
 returns g c =
-    let settings = c.as_slice.result.now in
-    let faults = c.as_slice-2.result.now in
-    let operator = c.as_slice-3.result.now in
-    let old = g.W.Write.contents c.args.output.now in
-    let new = g.W.Write.contents c.run_texts_kept-ran.new.writer in
-    let running = c.args.running in (
+    let settings = c.texts.result.settings.now in
+    let faults = c.texts.result.faults.now in
+    let operator = c.texts.result.operator.now in
+    let ran = c.run_kept-ran.result in
+    let journal = c.args.running.journal in (
       settings,
       faults,
       operator,
-      as-answered c.run_texts_kept-ran.result c.with_ending.result.written
-          (TellsRun settings faults operator c.args.threads running.journal old new)
-          (TellsPart settings faults operator c.args.threads running.journal old new) c.with_ending.ensures.ok
-          c.with_ending.ensures.err
-          (IfOk-weaker c.run_texts_kept-ran.result _ _ (λ told keeps. (kept_of told.1, keeps))
-          c.run_texts_kept-ran.ensures.whole) c.run_texts_kept-ran.ensures.part,
+      as-answered ran c.with_ending.result.written _ _ c.with_ending.ensures.ok c.with_ending.ensures.err
+          (as-held (λ (old new : Option (List ℕ)). IfOk ran
+          (λ told. TellsRun settings faults operator c.args.mode journal old new told.0)) _ _ _ _
+          (search rules) (search rules)
+          (IfOk-weaker ran _ _ (λ told keeps. (kept_of told.1, keeps)) c.run_kept-ran.ensures.whole))
+          (λ failed. as-held (λ (old new : Option (List ℕ)).
+          TellsPart settings faults operator c.args.mode journal old new)
+          _ _ _ _ (search rules) (search rules) (c.run_kept-ran.ensures.part failed)),
     )
