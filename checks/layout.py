@@ -1,6 +1,7 @@
 #!/usr/bin/env python3
 """Looks at how the sources are laid out: no line of code, definitions or proofs is longer than 120 columns, no function's
-body longer than 50 lines, no file longer than 800. A `#[tactic(..)]` may be longer, since `rt fmt` lays it out on one line.
+body longer than 50 lines, no file longer than 800, and no function takes more than six values but those whose signatures are
+given. A `#[tactic(..)]` may be longer, since `rt fmt` lays it out on one line.
 
 Usage: checks/layout.py
 """
@@ -8,9 +9,10 @@ import pathlib
 import re
 import sys
 
-COLUMNS, BODY, FILE = 120, 50, 800
+COLUMNS, BODY, FILE, VALUES = 120, 50, 800, 6
+GIVEN = ("run_operator", "run_schedule", "run_texts", "run_worker", "turn")
 TACTIC = re.compile(r" *#\[tactic\(")
-HEAD = re.compile(r"( *)(?:pub(?:\([a-z]+\))? )?(?:const )?(?:unsafe )?fn (\w+)")
+HEAD = re.compile(r"^( *)(?:pub(?:\([a-z]+\))? )?(?:const |final )?(?:unsafe )?fn (\w+)", re.MULTILINE)
 
 
 def bodies(lines):
@@ -29,6 +31,29 @@ def bodies(lines):
         yield name, at + 1, end - begin - 1
 
 
+def values(text):
+    """How many values a function takes, by the text behind its name: the generic parameters and their bounds aside."""
+    depth, count, opened, before = 0, 0, False, ""
+    for sign in text:
+        if opened and depth == 1 and before in "(," and sign != ")" and not sign.isspace():
+            count += 1
+        if sign in "([{<":
+            opened, depth = opened or (sign == "(" and depth == 0), depth + 1
+        elif sign in ")]}" or (sign == ">" and before != "-"):
+            depth -= 1
+            if depth == 0 and opened:
+                return count
+        if not sign.isspace():
+            before = sign
+    return count
+
+
+def heads(text):
+    """The name of each function, the number of its line, and how many values it takes."""
+    for head in HEAD.finditer(text):
+        yield head[2], text.count("\n", 0, head.end()) + 1, values(text[head.end() :])
+
+
 def faults(path, lines):
     """What is too long in a file."""
     if len(lines) > FILE:
@@ -40,6 +65,9 @@ def faults(path, lines):
         for name, number, length in bodies(lines):
             if length > BODY:
                 yield f"{path}:{number}: {name} has {length} lines"
+        for name, number, count in heads("\n".join(lines)):
+            if count > VALUES and name not in GIVEN:
+                yield f"{path}:{number}: {name} takes {count} values"
 
 
 def main():
