@@ -6,7 +6,7 @@ use Rattle.operator_desk.specs.declared.line.Line.{Line}
 use Rattle.cell_lines.specs.Stands.{Stand, WritesSome, closing_text, first_stand}
 use Rattle.cell_lines.specs.declared.far_end.Loss.{Loss}
 use Rattle.cell_ports.specs.declared.plan.Plan.{Plan}
-use Rattle.cell_rounds.specs.Moves.{Terms, terms}
+use Rattle.cell_rounds.specs.Moves.{Terms, terms_of}
 use Rattle.cell_rounds.specs.declared.progress.Halt.{Halt}
 use Rattle.cell_rounds.specs.declared.settle.LastCommand.{LastCommand}
 use Rattle.cell_control.specs.Controlling.{Controls, Ran}
@@ -27,12 +27,12 @@ pub controls_as : {K : Type 0} (keeps : K → K → Entry → Bool → Type 0) (
     (book book' : History) (lines : List Line) (pending pending' : Option LastCommand)
     (input input' old new new' : Option (List ℕ)) (k k' : K) (h : Halt) (J' : List Entry)
     → book ≡ book' → pending ≡ pending' → input ≡ input' → new ≡ new'
-    → Controls keeps (terms book.limits p waits) resumes book.entries lines pending input old new k k' h J'
-    → Controls keeps (terms book'.limits p waits) resumes book'.entries lines pending' input' old new' k k' h J'
+    → Controls keeps (terms_of book.limits p waits) resumes book.entries lines pending input old new k k' h J'
+    → Controls keeps (terms_of book'.limits p waits) resumes book'.entries lines pending' input' old new' k k' h J'
 controls_as keeps p waits resumes book book' lines pending pending' input input' old new new' k k' h J'
     same looked read written controls =
     let at : History → Option LastCommand → Option (List ℕ) → Option (List ℕ) → Type 0 =
-    λ b o i n. Controls keeps (terms b.limits p waits) resumes b.entries lines o i old n k k' h J' in
+    λ b o i n. Controls keeps (terms_of b.limits p waits) resumes b.entries lines o i old n k k' h J' in
     subst (λ b. at b pending' input' new') same
     (subst (λ o. at book o input' new') looked
     (subst (λ i. at book pending i new') read (subst (λ n. at book pending input n) written controls)))

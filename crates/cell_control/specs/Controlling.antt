@@ -40,9 +40,9 @@ start_text resumes n = if resumes then sync_text n else []
 abbrev pub left_open : Bool → List Entry → Option LastCommand
 left_open resumes J = if resumes then last_command J else None
 
--- a run over a cell's lines from this journal on, by a script with these lines, with this command of which it isn't
--- known whether it went out, and what is kept of it: the cell couldn't be reached, and at most the line by which it is
--- found was written; or it was reached, and rounds led to where the run halted
+-- a run over a cell's lines from this journal on, by a script with these lines, and what is kept of it. A command may
+-- be pending, of which it isn't known whether it went out. The cell couldn't be reached, and at most the line by which
+-- it is found was written; or it was reached, and rounds led to where the run halted
 pub data Ran {K : Type 0} (keeps : K → K → Entry → Bool → Type 0) (T : Terms) (resumes : Bool) (J : List Entry)
     (lines : List Line) (pending : Option LastCommand) (s t : Stand) (k k' : K) (h : Halt) (J' : List Entry) : Type 0
   where

@@ -119,7 +119,7 @@ fn control_far<I: TellsFault, W: Write, E: Write, K: Keeper>(
     terms: Terms<'_>,
     resumes: bool,
 ) -> Outcome
-    ensures ran { Ran K.keeps (moves.terms start.book.limits terms.entry.plan.now terms.entry.waits) resumes
+    ensures ran { Ran K.keeps (moves.terms_of start.book.limits terms.entry.plan.now terms.entry.waits) resumes
         start.book.entries start.script start.pending (stand_of I.remaining W.contents far.old)
         (stand_of I.remaining W.contents far.new) keeper.old keeper.new result.halt result.book.entries }
     ensures limits { result.book.limits ≡ start.book.limits }
@@ -166,7 +166,7 @@ struct Left<W, E> {
 
 impl<W, E: Write> Left<W, E> {
     // Tells what came of the run, and gives the exit status.
-    fn tell(
+    fn tell_outcome(
         &mut self,
         alloc: Global,
         plan: &Plan,
@@ -203,8 +203,8 @@ fn run_far<I: TellsFault + Drop, W: Write, E: Write, K: Keeper>(
     terms: Terms<'_>,
     resumes: bool,
 ) -> Left<W, E>
-    ensures controls { Controls K.keeps (moves.terms start.book.limits terms.entry.plan.now terms.entry.waits) resumes
-        start.book.entries start.script start.pending (I.remaining streams.input) (W.contents streams.output)
+    ensures controls { Controls K.keeps (moves.terms_of start.book.limits terms.entry.plan.now terms.entry.waits)
+        resumes start.book.entries start.script start.pending (I.remaining streams.input) (W.contents streams.output)
         (W.contents result.output) keeper.old keeper.new result.outcome.halt result.outcome.book.entries }
     ensures legal { legal start.book.limits result.outcome.book.entries ≡ true }
     ensures safe { IsSafe result.outcome.book.entries }
@@ -220,8 +220,8 @@ fn run_far<I: TellsFault + Drop, W: Write, E: Write, K: Keeper>(
     }
 }
 
-// Opens the input. A run that goes on from a journal starts with the lines of the script that this leaves, and with the
-// command of its last entry, of which it isn't known whether it went out.
+// Opens the input. A run that goes on from a journal starts with the lines of the script that the journal leaves. Its
+// pending command is that of the last entry, of which it isn't known whether it went out.
 fn open<I: Read + Drop>(
     alloc: Global,
     input: I,
@@ -255,7 +255,7 @@ pub fn control_cell<I: Read + Drop, W: Write + Drop, E: Write + Drop, K: Keeper>
     // entry that was kept before, but for those that stop machines and the one that a run which goes on sends again.
     // Each entry is the one that is due at the reading that the cell's lines spell, or the operator's: by the first
     // line of his script that is left, or because it was done or wanted at the cell.
-    ensures controlling { Controlling K.keeps (moves.terms book.limits orders.entry.plan options.wait) options.resume
+    ensures controlling { Controlling K.keeps (moves.terms_of book.limits orders.entry.plan options.wait) options.resume
         book.entries orders.entry.script orders.entry.operator.now (I.remaining streams.input)
         (W.contents streams.output) (W.contents result.output) keeper.old keeper.new result.status }
 {
@@ -291,7 +291,7 @@ pub fn control_cell<I: Read + Drop, W: Write + Drop, E: Write + Drop, K: Keeper>
         waits: options.wait,
     };
     let mut left = run_far(alloc, streams, keeper, start, terms, resumes);
-    let status = left.tell(alloc, &plan, operator, options.explain);
+    let status = left.tell_outcome(alloc, &plan, operator, options.explain);
     Finished {
         output: left.output,
         errors: left.errors,

@@ -11,7 +11,7 @@ use Rattle.cell_method.specs.declared.booking.Close.{Close}
 use Rattle.cell_method.specs.declared.rounds.DriveEnd.{DriveEnd}
 use Rattle.cell_method.specs.declared.rounds.DriveEnd.TheVariants as ends
 
--- the same, by the lines that were left earlier
+-- if none of the lines is left later, none of those that were left earlier is
 dry-earlier : (a b c : Option (List (Option Row))) (rows : List (Option Row)) → Reads a rows b → IsDry b c → IsDry a c
 dry-earlier None b c rows read dry = tt
 dry-earlier (Some a) None c rows read dry = absurd read

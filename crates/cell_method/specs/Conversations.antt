@@ -3,5 +3,5 @@ use Rattle.std.specs.Prelude.{◌≡◌}
 use Rattle.cell_method.specs.declared.conversation.Conversation.{Conversation}
 
 -- the method is still told by the same writer
-abbrev pub IsSameWriter : {R W : Type 0} → Conversation R W → Conversation R W → Type 0
-IsSameWriter old new = new.writer.ghost_name ≡ old.writer.ghost_name
+abbrev pub KeepsWriter : {R W : Type 0} → Conversation R W → Conversation R W → Type 0
+KeepsWriter old new = new.writer.ghost_name ≡ old.writer.ghost_name

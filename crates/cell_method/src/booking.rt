@@ -4,7 +4,7 @@ ghost use Rattle.cell_types.specs.Entries.{actor_of, command_of};
 ghost use Rattle.cell_types.specs.declared.words.Actor.TheVariants as actors;
 ghost use Rattle.cell_rules.specs.Legal.{first_of};
 ghost use Rattle.cell_ports.specs.Logs.{after_sending};
-ghost use Rattle.cell_method.specs.Conversations.{IsSameWriter};
+ghost use Rattle.cell_method.specs.Conversations.{KeepsWriter};
 ghost use Rattle.cell_method.specs.Lines.{lines_left};
 ghost use Rattle.cell_method.specs.Asked.{to_book};
 ghost use Rattle.cell_method.specs.Order.{ClosesAt, Point, Talking};
@@ -131,7 +131,7 @@ pub(crate) fn take_lines<R: TellsFault, W: Write, P: Port, L: Onlooker>(
         ports.new (SameDesk s) }
     ensures memory { IfErr result (λ e. e ≢ DriveError.OutOfMemory) }
     ensures limits { book.new.limits ≡ book.old.limits }
-    ensures writer { IsSameWriter method.old method.new }
+    ensures writer { KeepsWriter method.old method.new }
 {
     for _count in 0..MAX_LINES {
         if !method.lines.advance()? {

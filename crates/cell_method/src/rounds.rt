@@ -5,7 +5,7 @@ ghost use Rattle.cell_types.specs.declared.words.Entry.{Entry as EntryValue};
 ghost use Rattle.cell_rules.specs.declared.limits.BookLimits.{BookLimits};
 ghost use Rattle.cell_rules.specs.Legal.{legal};
 ghost use Rattle.cell_rules.specs.Safety.{IsSafe};
-ghost use Rattle.cell_method.specs.Conversations.{IsSameWriter};
+ghost use Rattle.cell_method.specs.Conversations.{KeepsWriter};
 ghost use Rattle.cell_method.specs.Ends.{end_by, is_finished};
 ghost use Rattle.cell_method.specs.Lines.{Row, lines_left};
 ghost use Rattle.cell_method.specs.Order.{Point, RoundEndsAt, Showing, between};
@@ -115,7 +115,7 @@ fn take_round<R: TellsFault, W: Write, P: Port, O: OperatorPort, L: Onlooker>(
         → Broke P.tells P.log book.old.limits s between (lines_left R.remaining method.old.lines) book.new.entries
         cell.new.ports (BrokeBy O.tells O.log book.old.limits cell.new.hands e)) }
     ensures limits { book.new.limits ≡ book.old.limits }
-    ensures writer { IsSameWriter method.old method.new }
+    ensures writer { KeepsWriter method.old method.new }
 {
     show_readings(&mut cell.ports, method.writer)?;
     open_round(method.writer, number)?;
@@ -150,7 +150,7 @@ fn take_rounds<R: TellsFault, W: Write, P: Port, O: OperatorPort, L: Onlooker>(
         (lines_left R.remaining method.old.lines) book.new.entries cell.new.ports
         (BrokeBy O.tells O.log book.old.limits cell.new.hands e)) }
     ensures limits { book.new.limits ≡ book.old.limits }
-    ensures writer { IsSameWriter method.old method.new }
+    ensures writer { KeepsWriter method.old method.new }
 {
     for round in 0..plan.turns {
         match take_round(round + 1, method, book, cell, desk, onlooker)? {
@@ -191,7 +191,7 @@ pub fn drive<R: TellsFault, W: Write, P: Port, O: OperatorPort, L: Onlooker>(
     ensures safe { IsSafe book.new.entries }
     ensures limits { book.new.limits ≡ book.old.limits }
     // What the method is told still goes to the same writer.
-    ensures writer { IsSameWriter method.old method.new }
+    ensures writer { KeepsWriter method.old method.new }
 {
     let mut desk = Desk {
         script,

@@ -16,7 +16,7 @@ use Rattle.cell_turns.proofs.Sixes.{all_put}
 use Rattle.operator_desk.specs.declared.line.Line.{Line}
 use Rattle.cell_plant.specs.Asked.{Asked}
 use Rattle.cell_rounds.specs.Calls.{halted}
-use Rattle.cell_rounds.specs.Moves.{Leads, Move, Terms, goes, stays, terms}
+use Rattle.cell_rounds.specs.Moves.{Leads, Move, Terms, goes, stays, terms_of}
 use Rattle.cell_rounds.specs.Runs.{Controlled, Goes, Halts, Reaches, Runs, breaks, fills, lacks, rests, tires}
 use Rattle.cell_rounds.specs.Stands.{Between, Over, Place, Point, Stand, State, desk, place, stand}
 use Rattle.cell_rounds.specs.declared.progress.Halt.{Halt}
@@ -128,29 +128,29 @@ module _ {C K : Type 0} (told : C → C → Asked → Type 0) (keeps : K → K �
 module _ {C K : Type 0} (told : C → C → Asked → Type 0) (keeps : K → K → Entry → Bool → Type 0) (l : BookLimits)
     (p : Plan) where
   pub goes_nothing : (f : Point) (x : State C K) → Goes told keeps l p None f f x x
-  goes_nothing f x = λ waits n J. runs_nothing told keeps (terms l p waits) (place n J f) x
+  goes_nothing f x = λ waits n J. runs_nothing told keeps (terms_of l p waits) (place n J f) x
 
   -- one call and then another, whose book has the same limits
   pub goes_then : (l' : BookLimits) (h : Option Halt) (f g i : Point) (x y z : State C K) → l' ≡ l
       → Goes told keeps l p None f g x y → Goes told keeps l' p h g i y z → Goes told keeps l p h f i x z
   goes_then l' h f g i x y z same first then = λ waits n J.
-      runs_then told keeps (terms l p waits) h (place n J f) (place n J g) (place n J i) x y z (first waits n J)
+      runs_then told keeps (terms_of l p waits) h (place n J f) (place n J g) (place n J i) x y z (first waits n J)
       (subst (λ (q : BookLimits). Goes told keeps q p h g i y z) same then waits n J)
 
   -- one move
   pub goes_move : (f g : Point) (x y : State C K)
       → ((waits : Bool) (n : ℕ) (J : List Entry) (minds : Six Mind) → FitAll x.watches minds
       → (minds' : Six Mind) × FitAll y.watches minds'
-      × Move told keeps (terms l p waits) (stand x minds (place n J f)) (stand y minds' (place n J g)))
+      × Move told keeps (terms_of l p waits) (stand x minds (place n J f)) (stand y minds' (place n J g)))
       → Goes told keeps l p None f g x y
   goes_move f g x y move = λ waits n J.
-      runs_move told keeps (terms l p waits) (place n J f) (place n J g) x y (move waits n J)
+      runs_move told keeps (terms_of l p waits) (place n J f) (place n J g) x y (move waits n J)
 
   -- what led to where nothing more is done has halted the run
   pub goes_over : (h : Halt) (f g : Point) (x y : State C K) → Goes told keeps l p None f (Over h) x y
       → Goes told keeps l p (Some h) f g x y
   goes_over h f g x y over = λ waits n J.
-      runs_over told keeps (terms l p waits) h (place n J f) (place n J (Over h)) (place n J g) x y refl
+      runs_over told keeps (terms_of l p waits) h (place n J f) (place n J (Over h)) (place n J g) x y refl
       (over waits n J)
 
   -- the run halted where a call failed for what another failed for, wherever it would have gone
@@ -158,7 +158,7 @@ module _ {C K : Type 0} (told : C → C → Asked → Type 0) (keeps : K → K �
       (x y : State C K) → IsErrAnd s (λ q. q ≡ h) → r ≡ Err h → Goes told keeps l p (halted r) f g x y
       → Goes told keeps l p (halted s) f g' x y
   goes_halted A B r s h f g g' x y is was runs = λ waits n J.
-      runs_halted told keeps (terms l p waits) A B r s h (place n J f) (place n J g) (place n J g') x y is was
+      runs_halted told keeps (terms_of l p waits) A B r s h (place n J f) (place n J g) (place n J g') x y is was
       (runs waits n J)
 
   -- the same halt by another name
@@ -170,7 +170,7 @@ module _ {C K : Type 0} (told : C → C → Asked → Type 0) (keeps : K → K �
 pub controlled_as : {C K : Type 0} (told : C → C → Asked → Type 0) (keeps : K → K → Entry → Bool → Type 0) (p : Plan)
     (waits : Bool) (l l' : BookLimits) (h : Halt) (c c' : C) (k k' : K) (J J0 J' J'' : List Entry) (lines : List Line)
     (o last : Option LastCommand) → l ≡ l' → J ≡ J0 → J' ≡ J'' → o ≡ last
-    → Halts told keeps (terms l p waits) (record {
+    → Halts told keeps (terms_of l p waits) (record {
       cell = c;
       keeper = k;
       now = now J (each (λ m. first_mind J0 m));
@@ -178,12 +178,12 @@ pub controlled_as : {C K : Type 0} (told : C → C → Asked → Type 0) (keeps 
       desk = desk lines false;
       place = place 0 J0 Between;
     }) h c' k' J'
-    → Controlled told keeps (terms l' p waits) h c k J0 lines last c' k' J''
+    → Controlled told keeps (terms_of l' p waits) h c k J0 lines last c' k' J''
 controlled_as told keeps p waits l l' h c c' k k' J J0 J' J'' lines o last limits first then same halts =
-    subst (λ (x : BookLimits). Controlled told keeps (terms x p waits) h c k J0 lines last c' k' J'') limits
-    (subst (λ (x : List Entry). Controlled told keeps (terms l p waits) h c k J0 lines last c' k' x) then
-    (subst (λ (x : Option LastCommand). Controlled told keeps (terms l p waits) h c k J0 lines x c' k' J') same
-    (subst (λ (x : List Entry). Halts told keeps (terms l p waits) (record {
+    subst (λ (x : BookLimits). Controlled told keeps (terms_of x p waits) h c k J0 lines last c' k' J'') limits
+    (subst (λ (x : List Entry). Controlled told keeps (terms_of l p waits) h c k J0 lines last c' k' x) then
+    (subst (λ (x : Option LastCommand). Controlled told keeps (terms_of l p waits) h c k J0 lines x c' k' J') same
+    (subst (λ (x : List Entry). Halts told keeps (terms_of l p waits) (record {
       cell = c;
       keeper = k;
       now = now x (each (λ m. first_mind J0 m));

@@ -28,7 +28,7 @@ use Rattle.cell_plant.specs.declared.desk.Reply.TheVariants as reply
 use Rattle.cell_plant.specs.declared.desk.Wish.TheVariants as wish
 use Rattle.cell_rounds.specs.Calls.{IsKept, Misses, halted}
 use Rattle.cell_rounds.specs.Moves.{Books, Fails, Hands, Move, answered, does, entry_wanted, fails, grants}
-use Rattle.cell_rounds.specs.Moves.{if_kept, misses, notes, stays, terms}
+use Rattle.cell_rounds.specs.Moves.{if_kept, misses, notes, stays, terms_of}
 use Rattle.cell_rounds.specs.Runs.{Goes, Unbooked, act, lacks, noted}
 use Rattle.cell_rounds.specs.Stands.{Answering, Desk, Noted, Noting, Over, Point, Serving, Stand, State, Turning}
 use Rattle.cell_rounds.specs.Stands.{Wanted}
@@ -74,7 +74,7 @@ module _ {C K : Type 0} (told : C → C → Asked → Type 0) (keeps : K → K �
       (waits : Bool) (n : ℕ) (J : List Entry) (minds : Six Mind) (t : Stand C K)
       (books : Books keeps l e (stand x minds (place n J f)) t) → t.cell ≡ c → t.desk ≡ D
       → t.place ≡ place n J (if_kept books.kept g)
-      → Move told keeps (terms l p waits) (stand x minds (place n J f)) t
+      → Move told keeps (terms_of l p waits) (stand x minds (place n J f)) t
 
   -- an entry of the operator is booked, and kept or not, or memory is refused to it
   goes_booked : (A : Type 0) (e : Entry) (r : Result A Halt) (f g : Point) (c c' : C) (k k' : K) (h h' : History)
@@ -206,7 +206,7 @@ module _ {C K : Type 0} (told : C → C → Asked → Type 0) (keeps : K → K �
       (waits : Bool) (n : ℕ) (J : List Entry) (minds : Six Mind) (t : Stand C K)
       (tries : Fails told l e (stand x minds (place n J f)) t) → t.desk ≡ D
       → t.place ≡ place n J (answered tries.answer g)
-      → Move told keeps (terms l p waits) (stand x minds (place n J f)) t
+      → Move told keeps (terms_of l p waits) (stand x minds (place n J f)) t
 
   goes_tried : (e : Entry) (wanted : Option Act) (h : Option Halt) (f g : Point) (x : State C K) (c : C) (D : Desk)
       → actor_of e ≡ actor.Operator → first_of l x.journal e ≡ None → act_of e ≡ wanted

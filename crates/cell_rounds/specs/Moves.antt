@@ -43,8 +43,8 @@ pub record Terms : Type 0 where
   pub plan : Plan
   pub waits : Bool
 
-abbrev pub terms : BookLimits → Plan → Bool → Terms
-terms l p waits = record { limits = l; plan = p; waits = waits }
+abbrev pub terms_of : BookLimits → Plan → Bool → Terms
+terms_of l p waits = record { limits = l; plan = p; waits = waits }
 
 -- the most of what was done at the cell that is heard in a round, and the most wishes
 abbrev pub most_heard : ℕ

@@ -22,7 +22,7 @@ use Rattle.operator_desk.specs.declared.line.Task.{Task}
 use Rattle.cell_plant.specs.Asked.{Asked, Shown}
 use Rattle.cell_plant.specs.declared.desk.Reply.{Reply}
 use Rattle.cell_plant.specs.declared.desk.Wish.TheVariants as wish
-use Rattle.cell_rounds.specs.Moves.{Hands, Leads, Terms, entry_wanted, next_at, terms}
+use Rattle.cell_rounds.specs.Moves.{Hands, Leads, Terms, entry_wanted, next_at, terms_of}
 use Rattle.cell_rounds.specs.Rest.{IsAtRest}
 use Rattle.cell_rounds.specs.Stands.{Answering, Between, Closing, Noted, Over, Turning, Wanted}
 use Rattle.cell_rounds.specs.Stands.{Place, Point, Stand, State, place, stand, start}
@@ -109,7 +109,7 @@ Runs told keeps T h a b x y = (minds : Six Mind) → FitAll x.watches minds → 
 abbrev pub Goes : {C K : Type 0} → (C → C → Asked → Type 0) → (K → K → Entry → Bool → Type 0) → BookLimits → Plan
     → Option Halt → Point → Point → State C K → State C K → Type 0
 Goes told keeps l p h from next x y = (waits : Bool) (rounds : ℕ) (J : List Entry)
-    → Runs told keeps (terms l p waits) h (place rounds J from) (place rounds J next) x y
+    → Runs told keeps (terms_of l p waits) h (place rounds J from) (place rounds J next) x y
 
 -- the point at which a wish is to be answered so
 abbrev pub answering : ℕ → Result Reply Halt → Point

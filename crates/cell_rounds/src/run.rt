@@ -111,7 +111,7 @@ fn take_round<C: Plant, K: Keeper, R: Run>(
     ensures machines { (m : MachineValue) → machine_of_watch (at cell.new.watches m) ≡ m }
     ensures limits { cell.new.kept.limits ≡ cell.old.kept.limits }
     ensures led { (rounds : ℕ) (J : List EntryValue) → Runs C.told K.keeps
-        (moves.terms cell.old.kept.limits terms.entry.plan.now terms.entry.waits) (halted result)
+        (moves.terms_of cell.old.kept.limits terms.entry.plan.now terms.entry.waits) (halted result)
         (place rounds J Between) (place (rounds + 1) cell.old.kept.entries Between)
         (state plant.old keeper.old
         cell.old.kept.entries cell.old.watches cell.old.pending cell.old.script cell.old.lost)
@@ -138,7 +138,7 @@ fn take_rounds<C: Plant, K: Keeper, R: Run>(
     requires { (m : MachineValue) → machine_of_watch (at cell.old.watches m) ≡ m }
     ensures limits { cell.new.kept.limits ≡ cell.old.kept.limits }
     ensures led { (J : List EntryValue) → Runs C.told K.keeps
-        (moves.terms cell.old.kept.limits terms.entry.plan.now terms.entry.waits)
+        (moves.terms_of cell.old.kept.limits terms.entry.plan.now terms.entry.waits)
         (Some result) (place 0 J Between) (place 0 J Between) (state plant.old keeper.old
         cell.old.kept.entries cell.old.watches cell.old.pending cell.old.script cell.old.lost)
         (state plant.new keeper.new
@@ -170,7 +170,7 @@ pub fn control<C: Plant, K: Keeper, R: Run>(
     ensures limits { result.book.limits ≡ R.limits }
     ensures legal { legal R.limits result.book.entries ≡ true }
     ensures safe { IsSafe result.book.entries }
-    ensures controlled { Controlled C.told K.keeps (moves.terms R.limits terms.entry.plan.now terms.entry.waits)
+    ensures controlled { Controlled C.told K.keeps (moves.terms_of R.limits terms.entry.plan.now terms.entry.waits)
         result.halt plant.old keeper.old start.book.entries start.script start.pending plant.new keeper.new
         result.book.entries }
 {

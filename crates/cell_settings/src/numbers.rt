@@ -23,17 +23,17 @@ const LIMIT: u32 = 20;
 
 // The least and the greatest that a number may be.
 #[derive(Clone, Copy)]
-struct Range {
+struct Bounds {
     low: u32,
     high: u32,
 }
 
-// A number in its range.
-fn bounded(alloc: Global, path: &str, number: i64, range: Range) -> Result<u32, SettingsError>
-    ensures due { Gives result (in_range path.now number range.low range.high) }
-    ensures within { IfOk result (λ n. (range.low ≤ n) × (n ≤ range.high)) }
+// A number in its bounds.
+fn bounded(alloc: Global, path: &str, number: i64, bounds: Bounds) -> Result<u32, SettingsError>
+    ensures due { Gives result (in_range path.now number bounds.low bounds.high) }
+    ensures within { IfOk result (λ n. (bounds.low ≤ n) × (n ≤ bounds.high)) }
 {
-    if i64::from(range.low) <= number && number <= i64::from(range.high) {
+    if i64::from(bounds.low) <= number && number <= i64::from(bounds.high) {
         Ok(number as u32)
     } else {
         Err(SettingsError::OutOfRange(KeyPath::new(alloc, path)?))
@@ -47,19 +47,19 @@ fn number(
     path: &str,
     value: Option<&Value>,
     default: Option<u32>,
-    range: Range,
+    bounds: Bounds,
 ) -> Result<u32, SettingsError>
-    ensures due { Gives result (number_due path.now (option_map (λ v. view v.now) value.entry) default range.low
-        range.high) }
-    ensures within { IfOk result (λ n. (range.low ≤ n) × (n ≤ range.high)) }
+    ensures due { Gives result (number_due path.now (option_map (λ v. view v.now) value.entry) default bounds.low
+        bounds.high) }
+    ensures within { IfOk result (λ n. (bounds.low ≤ n) × (n ≤ bounds.high)) }
 {
     match value {
         Some(value) => match value.as_integer() {
-            Some(number) => bounded(alloc, path, number, range),
+            Some(number) => bounded(alloc, path, number, bounds),
             None => Err(SettingsError::NotNumber(KeyPath::new(alloc, path)?)),
         },
         None => match default {
-            Some(number) => bounded(alloc, path, i64::from(number), range),
+            Some(number) => bounded(alloc, path, i64::from(number), bounds),
             None => Err(SettingsError::Missing(KeyPath::new(alloc, path)?)),
         },
     }
@@ -78,7 +78,13 @@ pub(crate) fn member_number(
     ensures due { Gives result (member_due key.now (table_view table.now) default low high) }
     ensures within { IfOk result (λ n. (low ≤ n) × (n ≤ high)) }
 {
-    number(alloc, key, member(table, key), default, Range { low, high })
+    number(
+        alloc,
+        key,
+        member(table, key),
+        default,
+        Bounds { low, high },
+    )
 }
 
 // The value at a key of a table that may be missing.
@@ -111,15 +117,15 @@ fn limit(
     table: Option<&Table>,
     key: &str,
     default: u32,
-    range: Range,
+    bounds: Bounds,
 ) -> Result<u32, SettingsError>
     ensures due { Gives result (limit_due (axis_word axis) key.now (option_map (λ t. table_view t.now) table.entry)
-        default range.low range.high) }
-    ensures within { IfOk result (λ n. (range.low ≤ n) × (n ≤ range.high)) }
+        default bounds.low bounds.high) }
+    ensures within { IfOk result (λ n. (bounds.low ≤ n) × (n ≤ bounds.high)) }
 {
     let watched = KeyPath::join(alloc, "watch", axis_word(axis))?;
     let path = KeyPath::join(alloc, watched.as_str(), key)?;
-    number(alloc, path.as_str(), at(table, key), Some(default), range)
+    number(alloc, path.as_str(), at(table, key), Some(default), bounds)
 }
 
 /// The limits of an axis.
@@ -128,9 +134,9 @@ pub(crate) fn axis_limits(alloc: Global, table: &Table, axis: Axis) -> Result<Li
     ensures { Gives result (axis_due (table_view table.now) axis) }
 {
     let own = axis_table(table, axis);
-    let leave_in = Range { low: 2, high: 999 };
+    let leave_in = Bounds { low: 2, high: 999 };
     let leave = limit(alloc, axis, own, "leave", LEAVE, leave_in)?;
-    let limit_in = Range {
+    let limit_in = Bounds {
         low: leave + 1,
         high: 1000,
     };

@@ -71,15 +71,15 @@ impl Ran {
 
 /// The book, its shares and the watches, lent to the steps of a schedule.
 #[derive(Drop)]
-pub struct LentState<'k, 's, 'w, R: Run> {
-    pub kept: &'k mut Kept<R>,
-    pub shares: &'s mut Shares<R>,
-    pub watches: &'w mut Watches,
+pub struct LentState<'l, R: Run> {
+    pub kept: &'l mut Kept<R>,
+    pub shares: &'l mut Shares<R>,
+    pub watches: &'l mut Watches,
 }
 
 /// A turn of a machine, and its command. It answers whether the turn was refused.
 fn take_turn<P: Port, R: Run>(
-    turn: &TurnAt,
+    turn: &TurnAt<'_>,
     port: &mut P,
     kept: &mut Kept<R>,
     shares: &mut Shares<R>,
@@ -121,7 +121,7 @@ fn add_step<P: Port, O: OperatorPort, R: Run>(
     ran: &mut Ran,
     ports: &mut Ports<P>,
     operator: &mut O,
-    state: &mut LentState<'_, '_, '_, R>,
+    state: &mut LentState<'_, R>,
     plan: &Plan,
 ) -> Result<(), OutOfMemory>
     requires machines { (m : MachineValue) → machine_of_watch (at state.old.watches.now m) ≡ m }
@@ -253,7 +253,7 @@ pub fn run_step<P: Port, O: OperatorPort, R: Run>(
     ran: &mut Ran,
     ports: &mut Ports<P>,
     operator: &mut O,
-    state: &mut LentState<'_, '_, '_, R>,
+    state: &mut LentState<'_, R>,
     plan: &Plan,
 ) -> Result<(), OutOfMemory>
     requires { (m : MachineValue) → machine_of_watch (at state.old.watches.now m) ≡ m }

@@ -46,7 +46,7 @@ pub struct TurnAt<'a> {
 #[inline(always)]
 fn note_and_book<R: Run>(
     machine: Machine,
-    turn: &TurnAt,
+    turn: &TurnAt<'_>,
     kept: &mut Kept<R>,
     shares: &mut Shares<R>,
     watch: &mut Watch,
@@ -106,7 +106,7 @@ fn note_and_book<R: Run>(
 /// error, nothing has changed. Each machine is told apart here and nowhere below, so that a turn of each is compiled by
 /// itself.
 pub fn book_turn<R: Run>(
-    turn: &TurnAt,
+    turn: &TurnAt<'_>,
     kept: &mut Kept<R>,
     shares: &mut Shares<R>,
     watch: &mut Watch,

@@ -19,7 +19,7 @@ returns g c =
           (controls_as g.K.Keeper.keeps c.args.orders.plan c.args.options.wait c.args.options.resume start.book
           c.args.book start.script start.pending _ _ _ (contents c.args.streams.output) (contents far.result.output) _
           c.args.keeper.now far.new.keeper outcome.halt outcome.book.entries book opened.pending opened.bytes
-          (ap contents (sym c.tell-status.ensures.output)) far.ensures.controls)
+          (ap contents (sym c.tell_outcome-status.ensures.output)) far.ensures.controls)
           (subst (λ (h : History). legal h.limits outcome.book.entries ≡ true) book far.ensures.legal)
-          far.ensures.safe c.tell-status.ensures.status;
+          far.ensures.safe c.tell_outcome-status.ensures.status;
     }

@@ -1,7 +1,7 @@
 -- The cell was reached, and what its rounds were is what is seen of them
 use Rattle.std.proofs.Common.{◌∙◌, ap, subst, length}
 use Rattle.cell_lines.specs.Stands.{Told, stand_of}
-use Rattle.cell_rounds.specs.Moves.{terms}
+use Rattle.cell_rounds.specs.Moves.{terms_of}
 use Rattle.cell_rounds.proofs.Mapping.{controlled_map}
 use Rattle.cell_control.specs.Controlling.{Starts, reached}
 use Rattle.cell_control.proofs.texts.control_far.Goals as goal
@@ -14,6 +14,6 @@ returns-clause-ran g c =
     let count = c.len-entries.ensures.value ∙ ap (λ (j : _). length j.entries) c.journal.ensures in
     reached begun (subst (λ n. Starts c.args.resumes n (f c.args.far.now) begun) count c.in_default.ensures.started)
     (controlled_map f (λ a b x. Told (f a) (f b) x) Told g.K.Keeper.keeps
-    (terms start.book.limits c.args.terms.plan.now c.args.terms.waits) (λ a b x told. told) c.control.result.halt
+    (terms_of start.book.limits c.args.terms.plan.now c.args.terms.waits) (λ a b x told. told) c.control.result.halt
     c.reach.new.far c.control.new.plant c.args.keeper.now c.control.new.keeper start.book.entries
     c.control.result.book.entries start.script start.pending c.control.ensures.controlled)

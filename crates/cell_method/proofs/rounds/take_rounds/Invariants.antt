@@ -1,5 +1,5 @@
 use Rattle.std.proofs.Common.{◌≡◌, ◌⊎◌, None}
-use Rattle.cell_method.specs.Conversations.{IsSameWriter}
+use Rattle.cell_method.specs.Conversations.{KeepsWriter}
 use Rattle.cell_method.specs.Ends.{end_by}
 use Rattle.cell_method.specs.Lines.{lines_left}
 use Rattle.cell_method.specs.Order.{between}
@@ -9,7 +9,7 @@ use Rattle.cell_method.proofs.rounds.take_rounds.Given as goal
 -- the rounds so far led here, and none of them set an end
 abbrev pub invariant-loop-round : goal.invariant-loop-round
 invariant-loop-round g l = record {
-  writer : IsSameWriter l.fn.method l.method;
+  writer : KeepsWriter l.fn.method l.method;
   limits : l.book.limits ≡ l.fn.book.limits;
   goes : Goes g.P.Port.tells g.P.Port.log l.fn.book.limits
       (start g.P.Port.log l.fn.book.entries l.fn.cell.ports (g.O.OperatorPort.log l.fn.cell.hands) l.fn.desk.script)

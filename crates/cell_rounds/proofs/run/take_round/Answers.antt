@@ -3,7 +3,7 @@ use Rattle.std.proofs.Common.{◌+◌, ◌∙◌, ap, length, refl, subst, sym}
 use Rattle.std.specs.Prelude.{Bool, None, Option, is_ok}
 use Rattle.cell_rules.specs.History.{History}
 use Rattle.cell_rounds.specs.Calls.{halted}
-use Rattle.cell_rounds.specs.Moves.{after_close, if_reached, terms}
+use Rattle.cell_rounds.specs.Moves.{after_close, if_reached, terms_of}
 use Rattle.cell_rounds.specs.Runs.{Runs}
 use Rattle.cell_rounds.specs.Stands.{Between, Closing, Noting, Over, place, state}
 use Rattle.cell_rounds.specs.declared.progress.Halt.{Halt}
@@ -18,7 +18,7 @@ returns-in_err-begin_round-clause-led g c = λ n J.
     let keeps = g.K.Keeper.keeps in
     let was = c.args.cell.now in
     let l = was.kept.limits in
-    let T = terms l c.args.terms.plan.now c.args.terms.waits in
+    let T = terms_of l c.args.terms.plan.now c.args.terms.waits in
     let a = place n J Between in
     let x = state c.args.plant.now c.args.keeper.now was.kept.entries was.watches was.pending was.script was.lost in
     let y = state c.begin_round.new.self c.args.keeper.now was.kept.entries was.watches was.pending was.script was.lost
@@ -37,7 +37,7 @@ returns-in_err-act-clause-led g c = λ n J.
     let keeps = g.K.Keeper.keeps in
     let was = c.args.cell.now in
     let l = was.kept.limits in
-    let T = terms l c.args.terms.plan.now c.args.terms.waits in
+    let T = terms_of l c.args.terms.plan.now c.args.terms.waits in
     let a = place n J Between in
     let x = state c.args.plant.now c.args.keeper.now was.kept.entries was.watches was.pending was.script was.lost in
     let y = state c.begin_round.new.self c.args.keeper.now was.kept.entries was.watches was.pending was.script was.lost
@@ -59,7 +59,7 @@ returns-in-Some-clause-led g c = λ n J minds fits.
     let keeps = g.K.Keeper.keeps in
     let was = c.args.cell.now in
     let l = was.kept.limits in
-    let T = terms l c.args.terms.plan.now c.args.terms.waits in
+    let T = terms_of l c.args.terms.plan.now c.args.terms.waits in
     let a = place n J Between in
     let x = state c.args.plant.now c.args.keeper.now was.kept.entries was.watches was.pending was.script was.lost in
     let y = state c.begin_round.new.self c.args.keeper.now was.kept.entries was.watches was.pending was.script was.lost
@@ -86,7 +86,7 @@ returns-in_err-end_round-clause-led g c = λ n J.
     let keeps = g.K.Keeper.keeps in
     let was = c.args.cell.now in
     let l = was.kept.limits in
-    let T = terms l c.args.terms.plan.now c.args.terms.waits in
+    let T = terms_of l c.args.terms.plan.now c.args.terms.waits in
     let a = place n J Between in
     let x = state c.args.plant.now c.args.keeper.now was.kept.entries was.watches was.pending was.script was.lost in
     let y = state c.begin_round.new.self c.args.keeper.now was.kept.entries was.watches was.pending was.script was.lost
@@ -122,7 +122,7 @@ returns-clause-led g c = λ n J.
     let keeps = g.K.Keeper.keeps in
     let was = c.args.cell.now in
     let l = was.kept.limits in
-    let T = terms l c.args.terms.plan.now c.args.terms.waits in
+    let T = terms_of l c.args.terms.plan.now c.args.terms.waits in
     let a = place n J Between in
     let x = state c.args.plant.now c.args.keeper.now was.kept.entries was.watches was.pending was.script was.lost in
     let y = state c.begin_round.new.self c.args.keeper.now was.kept.entries was.watches was.pending was.script was.lost

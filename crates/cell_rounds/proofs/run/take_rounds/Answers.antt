@@ -3,7 +3,7 @@ use Rattle.std.proofs.Common.{rules, ◌≡◌, ◌+◌, ◌∙◌, ap, refl, su
 use Rattle.std.specs.Prelude.{None, Option}
 use Rattle.cell_rules.specs.declared.limits.BookLimits.{BookLimits}
 use Rattle.cell_rounds.specs.Calls.{halted}
-use Rattle.cell_rounds.specs.Moves.{terms}
+use Rattle.cell_rounds.specs.Moves.{terms_of}
 use Rattle.cell_rounds.specs.Runs.{Runs}
 use Rattle.cell_rounds.specs.Stands.{Between, place, state}
 use Rattle.cell_rounds.specs.declared.progress.Halt.{Halt}
@@ -19,7 +19,7 @@ loop-round-init g c =
       limits = refl;
       led = λ J. (
         J,
-        runs_nothing g.C.Plant.told g.K.Keeper.keeps (terms was.kept.limits c.args.terms.plan.now c.args.terms.waits)
+        runs_nothing g.C.Plant.told g.K.Keeper.keeps (terms_of was.kept.limits c.args.terms.plan.now c.args.terms.waits)
             (place 0 J Between)
             (state c.args.plant.now c.args.keeper.now was.kept.entries was.watches was.pending was.script was.lost),
       );
@@ -32,7 +32,7 @@ returns-in-Err-clause-led g c = λ J.
     let was = c.args.cell.now in
     let so = c.loop-round in
     let l = was.kept.limits in
-    let T = terms l c.args.terms.plan.now c.args.terms.waits in
+    let T = terms_of l c.args.terms.plan.now c.args.terms.waits in
     let x = state c.args.plant.now c.args.keeper.now was.kept.entries was.watches was.pending was.script was.lost in
     let y = state so.plant so.keeper so.cell.kept.entries so.cell.watches so.cell.pending so.cell.script so.cell.lost in
     let next = c.take_round.new.cell in
@@ -44,7 +44,7 @@ returns-in-Err-clause-led g c = λ J.
     (ap halted c.in-Err.is)
     (runs_then told keeps T (halted c.take_round.result) (place 0 J Between) (place so._round K Between)
     (place (so._round + 1) so.cell.kept.entries Between) x y z led
-    (subst (λ (q : BookLimits). Runs told keeps (terms q c.args.terms.plan.now c.args.terms.waits)
+    (subst (λ (q : BookLimits). Runs told keeps (terms_of q c.args.terms.plan.now c.args.terms.waits)
     (halted c.take_round.result) (place so._round K Between)
     (place (so._round + 1) so.cell.kept.entries Between) y z) so.invariant.limits
     (c.take_round.ensures.led so._round K)))
@@ -56,7 +56,7 @@ loop-round-preserved g c =
     let was = c.args.cell.now in
     let so = c.loop-round in
     let l = was.kept.limits in
-    let T = terms l c.args.terms.plan.now c.args.terms.waits in
+    let T = terms_of l c.args.terms.plan.now c.args.terms.waits in
     let x = state c.args.plant.now c.args.keeper.now was.kept.entries was.watches was.pending was.script was.lost in
     let y = state so.plant so.keeper so.cell.kept.entries so.cell.watches so.cell.pending so.cell.script so.cell.lost in
     let next = c.take_round.new.cell in
@@ -70,11 +70,11 @@ loop-round-preserved g c =
             so.cell.kept.entries,
             runs_then told keeps T None (place 0 J Between) (place so._round K Between)
                 (place (so._round + 1) so.cell.kept.entries Between) x y z led
-                (subst (λ (q : BookLimits). Runs told keeps (terms q c.args.terms.plan.now c.args.terms.waits) None
+                (subst (λ (q : BookLimits). Runs told keeps (terms_of q c.args.terms.plan.now c.args.terms.waits) None
                 (place so._round K Between) (place (so._round + 1) so.cell.kept.entries Between) y z)
                 so.invariant.limits
                 (subst (λ (h : Option Halt). Runs told keeps
-                (terms so.cell.kept.limits c.args.terms.plan.now c.args.terms.waits) h
+                (terms_of so.cell.kept.limits c.args.terms.plan.now c.args.terms.waits) h
                 (place so._round K Between) (place (so._round + 1) so.cell.kept.entries Between) y z)
                 (ap halted c.in_default.is) (c.take_round.ensures.led so._round K))),
           );
@@ -87,7 +87,7 @@ returns-clause-led g c = λ J.
     let was = c.args.cell.now in
     let so = c.loop-round in
     let l = was.kept.limits in
-    let T = terms l c.args.terms.plan.now c.args.terms.waits in
+    let T = terms_of l c.args.terms.plan.now c.args.terms.waits in
     let x = state c.args.plant.now c.args.keeper.now was.kept.entries was.watches was.pending was.script was.lost in
     let y = state so.plant so.keeper so.cell.kept.entries so.cell.watches so.cell.pending so.cell.script so.cell.lost in
     let all : so._round ≡ c.args.terms.plan.now.turns = search rules in
