@@ -1,3 +1,4 @@
 pub mod Drove
+pub mod Measured
 pub mod Opened
 pub mod Telling

@@ -1,8 +1,7 @@
 -- What is written where a method drives the cell by the texts of a run
-use Rattle.std.specs.Prelude.{◌≡◌, ◌≢◌, ◌⊎◌, ◌<◌, ◌++◌, ℕ, Bool, true, false, List, [], ◌∷◌, Option, Some, None, Result}
+use Rattle.std.specs.Prelude.{◌≡◌, ◌⊎◌, ◌<◌, ◌++◌, ℕ, Bool, true, false, List, [], ◌∷◌, Option, Some, None, Result}
 use Rattle.std.specs.Prelude.{Ok, Err, codes, decimal, option_map, ⊤}
 use Rattle.std.specs.Io.KnownBytes.{Appends}
-use Rattle.cell_output.specs.Numbers.{number_line}
 use Rattle.cell_rows.specs.Lines.{line}
 use Rattle.cell_types.specs.declared.words.Entry.{Entry}
 use Rattle.cell_types.specs.declared.words.Totals.{Totals}
@@ -11,8 +10,6 @@ use Rattle.cell_rules.specs.Views.{count_of}
 use Rattle.cell_ports.specs.declared.plan.Plan.{Plan}
 use Rattle.cell_ports.specs.Logs.{no_acts, no_log}
 use Rattle.cell_turns.specs.Six.{each}
-use Rattle.cell_workers.specs.declared.ends.End.{End}
-use Rattle.cell_workers.specs.declared.ends.End.TheVariants as end
 use Rattle.operator_desk.specs.declared.line.Line.{Line}
 use Rattle.cell_method.specs.Lines.{Row, lines_of}
 use Rattle.cell_method.specs.Order.{Point, between}
@@ -20,7 +17,6 @@ use Rattle.cell_method.specs.Rounds.{EndsAs, Leads, Stand, entry_lines}
 use Rattle.cell_method.specs.declared.rounds.DriveEnd.{DriveEnd}
 use Rattle.cell_method.specs.declared.rounds.DriveEnd.TheVariants as ends
 use Rattle.cell_runs.specs.Inputs.{AreInputs, WritesError, input_line, input_status}
-use Rattle.cell_runs.specs.Rounds.{IsRun}
 use Rattle.cell_runs.specs.Runs.{counts_after, limits_of}
 use Rattle.cell_runs.specs.RunsFrom.{TellsExceeded}
 use Rattle.cell_runs.specs.declared.inputs.Inputs.{Inputs}
@@ -114,27 +110,3 @@ abbrev pub DrivesTexts : List ℕ → List ℕ → List ℕ → Bool → Option 
 DrivesTexts settings faults operator raw from input old new status =
     (inputs : Result Inputs InputError) × AreInputs settings faults operator inputs
     × DrivesInputs raw from input old new status inputs
-
--- the lines of how many rounds a run took and how many entries its journal has
-abbrev pub run_counts : ℕ → ℕ → List ℕ
-run_counts rounds entries = number_line (codes "rounds") rounds ++ number_line (codes "entries") entries
-
--- what is told of a measured run with this journal: first those counts
-abbrev pub TellsCounts : List Entry → List ℕ → Type 0
-TellsCounts J text = (rounds : ℕ) × (more : List ℕ) × (text ≡ run_counts rounds (count_of J).entries ++ more)
-
--- what is told of a run in rounds by this plan and this script of the operator, which didn't end for want of memory
-abbrev pub AreMeasures : Plan → List Line → List ℕ → Type 0
-AreMeasures plan script text = (e : End) × (J : List Entry) × IsRun (limits_of plan) plan script J e
-    × (e ≢ end.Memory) × TellsCounts J text
-
--- the measures of a run by good texts were written; where a text is refused, nothing was
-abbrev pub MeasuresInputs : Option (List ℕ) → Option (List ℕ) → Result Inputs InputError → Type 0
-MeasuresInputs old new (Err e) = (new ≡ old) × (input_status e ≡ 1)
-MeasuresInputs old new (Ok inputs) = (text : List ℕ) × AreMeasures inputs.plan inputs.script text
-    × Appends old new text
-
--- what is written where a run by these texts is measured and no memory is refused
-abbrev pub TellsMeasures : List ℕ → List ℕ → List ℕ → Option (List ℕ) → Option (List ℕ) → Type 0
-TellsMeasures settings faults operator old new =
-    (inputs : Result Inputs InputError) × AreInputs settings faults operator inputs × MeasuresInputs old new inputs

@@ -1,2 +1,3 @@
 pub mod Drives
+pub mod Measured
 pub mod Wishes

@@ -1,11 +1,11 @@
 //! A run by entries.
-ghost use Rattle.std.specs.Prelude.{◌≡◌, ◌≢◌, ◌<◌, [], ℕ, List, IfOk, IsErrOf, IsTrue, Ok, OnOk, true};
+ghost use Rattle.std.specs.Prelude.{◌≡◌, ◌≢◌, ◌<◌, ℕ, List, IfOk, IsErrOf, IsTrue, Ok, OnOk, true};
 ghost use Rattle.std.specs.Prelude.{option_map};
 ghost use Rattle.std.specs.Io.KnownBytes.{Appends};
 ghost use Rattle.cell_audit.specs.Text.{text_of};
-ghost use Rattle.cell_output.specs.Watched.{IsSameWriter as IsSameTarget, bytes_held, has_refused};
+ghost use Rattle.cell_output.specs.Watched.{IsSameWriter, bytes_held, has_refused};
 ghost use Rattle.cell_runs.specs.Runs.{limits_of};
-ghost use Rattle.cell_method.specs.Conversations.{IsSameWriter};
+ghost use Rattle.cell_method.specs.Conversations.{KeepsWriter};
 ghost use Rattle.cell_method.specs.Lines.{lines_left};
 ghost use Rattle.cell_drive.specs.Drives.{DrivesEntries, DrivesFrom, EndStatus, TellsEnd};
 
@@ -22,9 +22,8 @@ use cell_measures::Durations;
 use cell_method::{Conversation, DriveEnd, DriveError, drive, tell_entries};
 use cell_output::WatchedWriter;
 use cell_plant::Ported;
-use cell_ports::Plan;
 use cell_rows::TellsFault;
-use cell_runs::{Inputs, book_after, sim_ports};
+use cell_runs::{Inputs, book_after, empty_book, sim_ports};
 use cell_sim::{SimOperator, World};
 use plate_book::Book;
 use std::alloc::Global;
@@ -91,16 +90,6 @@ fn explain<R: Wait, E: Write>(looker: &Looker<'_, R>, errors: &mut E) -> io::Res
     explain_broken(errors, &looker.world.lock(looker.rt))
 }
 
-/// An empty book within a plan's limits.
-pub(crate) fn empty_book(alloc: Global, plan: &Plan) -> Result<Book, DriveError>
-    ensures { IfOk result (λ book. book ≡ record { limits = limits_of plan.now; entries = [] }) }
-{
-    match Book::new(alloc, plan.journal_limit, plan.plates) {
-        Ok(book) => Ok(book),
-        Err(_) => Err(DriveError::OutOfMemory),
-    }
-}
-
 // Writes a run's journal, where it is wanted.
 fn write_wanted<E: Write>(
     alloc: Global,
@@ -108,7 +97,7 @@ fn write_wanted<E: Write>(
     journal: &Journal,
     errors: &mut WatchedWriter<'_, E>,
 ) -> Result<(), DriveError>
-    ensures writer { IsSameTarget errors.old errors.new }
+    ensures writer { IsSameWriter errors.old errors.new }
     ensures whole { OnOk result (IsTrue wanted → Appends (bytes_held E.contents errors.old)
         (bytes_held E.contents errors.new) (text_of journal.now.entries)) }
     // It answers that the writer failed only where a write was refused.
@@ -170,7 +159,7 @@ fn drive_on<R: AllocGlobal + Wait, I: TellsFault, W: Write, E: Write>(
     ensures run { IfOk result (λ status. status < 3
         → DrivesEntries inputs.plan inputs.script book.entries (lines_left I.remaining method.old.lines)
         (W.contents method.old.writer.now) (W.contents method.new.writer.now) status) }
-    ensures writer { IsSameWriter method.old method.new }
+    ensures writer { KeepsWriter method.old method.new }
 {
     let Inputs {
         plan,
@@ -204,10 +193,12 @@ pub(crate) fn drive_entries<R: AllocGlobal + Wait, I: TellsFault, W: Write, E: W
         → DrivesFrom inputs.plan inputs.script (option_map (λ j. j.now.entries) from.entry)
         (lines_left I.remaining method.old.lines) (W.contents method.old.writer.now)
         (W.contents method.new.writer.now) status) }
-    ensures writer { IsSameWriter method.old method.new }
+    ensures writer { KeepsWriter method.old method.new }
 {
     let Some(journal) = from else {
-        let book = empty_book(rt.alloc(), &inputs.plan)?;
+        let Ok(book) = empty_book(rt.alloc(), &inputs.plan) else {
+            return Err(DriveError::OutOfMemory);
+        };
         let world = World::watched(inputs.plan.plates).with_durations(inputs.durations);
         return drive_on(rt, inputs, book, world, method, told);
     };

@@ -15,5 +15,5 @@ mod unread;
 mod untruth;
 mod wish;
 
-pub use own::measure_texts;
+pub use own::run_measured;
 pub use texts::{DriveOptions, drive_texts};

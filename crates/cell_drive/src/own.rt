@@ -1,34 +1,30 @@
 //! The program's own machine workers, measured as a method is.
-ghost use Rattle.std.specs.Prelude.{◌≡◌, ◌⊎◌, ℕ, List, IfOk, IfSome, Ok, OnOk};
-ghost use Rattle.std.specs.Io.KnownBytes.{Appends};
-ghost use Rattle.cell_runs.specs.Inputs.{input_status};
+ghost use Rattle.std.specs.Prelude.{◌≡◌, ◌⊎◌, IfOk, IfSome, IsErr, true};
+ghost use Rattle.cell_output.specs.Watched.{IsSameWriter, bytes_held, has_refused};
 ghost use Rattle.cell_runs.specs.Rounds.{IsRun};
-ghost use Rattle.cell_runs.specs.Runs.{limits_of};
-ghost use Rattle.cell_drive.specs.Drives.{AreMeasures, TellsCounts, TellsMeasures, run_counts};
+ghost use Rattle.cell_runs.specs.Runs.{LacksThread, PartOfRounds, WritesRounds, kept_of, kept_run, limits_of};
+ghost use Rattle.cell_drive.specs.Measured.{KeepsMeasured, PartBehind, PartOfMeasured, PartOfMeasures, TellsCounts};
+ghost use Rattle.cell_drive.specs.Measured.{TellsMeasures, WithMeasures, run_counts};
 
-use crate::by_entries::empty_book;
 use crate::measures::Measures;
 use crate::report::{write_times, write_world};
-use crate::texts::write_told;
 use cell_diagnosis::Reading;
-use cell_ledger::Blanks;
+use cell_journal::Journal;
 use cell_measures::Durations;
-use cell_output::{WriteFault, status};
+use cell_output::{WatchedWriter, WriteFault, status};
 use cell_plant::Ported;
 use cell_ports::{Plan, Port, PortFault};
-use cell_rows::LineError;
-use cell_runs::{InputError, Inputs, Outcome, Texts, read_inputs, run_over};
-use cell_settings::SettingsError;
+use cell_runs::{
+    Inputs, KeptRun, Left, Outcome, Texts, empty_book, keep_outcome, read_inputs, refuse_input,
+    run_on,
+};
 use cell_sim::{FaultScript, SimOperator, SimPort, World};
 use cell_turns::Ports;
 use cell_types::{Command, Machine};
-use cell_workers::End;
 use operator_desk::Script;
-use plate_book::Book;
 use std::alloc::{AllocError, Global};
 use std::io;
 use std::io::Write;
-use std::marker::Brand;
 use std::sync::{Mutex, Wait};
 
 // A machine's port in a watched world, by which the rounds of a run are told apart: each begins with a reading of the
@@ -69,13 +65,14 @@ impl<R: Wait> Port for GaugedPort<'_, R> {
     }
 }
 
-// What a run over a world has: its lock, its measures and its faults.
+// What a run over a world has: its lock, its measures, its faults and how long its motions take.
 #[derive(Drop)]
 struct Gauges<'a, R: Wait> {
     rt: &'a R,
     world: &'a Mutex<World>,
     measures: &'a Mutex<Measures>,
     faults: &'a FaultScript,
+    durations: Durations,
 }
 
 impl<'a, R: Wait> Gauges<'a, R> {
@@ -110,14 +107,12 @@ fn run_own<R: AllocGlobal + Wait>(
     ensures { IfOk result (λ outcome. IsRun (limits_of plan.now) plan.now script outcome.book.entries outcome.end) }
 {
     let alloc = gauges.rt.alloc();
-    let Ok(book) = empty_book(alloc, plan) else {
-        return Err(AllocError);
-    };
+    let book = empty_book(alloc, plan)?;
     let mut cell = Ported {
         ports: gauges.ports(),
         hands: SimOperator::new(gauges.rt, gauges.world),
     };
-    Ok(run_over::<_, _, Brand>(alloc, book, Blanks::new(1), &mut cell, script, plan))
+    Ok(run_on(alloc, book, &mut cell, script, plan))
 }
 
 // How many rounds a run took and how many entries its journal has, as it is told.
@@ -127,20 +122,16 @@ fn counts_text(alloc: Global, rounds: u32, entries: u32) -> Result<Vec<u8>, Allo
     Ok(format!(in alloc; "rounds {rounds}\nentries {entries}\n")?.into_bytes())
 }
 
-// What is told of a run.
-fn told_of<R: AllocGlobal + Wait>(
-    gauges: &Gauges<'_, R>,
-    book: &Book,
-    durations: &Durations,
-) -> io::Result<Vec<u8>>
-    ensures { IfOk result (λ text. TellsCounts book.now.entries text.items) }
+// What is told of a run with this journal.
+fn told_of<R: AllocGlobal + Wait>(gauges: &Gauges<'_, R>, journal: &Journal) -> io::Result<Vec<u8>>
+    ensures { IfOk result (λ text. TellsCounts journal.now.entries text.items) }
 {
     let alloc = gauges.rt.alloc();
     let mut measures = gauges.measures.lock(gauges.rt);
     let world = gauges.world.lock(gauges.rt);
     note_round(&mut measures, &world);
-    let mut told = counts_text(alloc, measures.rounds(), book.totals().entries)?;
-    let below = below_counts(alloc, book, &world, &mut measures, durations)?;
+    let mut told = counts_text(alloc, measures.rounds(), journal.len())?;
+    let below = below_counts(alloc, journal, &world, &mut measures, &gauges.durations)?;
     told.extend_from_slice(below.as_slice())?;
     Ok(told)
 }
@@ -148,7 +139,7 @@ fn told_of<R: AllocGlobal + Wait>(
 // What is told of a run below the counts of its rounds and entries.
 fn below_counts(
     alloc: Global,
-    book: &Book,
+    journal: &Journal,
     world: &World,
     measures: &mut Measures,
     durations: &Durations,
@@ -156,13 +147,67 @@ fn below_counts(
     let mut text = Vec::new(alloc);
     writeln!(text, "collisions {}", world.collisions())?;
     write_world(&mut text, world, measures)?;
-    write_times(alloc, &mut text, book.journal(), durations)?;
+    write_times(alloc, &mut text, journal, durations)?;
     Ok(text)
 }
 
-// Measures a run by these inputs; `None` where memory was refused.
-fn measured<R: AllocGlobal + Wait>(rt: &R, inputs: Inputs) -> Option<Vec<u8>>
-    ensures { IfSome result (λ text. AreMeasures inputs.plan inputs.script text.items) }
+// What is measured of a run with this journal; `None` where memory was refused.
+fn measured<R: AllocGlobal + Wait>(gauges: &Gauges<'_, R>, journal: &Journal) -> Option<Vec<u8>>
+    ensures { IfSome result (λ text. TellsCounts journal.now.entries text.items) }
+{
+    let Ok(text) = told_of(gauges, journal) else {
+        return None;
+    };
+    if gauges.measures.lock(gauges.rt).lacks_memory() {
+        return None;
+    }
+    Some(text)
+}
+
+// Writes the measures of a run that was written with this status, unless memory was refused for either, and gives the
+// status of both.
+fn tell_measures<R: AllocGlobal + Wait, W: Write>(
+    gauges: &Gauges<'_, R>,
+    run: &KeptRun,
+    status: u8,
+    writer: &mut WatchedWriter<'_, W>,
+) -> Result<u8, WriteFault>
+    ensures writer { IsSameWriter writer.old writer.new }
+    ensures whole { IfOk result (TellsMeasures (kept_run run.now) status (bytes_held W.contents writer.old)
+        (bytes_held W.contents writer.new)) }
+    ensures part { IsErr result → PartOfMeasures (kept_run run.now) status (bytes_held W.contents writer.old)
+        (bytes_held W.contents writer.new) }
+    ensures fault { IsErr result → has_refused writer.new ≡ true }
+{
+    if status == status::OUT_OF_MEMORY {
+        return Ok(status);
+    }
+    let Some(text) = measured(gauges, &run.journal) else {
+        return Ok(status::OUT_OF_MEMORY);
+    };
+    writer.write_bytes(text.as_slice())?;
+    Ok(status)
+}
+
+// Runs the machines' own workers over a new watched world, writes what comes of it and then its measures, and keeps the
+// run.
+fn write_measured<R: AllocGlobal + Wait, W: Write>(
+    rt: &R,
+    inputs: Inputs,
+    journal: bool,
+    writer: &mut WatchedWriter<'_, W>,
+) -> Result<(u8, Left), WriteFault>
+    ensures writer { IsSameWriter writer.old writer.new }
+    ensures whole { IfOk result (λ ran. WithMeasures (WritesRounds journal inputs.plan inputs.script)
+        (bytes_held W.contents writer.old) (bytes_held W.contents writer.new) ran.0 (kept_of ran.1)) }
+    ensures thread { IfOk result (λ ran. LacksThread ran.1 (bytes_held W.contents writer.old)
+        (bytes_held W.contents writer.new) ran.0) }
+    ensures part { IsErr result
+        → PartOfRounds journal inputs.plan inputs.script (bytes_held W.contents writer.old)
+        (bytes_held W.contents writer.new)
+        ⊎ PartBehind (WritesRounds journal inputs.plan inputs.script) (bytes_held W.contents writer.old)
+        (bytes_held W.contents writer.new) }
+    ensures fault { IsErr result → has_refused writer.new ≡ true }
 {
     let Inputs {
         plan,
@@ -178,60 +223,47 @@ fn measured<R: AllocGlobal + Wait>(rt: &R, inputs: Inputs) -> Option<Vec<u8>>
         world: &world,
         measures: &measures,
         faults: &faults,
+        durations,
     };
-    let Ok(Outcome { book, end }) = run_own(&gauges, &plan, script) else {
-        return None;
-    };
-    if matches!(end, End::Memory) {
-        return None;
-    }
-    let Ok(text) = told_of(&gauges, &book, &durations) else {
-        return None;
-    };
-    if measures.lock(rt).lacks_memory() {
-        return None;
-    }
-    Some(text)
-}
-
-// The status where the texts of a run give none: 0 where one is refused, and 4 where memory was.
-fn status_without(error: InputError) -> u8
-    ensures refused { result ≡ 0 → input_status error ≡ 1 }
-    ensures status { (result ≡ 0) ⊎ (result ≡ 4) }
-{
-    match error {
-        InputError::Settings(SettingsError::OutOfMemory)
-        | InputError::Faults(LineError::OutOfMemory)
-        | InputError::Operator(LineError::OutOfMemory) => status::OUT_OF_MEMORY,
-        _ => status::SUCCESS,
+    match run_own(&gauges, &plan, script) {
+        Ok(outcome) => {
+            let (status, run) = keep_outcome(rt.alloc(), outcome, plan, journal, writer)?;
+            let both = tell_measures(&gauges, &run, status, writer)?;
+            Ok((both, Left::Run(run)))
+        }
+        Err(AllocError) => Ok((status::OUT_OF_MEMORY, Left::Nothing)),
     }
 }
 
-/// Runs the machines' own workers in rounds by the texts of a run, in a cell that is watched and whose motions take so
-/// many readings, and writes the measures that `drive_texts` tells of a method. The status is 4 where memory was
-/// refused, and then nothing is written. Texts of which one is refused give no run, and nothing is written, with
-/// status 0.
-pub fn measure_texts<R: AllocGlobal + Wait, W: Write>(
+/// Reads the texts of a run and runs the machines' own workers in rounds, as `run_kept` does, in a watched cell.
+/// It writes what `run_kept` writes, and behind it the measures that `drive_texts` tells of a method. It gives the exit
+/// status and what the run left.
+///
+/// Where memory is refused for the run, its measures aren't written; where it is refused for the measures alone,
+/// nothing of them is, and the status is 4. Texts of which one is refused have no measures.
+pub fn run_measured<R: AllocGlobal + Wait, W: Write>(
     rt: &R,
     texts: Texts<'_>,
-    output: &mut W,
-) -> Result<u8, WriteFault>
-    ensures told { OnOk result ((told : List ℕ) × Appends (W.contents output.old) (W.contents output.new) told) }
-    ensures status { IfOk result (λ status. (status ≡ 0) ⊎ (status ≡ 4)) }
-    // With status 0 the measures were written, or a text is refused.
-    ensures measured { result ≡ Ok 0 → TellsMeasures texts.entry.settings.now texts.entry.faults.now
-        texts.entry.operator.now (W.contents output.old) (W.contents output.new) }
-    ensures memory { result ≡ Ok 4 → output.new ≡ output.old }
+    journal: bool,
+    writer: &mut WatchedWriter<'_, W>,
+) -> Result<(u8, Left), WriteFault>
+    ensures writer { IsSameWriter writer.old writer.new }
+    // What is written is what `run_kept` writes, up to some point, and behind it the measures of the journal that is
+    // kept.
+    ensures whole { IfOk result (λ ran. KeepsMeasured texts.entry.settings.now texts.entry.faults.now
+        texts.entry.operator.now journal (bytes_held W.contents writer.old) (bytes_held W.contents writer.new) ran.0
+        (kept_of ran.1)) }
+    // That a thread could not be started is told only where nothing was written, with status 4.
+    ensures thread { IfOk result (λ ran. LacksThread ran.1 (bytes_held W.contents writer.old)
+        (bytes_held W.contents writer.new) ran.0) }
+    // Where the writer failed, a first part of that was written.
+    ensures part { IsErr result → PartOfMeasured texts.entry.settings.now texts.entry.faults.now
+        texts.entry.operator.now journal (bytes_held W.contents writer.old) (bytes_held W.contents writer.new) }
+    // It answers that the writer failed only where a write was refused.
+    ensures fault { IsErr result → has_refused writer.new ≡ true }
 {
-    let inputs = match read_inputs(rt.alloc(), texts) {
-        Ok(inputs) => inputs,
-        Err(error) => return Ok(status_without(error)),
-    };
-    let Some(text) = measured(rt, inputs) else {
-        return Ok(status::OUT_OF_MEMORY);
-    };
-    match write_told(output, text.as_slice()) {
-        Ok(()) => Ok(status::SUCCESS),
-        Err(_) => Err(WriteFault),
+    match read_inputs(rt.alloc(), texts) {
+        Ok(inputs) => write_measured(rt, inputs, journal, writer),
+        Err(error) => Ok((refuse_input(writer, error)?, Left::Nothing)),
     }
 }

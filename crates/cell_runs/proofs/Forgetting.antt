@@ -27,7 +27,7 @@ use Rattle.cell_plant.specs.Asked.{Asked, Handed, Ordered}
 use Rattle.cell_plant.specs.PlantLogs.{is_ported}
 use Rattle.cell_plant.specs.declared.gone.Gone.{Gone}
 use Rattle.cell_rounds.specs.Moves as moves
-use Rattle.cell_rounds.specs.Moves.{Keeps, Move, OrdersIf, answered, if_kept, terms}
+use Rattle.cell_rounds.specs.Moves.{Keeps, Move, OrdersIf, answered, if_kept, terms_of}
 use Rattle.cell_rounds.specs.Rest.{are_idle}
 use Rattle.cell_rounds.specs.Runs.{Controlled, Halts, IsDue, breaks, fills, lacks, rests, tires, noted, reading, act}
 use Rattle.cell_rounds.specs.Stands as stands
@@ -214,7 +214,7 @@ module _ {C K : Type 0} (told : C → C → Asked → Type 0) (keeps : K → K �
   if_kept_is : (b : Bool) (point : Point) → b ≡ true → if_kept b point ≡ point
   if_kept_is b point is = rw is refl
 
-  stands_move : (s t : Stand C K) → Stands s → Move told keeps (terms l p waits) s t → Stands t
+  stands_move : (s t : Stand C K) → Stands s → Move told keeps (terms_of l p waits) s t → Stands t
   stands_move s t st (moves.begins true at did is) = subst Stands (sym is) (
     st.0,
     record {
@@ -292,7 +292,7 @@ module _ {C K : Type 0} (told : C → C → Asked → Type 0) (keeps : K → K �
       subst Stands (sym is) (st.0, one_more was.rounds was.round)
   stands_move s t st (moves.closes false at on did is) = absurd (differ (ported _ _ _ did))
 
-  stands_leads : (s t : Stand C K) → Stands s → moves.Leads told keeps (terms l p waits) s t → Stands t
+  stands_leads : (s t : Stand C K) → Stands s → moves.Leads told keeps (terms_of l p waits) s t → Stands t
   stands_leads s _ st moves.stays = st
   stands_leads s t st (moves.goes {t = mid} before move) = stands_move mid t (stands_leads s mid st before) move
 
@@ -332,7 +332,7 @@ module _ {C K : Type 0} (told : C → C → Asked → Type 0) (keeps : K → K �
 
   -- so it ends as a run in rounds does
   pub ended_of : (s : Stand C K) (h : Halt) (c : C) (k : K) (J : List Entry) → Stands s
-      → Halts told keeps (terms l p waits) s h c k J → (e : End) × (h ≡ halt.End e) × Ended l p from J e
+      → Halts told keeps (terms_of l p waits) s h c k J → (e : End) × (h ≡ halt.End e) × Ended l p from J e
   ended_of s h c k J st (breaks t leads over has) = absurd (here t (Over h) over (stands_leads s t st leads))
   ended_of s h c k J st (lacks t leads is (noted n x at same) has) =
       absurd (here t (Noted n x) at (stands_leads s t st leads))
@@ -409,7 +409,7 @@ pub run_from : {C K : Type 0} (told : C → C → Asked → Type 0) (keeps : K �
     (p : Plan) (waits : Bool) (h : Halt) (c c' : C) (k k' : K) (B J : List Entry) (lines : List Line)
     → ((a b : C) (x : Asked) → told a b x → is_ported x ≡ true)
     → ((a b : K) (e : Entry) (ok : Bool) → keeps a b e ok → ok ≡ true)
-    → Controlled told keeps (terms l p waits) h c k B lines None c' k' J
+    → Controlled told keeps (terms_of l p waits) h c k B lines None c' k' J
     → (e : End) × (h ≡ halt.End e) × Ended l p (start_from B lines) J e
 run_from told keeps l p waits h c c' k k' B J lines ported kept run =
     ended_of told keeps l p ported kept (start_from B lines) waits (stands.start c k B lines None) h c' k' J

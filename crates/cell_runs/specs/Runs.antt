@@ -20,6 +20,7 @@ use Rattle.cell_runs.specs.Inputs.{AreInputs, WritesError, input_line, input_sta
 use Rattle.cell_runs.specs.Rounds.{IsRunFrom}
 use Rattle.cell_runs.specs.declared.inputs.Inputs.{Inputs}
 use Rattle.cell_runs.specs.declared.inputs.InputError.{InputError}
+use Rattle.cell_runs.specs.declared.texts.KeptRun.{KeptRun}
 use Rattle.cell_runs.specs.declared.texts.Left.{Left}
 use Rattle.cell_runs.specs.declared.texts.Left.TheVariants as left
 use Rattle.cell_runs.specs.declared.texts.Mode.{Mode}
@@ -78,9 +79,13 @@ pub record Kept : Type 0 where
 abbrev pub kept : List Entry → End → Plan → Kept
 kept J e plan = record { entries = J; end = e; plan = plan }
 
+-- the same of a run that was kept
+abbrev pub kept_run : KeptRun → Kept
+kept_run run = kept run.journal.entries run.end run.plan
+
 -- what is kept, where something is
 abbrev pub kept_of : Left → Option Kept
-kept_of (left.Run run) = Some (kept run.journal.entries run.end run.plan)
+kept_of (left.Run run) = Some (kept_run run)
 kept_of left.NoThread = None
 kept_of left.Nothing = None
 

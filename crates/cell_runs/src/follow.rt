@@ -13,7 +13,7 @@ ghost use Rattle.cell_runs.specs.Rounds.{Reaches, place};
 ghost use Rattle.cell_runs.specs.Followed.{Acts, Ends, EndsAt, Halts, IsFollowed};
 ghost use Rattle.cell_runs.specs.Runs.{limits_of};
 
-use crate::simulation::empty_book;
+use crate::booking::empty_book;
 use crate::steps::{Progress, act, take_step};
 use cell_journal::Journal;
 use cell_ledger::{Blanks, Kept, Run};

@@ -113,7 +113,7 @@ fn follow_read<R: AllocGlobal + Wait, W: Write>(
 /// that was, status 4.
 ///
 /// It gives what was booked too, where the journal was followed, in place of a run; no limit is its end.
-pub fn follow_kept<R: AllocGlobal + Wait, W: Write>(
+pub fn follow_after<R: AllocGlobal + Wait, W: Write>(
     rt: &R,
     followed: &Audited,
     texts: Texts<'_>,

@@ -11,10 +11,8 @@ use crate::following::tell_refused;
 use crate::inputs::{Inputs, Texts, read_inputs};
 use crate::ports::sim_ports;
 use crate::refused::refuse_input;
-use crate::report::write_outcome;
-use crate::rounds::Outcome;
 use crate::simulation::run_on;
-use crate::texts::{KeptRun, Left};
+use crate::texts::{Left, keep_outcome};
 use cell_audit::{Audited, write_answer};
 use cell_journal::Journal;
 use cell_output::{WatchedWriter, WriteFault};
@@ -52,10 +50,8 @@ fn write_run_from<R: AllocGlobal + Wait, W: Write>(
         hands: SimOperator::new(rt, &world),
     };
     let outcome = run_on(rt.alloc(), book, &mut cell, script, &plan);
-    let status = write_outcome(rt.alloc(), &outcome, journal, writer)?;
-    let Outcome { book, end } = outcome;
-    let journal = book.into_journal();
-    Ok((status, Left::Run(KeptRun { journal, end, plan })))
+    let (status, run) = keep_outcome(rt.alloc(), outcome, plan, journal, writer)?;
+    Ok((status, Left::Run(run)))
 }
 
 // Runs the simulated cell from a journal on, or tells that the settings' limits refuse an entry of it.

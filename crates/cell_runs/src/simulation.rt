@@ -1,9 +1,10 @@
 //! Runs over the simulated cell on one thread.
-ghost use Rattle.std.specs.Prelude.{◌≡◌, [], IfOk};
+ghost use Rattle.std.specs.Prelude.{◌≡◌, IfOk};
 ghost use Rattle.cell_runs.specs.Followed.{IsFollowed};
 ghost use Rattle.cell_runs.specs.Rounds.{IsRun, IsRunFrom};
 ghost use Rattle.cell_runs.specs.Runs.{limits_of};
 
+use crate::booking::empty_book;
 use crate::follow::{Following, follow_over};
 use crate::ports::sim_ports;
 use crate::rounds::{Outcome, run_over};
@@ -17,16 +18,6 @@ use plate_book::Book;
 use std::alloc::{AllocError, Global};
 use std::marker::Brand;
 use std::sync::{Mutex, Wait};
-
-/// An empty book within a plan's limits.
-pub fn empty_book(alloc: Global, plan: &Plan) -> Result<Book, AllocError>
-    ensures { IfOk result (λ book. book ≡ record { limits = limits_of plan.now; entries = [] }) }
-{
-    match Book::new(alloc, plan.journal_limit, plan.plates) {
-        Ok(book) => Ok(book),
-        Err(_) => Err(AllocError),
-    }
-}
 
 /// Runs a cell of ports and hands on one thread, in rounds, from a book's journal on. The cell is where that journal
 /// left it.

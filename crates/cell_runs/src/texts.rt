@@ -1,8 +1,12 @@
 //! A run by its texts.
-ghost use Rattle.std.specs.Prelude.{◌≡◌, ◌↔◌, IfOk, IsErr, None, true};
+ghost use Rattle.std.specs.Prelude.{◌≡◌, ◌↔◌, List, IfOk, IsErr, None, Some, true};
+ghost use Rattle.cell_types.specs.declared.words.Entry.{Entry as EntryValue};
 ghost use Rattle.cell_output.specs.Watched.{IsSameWriter, bytes_held, has_refused};
-ghost use Rattle.cell_runs.specs.Runs.{KeepsRun, LacksThread, PartOfReport, PartOfRounds, TellsPart, TellsRun};
-ghost use Rattle.cell_runs.specs.Runs.{WritesReport, WritesRounds, kept_of, limits_of, mode_of};
+ghost use Rattle.operator_desk.specs.declared.line.Line.{Line};
+ghost use Rattle.cell_runs.specs.Rounds.{IsRunFrom};
+ghost use Rattle.cell_runs.specs.Runs.{KeepsRun, LacksThread, PartOfReport, PartOfRounds, PartOfRoundsFrom, TellsPart};
+ghost use Rattle.cell_runs.specs.Runs.{TellsRun, WritesReport, WritesRounds, WritesRoundsFrom, kept, kept_of, kept_run};
+ghost use Rattle.cell_runs.specs.Runs.{limits_of, mode_of};
 
 use crate::inputs::{Inputs, Texts, read_inputs};
 use crate::ports::sim_ports;
@@ -14,7 +18,7 @@ use cell_journal::Journal;
 use cell_output::{WatchedWriter, WriteFault, status};
 use cell_sim::{SimOperator, World};
 use cell_workers::{End, Plan, Report, RunError, run_cell};
-use std::alloc::AllocError;
+use std::alloc::{AllocError, Global};
 use std::io::Write;
 use std::sync::{Mutex, Wait};
 use std::thread::Threads;
@@ -59,6 +63,36 @@ fn left_by(error: RunError) -> Left
     }
 }
 
+/// Writes what comes of a run on one thread by this plan, as `run_kept` does in rounds, gives the exit status and keeps
+/// the run.
+pub fn keep_outcome<W: Write>(
+    alloc: Global,
+    outcome: Outcome,
+    plan: Plan,
+    journal: bool,
+    writer: &mut WatchedWriter<'_, W>,
+) -> Result<(u8, KeptRun), WriteFault>
+    ensures writer { IsSameWriter writer.old writer.new }
+    ensures run { IfOk result (λ ran. kept_run ran.1 ≡ kept outcome.book.entries outcome.end plan) }
+    // What is written is of the run that led from some journal to this outcome by some script.
+    ensures whole { IfOk result (λ ran. (before : List EntryValue) (script : List Line)
+        → IsRunFrom (limits_of plan) plan before script outcome.book.entries outcome.end
+        → WritesRoundsFrom before journal plan script (bytes_held W.contents writer.old)
+        (bytes_held W.contents writer.new) ran.0 (Some (kept_run ran.1))) }
+    // Where the writer failed, a first part of that was written.
+    ensures part { IsErr result → (before : List EntryValue) (script : List Line)
+        → IsRunFrom (limits_of plan) plan before script outcome.book.entries outcome.end
+        → PartOfRoundsFrom before journal plan script (bytes_held W.contents writer.old)
+        (bytes_held W.contents writer.new) }
+    // It answers that the writer failed only where a write was refused.
+    ensures fault { IsErr result → has_refused writer.new ≡ true }
+{
+    let status = write_outcome(alloc, &outcome, journal, writer)?;
+    let Outcome { book, end } = outcome;
+    let journal = book.into_journal();
+    Ok((status, KeptRun { journal, end, plan }))
+}
+
 // Runs the simulated cell over a new world in rounds, writes what comes of it, and keeps the run.
 fn write_rounds<R: AllocGlobal + Wait, W: Write>(
     rt: &R,
@@ -85,10 +119,8 @@ fn write_rounds<R: AllocGlobal + Wait, W: Write>(
     let hands = SimOperator::new(rt, &world);
     match simulate(rt, &plan, &faults, script, &world, hands) {
         Ok(outcome) => {
-            let status = write_outcome(rt.alloc(), &outcome, journal, writer)?;
-            let Outcome { book, end } = outcome;
-            let journal = book.into_journal();
-            Ok((status, Left::Run(KeptRun { journal, end, plan })))
+            let (status, run) = keep_outcome(rt.alloc(), outcome, plan, journal, writer)?;
+            Ok((status, Left::Run(run)))
         }
         Err(AllocError) => Ok((status::OUT_OF_MEMORY, Left::Nothing)),
     }

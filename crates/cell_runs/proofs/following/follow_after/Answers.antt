@@ -1,7 +1,7 @@
 -- Where the other texts are good, what is written is that of the journal that was read
 use Rattle.std.proofs.Common.{Ok}
 use Rattle.std.proofs.lemmas.Result.{IfOk-weaker}
-use Rattle.cell_runs.proofs.following.follow_kept.Goals as goal
+use Rattle.cell_runs.proofs.following.follow_after.Goals as goal
 
 pub returns-in-Ok-clause-whole : goal.returns-in-Ok-clause-whole
 returns-in-Ok-clause-whole g c = λ text read. IfOk-weaker c.follow_read.result _ _
