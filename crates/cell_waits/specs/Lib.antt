@@ -1,0 +1,4 @@
+pub mod Past
+pub mod Ends
+pub mod Waits
+pub mod Rows
