@@ -54,6 +54,39 @@ const checkAlone = async () => {
   await go("a step in the first page alone", () => press(0, "forward"), [1, 0]);
   await go("the end of the second page alone", () => press(1, "end"), [1, ends[1]]);
 };
+// Both play by one clock, and the first difference is told and marked.
+const checkDifferences = async () => {
+  await open("");
+  const records = await each('(inner) => JSON.parse(inner.getElementById("journal").textContent).rows.map((row) => row[12])');
+  const longest = Math.max(...records.map((list) => list.length));
+  const first = Array.from({ length: longest }, (_, i) => i).find((i) => i > 0 && records[0][i] !== records[1][i]);
+  check("the first difference", await ask("document.getElementById('difference').textContent"),
+    first === undefined ? "No difference in their good entries" : "First difference: entry " + first);
+  if (first !== undefined) {
+    await go("to the first difference", () => ask("document.getElementById('to-difference').click()"), both(first));
+    const marked = await each('(inner) => inner.querySelectorAll("#cell .differs").length > 0');
+    check("what differs is marked", marked, [true, true]);
+  }
+  await go("home", () => key("Home", 36), [0, 0]);
+  await each('(inner) => { inner.getElementById("speed").value = "100"; }');
+  await ask("document.getElementById('play-both').click()");
+  for (let k = 0; k < 5; k += 1) {
+    await sleep(130);
+    const [one, two] = await entries();
+    check("both play in step", Math.abs(Math.min(one, ends[1]) - Math.min(two, ends[0])) <= 1, true);
+  }
+  await ask("document.getElementById('play-both').click()");
+  const paused = await entries();
+  await sleep(300);
+  check("both pause", await entries(), paused);
+  check("both played", paused.some((entry) => entry > 0), true);
+  await go("home again", () => key("Home", 36), [0, 0]);
+  await press(0, "play");
+  await sleep(400);
+  check("play in one page plays both", (await entries()).every((entry) => entry > 0), true);
+  await press(1, "play");
+  console.log("the first difference, its marks and play were tried");
+};
 const checkSizes = async () => {
   for (const [name, width, height, dark] of [["wide", 1100, 900, false], ["narrow", 390, 844, false], ["dark", 1100, 900, true]]) {
     await resize(width, height);
@@ -79,6 +112,7 @@ await finish(address, async () => {
   ends = await lasts();
   await checkTogether();
   await checkAlone();
+  await checkDifferences();
   await checkSizes();
   await checkWithoutScripts();
   console.log(`two journals of ${ends.join(" and ")} steps: keys, buttons, the switch, sizes and no scripts were tried`);

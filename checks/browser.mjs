@@ -48,7 +48,7 @@ export const check = (what, found, wanted) => {
   console.log(`  ${what}: found ${JSON.stringify(found)}, wanted ${JSON.stringify(wanted)}`);
 };
 
-export const resize = (width, height) => tell("Emulation.setDeviceMetricsOverride", { width, height, deviceScaleFactor: 1, mobile: false });
+export const resize = (width, height, factor = 1) => tell("Emulation.setDeviceMetricsOverride", { width, height, deviceScaleFactor: factor, mobile: false });
 export const key = async (name, code) => {
   const press = { key: name, code: name === " " ? "Space" : name, windowsVirtualKeyCode: code };
   await tell("Input.dispatchKeyEvent", { type: "keyDown", ...press, text: name.length === 1 ? name : undefined });

@@ -152,8 +152,8 @@ abbrev pub with_command : App → App → App
 with_command program command = with_subcommand program command.top
 
 -- the program with its commands
-abbrev pub with_commands : App
-with_commands = fold with_command (new_app (codes "cellctl")) commands
+abbrev pub program : App
+program = fold with_command (new_app (codes "cellctl")) commands
 
 abbrev pub cellctl : App
-cellctl = record with_commands { top = for_people with_commands.top }
+cellctl = record program { top = for_people program.top }

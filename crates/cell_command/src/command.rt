@@ -7,23 +7,23 @@ ghost use Rattle.cell_command.specs.Shape.{IsCommand, IsLocal, accompanied, audi
 ghost use Rattle.cell_command.specs.Shape.{control, drive, explain, explore, file_rule, filed, flag_rule};
 ghost use Rattle.cell_command.specs.Shape.{flagged, for_people, in_rounds, journal_rule, measure, migrate};
 ghost use Rattle.cell_command.specs.Shape.{optional_rule, path_rule, pictured, repeated_rule, run, scripted};
-ghost use Rattle.cell_command.specs.Shape.{several_rule, show, sim, sweep, times_rule, with_commands};
+ghost use Rattle.cell_command.specs.Shape.{program, several_rule, show, sim, sweep, times_rule};
 ghost use Rattle.cell_command.specs.Shape.{with_input, with_rules};
 
 use crate::help::{
     ABOUT, AFTER, AHEAD_HELP, ANIMATE_HELP, AUDIT, BESIDE_HELP, CHECK, CONTROL, CONTROL_USAGE,
-    CSV_HELP, DRIVE, ENTRY_HELP, EXPLAIN, EXPLAIN_USAGE, EXPLORE, FAIL_HELP, FAULTS_HELP,
-    FILE_HELP, FOLLOW_HELP, FROM_HELP, HTML_HELP, JOURNAL_HELP, JOURNALS_HELP, KINDS_HELP,
-    LEAST_HELP, LIMIT_HELP, MEASURE, MEASURES_HELP, MIGRATE, MOTIONS_HELP, OPERATOR_HELP,
-    PLATES_HELP, RAW_HELP, REPAIR_HELP, RESUME_HELP, RUN, RUNS_HELP, SERVICE_HELP, SETTINGS_HELP,
-    SHOW, SHOW_USAGE, SIM, SVG_HELP, SWEEP, SYNC_HELP, TIMES_HELP, Texts, UNICODE_HELP, VERSION,
-    WAIT_HELP, WAY_HELP, WHY_HELP,
+    CSV_HELP, CommandTexts, DRIVE, ENTRY_HELP, EXPLAIN, EXPLAIN_USAGE, EXPLORE, FAIL_HELP,
+    FAULTS_HELP, FILE_HELP, FOLLOW_HELP, FROM_HELP, HTML_HELP, JOURNAL_HELP, JOURNALS_HELP,
+    KINDS_HELP, LEAST_HELP, LIMIT_HELP, MEASURE, MEASURES_HELP, MIGRATE, MOTIONS_HELP,
+    OPERATOR_HELP, PLATES_HELP, RAW_HELP, REPAIR_HELP, RESUME_HELP, RUN, RUNS_HELP, SERVICE_HELP,
+    SETTINGS_HELP, SHOW, SHOW_USAGE, SIM, SVG_HELP, SWEEP, SYNC_HELP, TIMES_HELP, UNICODE_HELP,
+    VERSION, WAIT_HELP, WAY_HELP, WHY_HELP,
 };
 use clap::{Arg, ArgAction, Command};
 use std::alloc::{AllocError, Global};
 
 // A command with its texts.
-fn described<'a>(alloc: Global, name: &'a str, texts: &Texts) -> Command<'a>
+fn described<'a>(alloc: Global, name: &'a str, texts: &CommandTexts) -> Command<'a>
     ensures { IsCommand (new_app name.entry.now) result }
 {
     Command::new(alloc, name)
@@ -389,8 +389,8 @@ fn all_commands<'a>(alloc: Global) -> Result<Vec<Command<'a>>, AllocError>
 }
 
 // The program with its commands.
-fn with_commands<'a>(alloc: Global) -> Result<Command<'a>, AllocError>
-    ensures { IfOk result (IsCommand with_commands) }
+fn program<'a>(alloc: Global) -> Result<Command<'a>, AllocError>
+    ensures { IfOk result (IsCommand program) }
 {
     let commands = all_commands(alloc)?;
     Command::new(alloc, "cellctl").subcommands(commands)
@@ -419,5 +419,5 @@ fn made_for_people<'a>(command: Command<'a>) -> Command<'a>
 pub(crate) fn command<'a>(alloc: Global) -> Result<Command<'a>, AllocError>
     ensures { IfOk result (IsCommand cellctl) }
 {
-    Ok(made_for_people(with_commands(alloc)?))
+    Ok(made_for_people(program(alloc)?))
 }

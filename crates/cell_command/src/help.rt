@@ -1,7 +1,7 @@
 //! The texts of the help, in lines of at most 79 columns. The manual page is made of them.
 
 /// What is printed of a command.
-pub(crate) struct Texts {
+pub(crate) struct CommandTexts {
     /// Its line in the list of commands.
     pub(crate) about: &'static str,
     pub(crate) help: &'static str,
@@ -28,7 +28,7 @@ Where it is known which file failed, a second line says which, and why.
 
 Example: cellctl audit examples/whole.journal";
 
-pub(crate) const AUDIT: Texts = Texts {
+pub(crate) const AUDIT: CommandTexts = CommandTexts {
     about: "Say whether a journal is legal, and what it counts",
     help: "\
 Judges a journal's text, which it reads from FILE, or on standard input where
@@ -90,7 +90,7 @@ write failed, 4 out of memory.",
     example: "Example: cellctl audit examples/whole.journal",
 };
 
-pub(crate) const MIGRATE: Texts = Texts {
+pub(crate) const MIGRATE: CommandTexts = CommandTexts {
     about: "Write a journal of profile 1 in profile 2",
     help: "\
 Reads a journal's text of profile 1 from FILE, or on standard input where no
@@ -110,7 +110,7 @@ or a write failed, 4 out of memory.",
     example: "Example: cellctl migrate examples/whole.journal",
 };
 
-pub(crate) const CHECK: Texts = Texts {
+pub(crate) const CHECK: CommandTexts = CommandTexts {
     about: "Say whether a run's settings are good",
     help: "\
 Reads a run's settings, in TOML, from a file:
@@ -144,7 +144,7 @@ Exit status: 0 good, 1 a fault, 2 wrong arguments, 3 a read or a write failed,
     example: "Example: cellctl check examples/cell.toml",
 };
 
-pub(crate) const SIM: Texts = Texts {
+pub(crate) const SIM: CommandTexts = CommandTexts {
     about: "Run the simulated cell on one thread",
     help: "\
 Runs the simulated cell on one thread, in rounds, until nothing more is to be
@@ -230,7 +230,7 @@ Example: cellctl sim examples/press_fails.toml \\
            examples/press_fails.faults examples/press_fails.operator",
 };
 
-pub(crate) const DRIVE: Texts = Texts {
+pub(crate) const DRIVE: CommandTexts = CommandTexts {
     about: "Let a control method drive the simulated cell",
     help: "\
 Lets a control method, a process of its own, drive the simulated cell in
@@ -277,7 +277,7 @@ Example: cellctl drive examples/cell.toml /dev/null /dev/null",
 
 pub(crate) const RAW_HELP: &str = "Take commands to the bare machines, and no entries";
 
-pub(crate) const CONTROL: Texts = Texts {
+pub(crate) const CONTROL: CommandTexts = CommandTexts {
     about: "Control a cell over the standard streams",
     help: "\
 Controls a cell, one's own or that of drive --raw, in rounds: it reads the
@@ -336,7 +336,7 @@ pub(crate) const SYNC_HELP: &str = "Have each record on the device before its co
 
 pub(crate) const WAIT_HELP: &str = "Let a stalled run wait for the cell's desk";
 
-pub(crate) const RUN: Texts = Texts {
+pub(crate) const RUN: CommandTexts = CommandTexts {
     about: "Run the simulated cell on threads",
     help: "\
 Runs the simulated cell with a worker for each machine and one for the
@@ -363,7 +363,7 @@ Example: cellctl run examples/press_fails.toml \\
            examples/press_fails.faults examples/press_fails.operator",
 };
 
-pub(crate) const SHOW: Texts = Texts {
+pub(crate) const SHOW: CommandTexts = CommandTexts {
     about: "Draw the cell as a journal's first entries left it",
     help: "\
 Reads a journal's text from FILE, or on standard input where no file is named,
@@ -380,9 +380,9 @@ other signs; with --svg one picture file; with --html one page for a browser,
 which has the states after all entries, of which it shows at most 20000. With
 --svg --times FILE the picture has at most 20000 entries on an axis of time,
 where motions take what FILE says (see the command measure), and with --html
---times FILE the page has such a picture of all entries below the states. With
---html --beside OTHER two such pages stand side by side in one, that of the
-journal and that of the journal in the file OTHER, and are stepped together.
+--times FILE the page can show all entries on such an axis. With --html
+--beside OTHER two such pages stand side by side in one, that of the journal
+and that of the journal in the file OTHER, and are stepped together.
 With --svg --animate JOURNAL the picture moves: the first ENTRY entries of the
 journal in the file JOURNAL, which has at most 20000, play in a loop.
 
@@ -402,7 +402,7 @@ cellctl show [--svg | --html | --unicode] [--file FILE] [ENTRY]
        cellctl show --html --beside OTHER [--times FILE] [--file FILE] [ENTRY]
        cellctl show --svg --animate JOURNAL [ENTRY]";
 
-pub(crate) const EXPLAIN: Texts = Texts {
+pub(crate) const EXPLAIN: CommandTexts = CommandTexts {
     about: "Say why a journal, settings or a script is refused",
     help: "\
 Reads a journal's text from FILE, or on standard input where no file is named,
@@ -450,7 +450,7 @@ pub(crate) const ANIMATE_HELP: &str = "Let the entries of this journal play in t
 
 pub(crate) const UNICODE_HELP: &str = "Draw with signs beyond ASCII";
 
-pub(crate) const MEASURE: Texts = Texts {
+pub(crate) const MEASURE: CommandTexts = CommandTexts {
     about: "Tell how long a journal's events need at least",
     help: "\
 Tells how long the events of legal journals need at least, and how that time
@@ -478,7 +478,7 @@ arguments, 3 a read or a write failed, 4 out of memory.",
     example: "Example: cellctl measure examples/whole.journal",
 };
 
-pub(crate) const SWEEP: Texts = Texts {
+pub(crate) const SWEEP: CommandTexts = CommandTexts {
     about: "Run the simulated cell once for each single fault",
     help: "\
 Runs the simulated cell on one thread once for each fault: each kind, in each
@@ -501,7 +501,7 @@ Exit status: 0 all runs are told, however they ended, 1 a text is refused,
     example: "Example: cellctl sweep --kinds lose_plate,slow:50 examples/press_fails.toml /dev/null",
 };
 
-pub(crate) const EXPLORE: Texts = Texts {
+pub(crate) const EXPLORE: CommandTexts = CommandTexts {
     about: "Look at every order of events of the cell",
     help: "\
 Looks at every state that the cell can reach from its opening with PLATES

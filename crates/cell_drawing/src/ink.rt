@@ -1,7 +1,10 @@
 //! The shapes and texts of a drawing, in SVG's elements.
+ghost use Rattle.std.specs.Prelude.{◌≡◌};
+ghost use Rattle.cell_drawing.specs.Spots.{spot};
+
 use cell_picture::ShownPlate;
-use cell_types::AxisState;
-use cell_types::texts::pose_word;
+use cell_sentences::{pose_name, way_to_pose};
+use cell_types::{AxisState, PlateId};
 use std::fmt::Display;
 use std::io::Write;
 use std::{fmt, io};
@@ -13,8 +16,10 @@ pub struct Spot {
     pub y: u32,
 }
 
-/// A place of a drawing.
-pub fn xy(x: u32, y: u32) -> Spot {
+/// A place of a drawing, so far from its left and from its upper edge.
+pub fn xy(x: u32, y: u32) -> Spot
+    ensures { result ≡ spot x y }
+{
     Spot { x, y }
 }
 
@@ -51,9 +56,9 @@ pub struct Way(pub AxisState);
 
 impl fmt::Display for Way {
     fn fmt<W: fmt::Write>(&self, f: &mut fmt::Formatter<W>) -> fmt::Result {
-        let at = pose_word(self.0.at);
+        let at = pose_name(self.0.at);
         match self.0.going {
-            Some(to) => write!(f, "{at} \u{2192} {}", pose_word(to)),
+            Some(to) => write!(f, "{at} \u{2192} {}", way_to_pose(to)),
             None => write!(f, "{at}"),
         }
     }
@@ -83,11 +88,30 @@ pub fn ink_right<W: Write, D: Display + Drop>(out: &mut W, at: Spot, text: D) ->
     )
 }
 
+/// Writes what is wrong, in red, from a spot on.
+pub fn ink_fault<W: Write>(out: &mut W, at: Spot, text: &str) -> io::Result<()> {
+    let Spot { x, y } = at;
+    writeln!(
+        out,
+        "<text x=\"{x}\" y=\"{y}\" fill=\"#c00000\">{text}</text>"
+    )
+}
+
 /// Draws a line.
 pub fn ink_line<W: Write>(out: &mut W, from: Spot, to: Spot, width: u32) -> io::Result<()> {
     writeln!(
         out,
         "<line x1=\"{}\" y1=\"{}\" x2=\"{}\" y2=\"{}\" stroke=\"#667085\" stroke-width=\"{width}\"/>",
+        from.x, from.y, to.x, to.y
+    )
+}
+
+/// Draws the broken line of what an axis has set out for.
+pub fn ink_ghost<W: Write>(out: &mut W, from: Spot, to: Spot) -> io::Result<()> {
+    writeln!(
+        out,
+        "<line x1=\"{}\" y1=\"{}\" x2=\"{}\" y2=\"{}\" stroke=\"#2a5d9f\" stroke-width=\"3\" \
+            stroke-dasharray=\"5 6\"/>",
         from.x, from.y, to.x, to.y
     )
 }
@@ -121,19 +145,18 @@ pub fn ink_rectangle<W: Write>(
     )
 }
 
-/// The colours of a plate and of its number, and the sign behind the number: a plate is white where it isn't forged,
-/// dark and with a star where it is.
-pub fn plate_inks(forged: bool) -> (&'static str, &'static str, &'static str) {
+/// The colour of a plate, and the sign behind its number: a forged one is orange and has a star.
+pub fn plate_inks(forged: bool) -> (&'static str, &'static str) {
     if forged {
-        ("#8a3b00", "#ffffff", "*")
+        ("#f0b45c", "*")
     } else {
-        ("#ffffff", "#000000", "")
+        ("#ffffff", "")
     }
 }
 
 /// Draws a plate round a spot, without its number.
 pub fn ink_tile<W: Write>(out: &mut W, centre: Spot, forged: bool) -> io::Result<()> {
-    let (fill, _, _) = plate_inks(forged);
+    let (fill, _) = plate_inks(forged);
     writeln!(
         out,
         "<rect x=\"{}\" y=\"{}\" width=\"46\" height=\"26\" rx=\"5\" fill=\"{fill}\" stroke=\"#000000\" \
@@ -143,15 +166,21 @@ pub fn ink_tile<W: Write>(out: &mut W, centre: Spot, forged: bool) -> io::Result
     )
 }
 
+/// How large the number of a plate is written, so that it stays within the plate.
+pub fn number_size(plate: PlateId) -> u32 {
+    if plate.number() < 1000 { 14 } else { 10 }
+}
+
 /// Draws a plate round a spot, with its number.
 pub fn ink_plate<W: Write>(out: &mut W, centre: Spot, shown: ShownPlate) -> io::Result<()> {
-    let (_, letters, star) = plate_inks(shown.forged);
+    let (_, star) = plate_inks(shown.forged);
+    let size = number_size(shown.plate);
     ink_tile(out, centre, shown.forged)?;
     writeln!(
         out,
-        "<text x=\"{}\" y=\"{}\" font-size=\"10\" text-anchor=\"middle\" fill=\"{letters}\">{}{star}</text>",
+        "<text x=\"{}\" y=\"{}\" font-size=\"{size}\" text-anchor=\"middle\">{}{star}</text>",
         centre.x,
-        centre.y.saturating_add(4),
+        centre.y.saturating_add(5),
         shown.plate.number()
     )
 }
@@ -160,7 +189,7 @@ pub fn ink_plate<W: Write>(out: &mut W, centre: Spot, shown: ShownPlate) -> io::
 fn ink_gap<W: Write>(out: &mut W, centre: Spot) -> io::Result<()> {
     writeln!(
         out,
-        "<rect x=\"{}\" y=\"{}\" width=\"46\" height=\"26\" rx=\"5\" fill=\"none\" stroke=\"#8a94a6\" \
+        "<rect x=\"{}\" y=\"{}\" width=\"46\" height=\"26\" rx=\"5\" fill=\"none\" stroke=\"#667085\" \
             stroke-dasharray=\"2 3\"/>",
         centre.x.saturating_sub(23),
         centre.y.saturating_sub(13)

@@ -1,6 +1,7 @@
 //! The cell drawn: what a journal's first entries left as one SVG file, and one in which a journal's entries play.
 #![tactic(auto)]
 
+mod geometry;
 mod ink;
 mod machines;
 mod moving;
@@ -8,5 +9,6 @@ mod picture;
 mod robot;
 mod spots;
 
+pub use geometry::write_geometry;
 pub use moving::draw_moving;
 pub use picture::draw_picture;

@@ -13,12 +13,12 @@ use crate::picture::{draw_answer, draw_legend, draw_sheet};
 use cell_audit::AuditError;
 use cell_journal::Journal;
 use cell_output::WriteFault;
-use cell_types::{Axis, Belt, Colour, Machine, PRESS1, PRESS2, Station, Zone};
+use cell_types::{Axis, Belt, Colour, Machine, PRESS1, PRESS2, Pose, Station, Zone};
 use std::io;
 use std::io::Write;
 
 // All parts that change.
-const PARTS: [Part; 64] = [
+const PARTS: [Part; 66] = [
     Part::Upright,
     Part::Sentence,
     Part::Counted(Count::Admitted),
@@ -34,16 +34,18 @@ const PARTS: [Part; 64] = [
     Part::Moved(Axis::PressOne),
     Part::Moved(Axis::PressTwo),
     Part::Moved(Axis::DepositBelt),
-    Part::Height(PRESS1),
-    Part::Height(PRESS2),
+    Part::Height(Axis::TableLift),
+    Part::Height(Axis::PressOne),
+    Part::Height(Axis::PressTwo),
     Part::Glow(PRESS1),
     Part::Glow(PRESS2),
     Part::Lamp(Belt::Feed, Colour::Red),
     Part::Lamp(Belt::Feed, Colour::Green),
     Part::Lamp(Belt::Deposit, Colour::Red),
     Part::Lamp(Belt::Deposit, Colour::Green),
-    Part::Going(Axis::FeedBelt),
-    Part::Going(Axis::DepositBelt),
+    Part::Going(Axis::FeedBelt, Pose::ToEnd),
+    Part::Going(Axis::FeedBelt, Pose::ToTable),
+    Part::Going(Axis::DepositBelt, Pose::ToEnd),
     Part::Held(Zone::Z1),
     Part::Held(Zone::Z2),
     Part::Held(Zone::Z3),

@@ -5,8 +5,8 @@ use crate::robot::draw_robot;
 use cell_audit::AuditError;
 use cell_output::WriteFault;
 use cell_picture::{AnswerLine, Facts, Scene, ShownPlate, holder_at};
-use cell_sentences::EntrySentence;
-use cell_types::texts::{machine_word, zone_word};
+use cell_sentences::{EntrySentence, machine_name};
+use cell_types::texts::zone_word;
 use cell_types::{PlateId, ZONES, Zone, owner, visitor};
 use std::io;
 use std::io::Write;
@@ -33,8 +33,8 @@ fn draw_scene<W: Write>(out: &mut W, scene: &Scene) -> io::Result<()> {
     draw_belts(out, facts)?;
     draw_presses(out, facts)?;
     draw_table(out, facts)?;
-    draw_robot(out, facts)?;
     draw_holders(out, facts)?;
+    draw_robot(out, facts)?;
     draw_legend(out)?;
     draw_answer(out, scene.answer)?;
     writeln!(out, "</svg>")
@@ -104,10 +104,10 @@ fn draw_waiting<W: Write>(out: &mut W, facts: &Facts) -> io::Result<()> {
 
 // The zones, each with its two machines and its holder.
 fn draw_holders<W: Write>(out: &mut W, facts: &Facts) -> io::Result<()> {
-    ink_bold(out, xy(20, 386), "zone")?;
-    ink_bold(out, xy(66, 386), "between")?;
-    ink_bold(out, xy(190, 386), "held by")?;
-    let rows = [403, 420, 437, 454, 471];
+    ink_bold(out, xy(20, 396), "zone")?;
+    ink_bold(out, xy(66, 396), "between")?;
+    ink_bold(out, xy(200, 396), "held by")?;
+    let rows = [412, 427, 442, 457, 472];
     for (zone, y) in ZONES.into_iter().zip(rows) {
         draw_holder(out, y, zone, facts)?;
     }
@@ -118,15 +118,15 @@ fn draw_holder<W: Write>(out: &mut W, y: u32, zone: Zone, facts: &Facts) -> io::
     let holder = holder_at(facts, zone);
     draw_zone(out, zone, holder.is_some())?;
     ink_text(out, xy(20, y), zone_word(zone))?;
-    let machines = (machine_word(owner(zone)), machine_word(visitor(zone)));
+    let machines = (machine_name(owner(zone)), machine_name(visitor(zone)));
     ink_text(
         out,
         xy(66, y),
         format_args!("{}, {}", machines.0, machines.1),
     )?;
     match holder {
-        Some(machine) => ink_text(out, xy(190, y), machine_word(machine)),
-        None => ink_text(out, xy(190, y), "none"),
+        Some(machine) => ink_text(out, xy(200, y), machine_name(machine)),
+        None => ink_text(out, xy(200, y), "none"),
     }
 }
 
@@ -143,8 +143,8 @@ fn draw_sample<W: Write>(out: &mut W, at: Spot, forged: bool, says: &str) -> io:
 
 /// What the plates' signs mean.
 pub fn draw_legend<W: Write>(out: &mut W) -> io::Result<()> {
-    draw_sample(out, xy(678, 386), false, "not forged")?;
-    draw_sample(out, xy(678, 418), true, "forged")
+    draw_sample(out, xy(223, 80), false, "not forged")?;
+    draw_sample(out, xy(223, 112), true, "forged")
 }
 
 /// The line of an answer.
@@ -154,7 +154,7 @@ pub fn draw_answer<W: Write>(out: &mut W, answer: Option<AuditError>) -> io::Res
             let line = AnswerLine(answer);
             writeln!(
                 out,
-                "<text x=\"784\" y=\"466\" text-anchor=\"end\" font-size=\"15\" font-weight=\"bold\">{line}</text>"
+                "<text x=\"784\" y=\"470\" text-anchor=\"end\" font-size=\"15\" font-weight=\"bold\">{line}</text>"
             )
         }
         None => Ok(()),

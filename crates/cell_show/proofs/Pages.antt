@@ -13,6 +13,7 @@ use Rattle.cell_show.specs.Beside.{WritesBeside, escaped}
 use Rattle.cell_show.specs.Refused.{refused_line}
 use Rattle.cell_show.specs.Page.{AppendsSome, ShowsChart, WritesPage, answer_line, chart_section, chart_start}
 use Rattle.cell_show.specs.Page.{last_text, no_scripts_text, row_of, rows_text, rows_upto}
+use Rattle.cell_show.specs.Waits.{WritesWaits, waits_text}
 
 -- the first entries of a journal keep their places
 get-taken : (J : List Entry) (i : ℕ) → slice_get (take (suc i) J) i ≡ slice_get J i
@@ -82,16 +83,17 @@ chart_written chart c0 c1 c2 c3 h0 h1 h2 = Appends-trans c0 c1 c3 _ _ h0 (Append
 
 -- a page, piece by piece
 pub page_whole : (J : List Entry) (answer : Option AuditError) (refused : Option Entry) (chart : Option (Bor (List ℕ)))
-    (c0 c1 c2 still c3 c4 c5 c6 c7 c8 step c9 c10 c11 c12 : Option (List ℕ))
+    (c0 c1 c2 still c3 c4 c5 c6 c7 c8 step waits c9 c10 c11 c12 : Option (List ℕ))
     (head parts lists middle script more : List ℕ)
     → Appends c0 c1 head → Appends c1 c2 (no_scripts_text J) → AppendsSome c2 still → Appends still c3 parts
     → Appends c3 c4 (answer_line answer) → Appends c4 c5 lists
     → Appends c5 c6 (chart_section chart) → Appends c6 c7 middle
-    → AppendsSome c7 c8 → Appends c8 step (refused_line answer refused) → Appends step c9 (codes "\"rows\":[\n")
+    → AppendsSome c7 c8 → Appends c8 step (refused_line answer refused) → WritesWaits step waits J 0 (length J)
+    → Appends waits c9 (codes "\"rows\":[\n")
     → Appends c9 c10 (rows_text J) → Appends c10 c11 script → Appends c11 c12 more
     → WritesPage c0 c12 J answer refused chart
-page_whole J answer refused chart c0 c1 c2 still c3 c4 c5 c6 c7 c8 step c9 c10 c11 c12 head parts lists middle script
-    more h0 h1 picture h2 h3 h4 h5 h6 some h7 h8 h9 h10 h11 =
+page_whole J answer refused chart c0 c1 c2 still c3 c4 c5 c6 c7 c8 step waits c9 c10 c11 c12 head parts lists middle
+    script more h0 h1 picture h2 h3 h4 h5 h6 some h7 waiting h8 h9 h10 h11 =
     let drawing = some_more c2 still c3 parts picture h2 in
     record {
       head = head;
@@ -99,14 +101,17 @@ page_whole J answer refused chart c0 c1 c2 still c3 c4 c5 c6 c7 c8 step c9 c10 c
       lists = lists;
       middle = middle;
       words = some.text;
+      waits = waiting.lists;
+      waiting = waiting.told;
       scripts = script ++ more;
       whole =
           Appends-trans c0 c1 c12 _ _ h0 (Appends-trans c1 c2 c12 _ _ h1
           (Appends-trans c2 c3 c12 _ _ drawing.whole (Appends-trans c3 c4 c12 _ _ h3
           (Appends-trans c4 c5 c12 _ _ h4 (Appends-trans c5 c6 c12 _ _ h5
           (Appends-trans c6 c7 c12 _ _ h6 (Appends-trans c7 c8 c12 _ _ some.whole
-          (Appends-trans c8 step c12 _ _ h7 (Appends-trans step c9 c12 _ _ h8
-          (Appends-trans c9 c10 c12 _ _ h9 (Appends-trans c10 c11 c12 _ _ h10 h11)))))))))));
+          (Appends-trans c8 step c12 _ _ h7 (Appends-trans step waits c12 _ _ waiting.whole
+          (Appends-trans waits c9 c12 _ _ h8
+          (Appends-trans c9 c10 c12 _ _ h9 (Appends-trans c10 c11 c12 _ _ h10 h11))))))))))));
     }
 
 -- a text that stands in the middle of others
@@ -121,8 +126,8 @@ shows_chart : (J : List Entry) (answer : Option AuditError) (refused : Option En
 shows_chart J answer refused None old new page = tt
 shows_chart J answer refused (Some chart) old new page =
     let end = codes "</div>\n</section>\n" in
-    let rest = page.middle ++ (page.words ++ (refused_line answer refused
-    ++ (codes "\"rows\":[\n" ++ (rows_text J ++ page.scripts)))) in
+    let rest = page.middle ++ (page.words ++ (refused_line answer refused ++ (waits_text page.waits
+    ++ (codes "\"rows\":[\n" ++ (rows_text J ++ page.scripts))))) in
     let moved = in_the_middle page.head (no_scripts_text J) page.drawing (answer_line answer) page.lists chart_start
     chart.now end rest in
     record { before = _; after = _; whole = subst (Appends old new) moved page.whole }

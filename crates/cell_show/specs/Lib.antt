@@ -2,5 +2,6 @@ pub mod Chart
 pub mod Shown
 pub mod Rows
 pub mod Refused
+pub mod Waits
 pub mod Page
 pub mod Beside

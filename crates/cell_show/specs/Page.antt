@@ -9,6 +9,7 @@ use Rattle.cell_picture.specs.Answers.{answer_text}
 use Rattle.cell_picture.specs.Told.{facts_told, last_of}
 use Rattle.cell_show.specs.Refused.{refused_line}
 use Rattle.cell_show.specs.Rows.{row_text}
+use Rattle.cell_show.specs.Waits.{TellsWaits, waits_text}
 use Rattle.cell_show.specs.declared.page.error.PageError.{PageError}
 use Rattle.cell_show.specs.declared.page.error.PageError.TheVariants as error
 
@@ -58,19 +59,22 @@ abbrev pub chart_section : Option (Bor (List ℕ)) → List ℕ
 chart_section None = []
 chart_section (Some chart) = chart_start ++ (chart.now ++ codes "</div>\n</section>\n")
 
--- the text of a page, whose other parts are its head, its drawing, its lists, its middle, its words and its scripts
-abbrev pub page_text : List ℕ → List ℕ → List ℕ → List ℕ → List ℕ → List ℕ → List Entry → Option AuditError
+-- the text of a page, whose other parts are its head, its drawing, its lists, its middle, its words, what is waited for
+-- and its scripts
+abbrev pub page_text : List ℕ → List ℕ → List ℕ → List ℕ → List ℕ → List ℕ → List ℕ → List Entry → Option AuditError
     → Option Entry → Option (Bor (List ℕ)) → List ℕ
-page_text head drawing lists middle words scripts J answer refused chart =
+page_text head drawing lists middle words waits scripts J answer refused chart =
     head ++ (no_scripts_text J ++ (drawing ++ (answer_line answer ++ (lists ++ (chart_section chart
-    ++ (middle ++ (words ++ (refused_line answer refused ++ (codes "\"rows\":[\n" ++ (rows_text J ++ scripts))))))))))
+    ++ (middle ++ (words ++ (refused_line answer refused ++ (waits_text waits
+    ++ (codes "\"rows\":[\n" ++ (rows_text J ++ scripts)))))))))))
 
 -- some text was written
 pub record AppendsSome (old new : Option (List ℕ)) : Type 0 where
   pub text : List ℕ
   pub whole : Appends old new text
 
--- a page was written: the text of one with this journal's rows, and with the last step of this answer and refused entry
+-- a page was written: the text of one with this journal's rows, with what machines wait for after each number of its
+-- entries, and with the last step of this answer and refused entry
 pub record WritesPage (old new : Option (List ℕ)) (J : List Entry) (answer : Option AuditError) (refused : Option Entry)
     (chart : Option (Bor (List ℕ))) : Type 0 where
   pub head : List ℕ
@@ -78,8 +82,10 @@ pub record WritesPage (old new : Option (List ℕ)) (J : List Entry) (answer : O
   pub lists : List ℕ
   pub middle : List ℕ
   pub words : List ℕ
+  pub waits : List ℕ
+  pub waiting : TellsWaits J 0 (length J) waits
   pub scripts : List ℕ
-  pub whole : Appends old new (page_text head drawing lists middle words scripts J answer refused chart)
+  pub whole : Appends old new (page_text head drawing lists middle words waits scripts J answer refused chart)
 
 -- in what was written a text stands as it is
 pub record HasText (old new : Option (List ℕ)) (text : List ℕ) : Type 0 where

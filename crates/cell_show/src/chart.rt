@@ -129,6 +129,15 @@ fn draw_heading<W: Write>(
     }
 }
 
+// Writes the times at which entries end, as data for the page.
+fn write_ends<W: Write>(out: &mut W, ends: &[u64]) -> io::Result<()> {
+    write!(out, "<metadata>")?;
+    for end in ends {
+        write!(out, "{end} ")?;
+    }
+    writeln!(out, "</metadata>")
+}
+
 // Draws what goes on at the end in the lanes of axes and of failures.
 fn end_machines<W: Write>(out: &mut W, drawing: &mut Drawing) -> io::Result<()> {
     let time = drawing.scale.total();
@@ -176,6 +185,7 @@ fn draw<W: Write>(
 ) -> io::Result<()> {
     let scale = Scale::new(latest(ends));
     draw_heading(out, ends.len(), scale, answer)?;
+    write_ends(out, ends)?;
     draw_marks(out, scale)?;
     draw_axis_labels(out)?;
     draw_zone_labels(out)?;

@@ -5,6 +5,7 @@ mod parts;
 mod refused;
 mod rows;
 mod still;
+mod waits;
 mod whole;
 mod words;
 

@@ -1,21 +1,20 @@
 //! The drawing of a cell whose parts change.
 use crate::ink::{
-    Outline, Spot, ink_circle, ink_line, ink_place, ink_rectangle, ink_text, ink_tile, plate_inks,
-    xy,
+    Outline, Spot, ink_circle, ink_line, ink_place, ink_rectangle, ink_text, ink_tile, xy,
 };
 use crate::machines::{
-    RING, draw_body, draw_flow, draw_light, draw_name, draw_pointer, draw_scale, draw_zone,
+    BED, draw_body, draw_flow, draw_light, draw_name, draw_pointer, draw_scale, draw_zone,
 };
 use crate::moving::keys::ROW;
 use crate::moving::part::{Count, Part};
 use crate::moving::play::{Player, Reel};
 use crate::robot::{draw_number, draw_rod, number_spot, tip};
-use crate::spots::{CENTRE, height_spot, plate_spot, square};
+use crate::spots::{CENTRE, bed_half, height_spot, plate_spot, square};
 use cell_journal::Snapshot;
 use cell_picture::{Facts, facts_of};
 use cell_types::{
     ARMS, Arm, Axis, Belt, Colour, MACHINES, Machine, PRESS1, PRESS2, Pose, Press, STATIONS,
-    Station, ZONES, axis_of_arm, is_before_press, station_of_arm,
+    Station, ZONES, axis_of_arm, home, is_before_press, motion_named, station_of_arm,
 };
 use std::io;
 use std::io::Write;
@@ -77,20 +76,19 @@ fn draw_plate<W: Write>(
     forged: bool,
     at: Spot,
 ) -> io::Result<()> {
-    let (_, letters, _) = plate_inks(forged);
     let Spot { x, y } = at;
     begin(out, Part::Plate(station, forged), at)?;
     ink_tile(out, at, forged)?;
     writeln!(
         out,
-        "<g transform=\"translate({x} {y})\" clip-path=\"url(#plate)\" text-anchor=\"middle\" fill=\"{letters}\">"
+        "<g transform=\"translate({x} {y})\" clip-path=\"url(#plate)\" text-anchor=\"middle\">"
     )?;
     draw_texts(out, reel, Part::Number(station, forged), 5)?;
     end(out)?;
     end(out)
 }
 
-// The plate of a station, which an axis moves: in a press one that isn't forged and one that is.
+// The plate of a station of a belt, which its axis moves.
 fn draw_carried<W: Write>(
     out: &mut W,
     reel: Reel<'_>,
@@ -99,14 +97,15 @@ fn draw_carried<W: Write>(
 ) -> io::Result<()> {
     let at = plate_spot(station);
     begin(out, Part::Moved(axis), at)?;
-    match station {
-        Station::Press1 | Station::Press2 => {
-            draw_plate(out, reel, station, false, at)?;
-            draw_plate(out, reel, station, true, at)?;
-        }
-        _ => draw_plate(out, reel, station, !is_before_press(station), at)?,
-    }
+    draw_plate(out, reel, station, !is_before_press(station), at)?;
     end(out)
+}
+
+// The plate in a press: one that isn't forged, and one that is.
+fn draw_pressed<W: Write>(out: &mut W, reel: Reel<'_>, press: Press) -> io::Result<()> {
+    let at = plate_spot(press.station);
+    draw_plate(out, reel, press.station, false, at)?;
+    draw_plate(out, reel, press.station, true, at)
 }
 
 /// Draws all plates but those of the robot's arms.
@@ -114,15 +113,15 @@ pub fn draw_plates<W: Write>(out: &mut W, reel: Reel<'_>) -> io::Result<()> {
     for (axis, station) in [
         (Axis::FeedBelt, Station::FeedIn),
         (Axis::FeedBelt, Station::FeedEnd),
-        (Axis::TableLift, Station::Table),
-        (Axis::PressOne, Station::Press1),
-        (Axis::PressTwo, Station::Press2),
         (Axis::DepositBelt, Station::DepIn),
         (Axis::DepositBelt, Station::DepEnd),
     ] {
         draw_carried(out, reel, axis, station)?;
     }
-    Ok(())
+    let table = Station::Table;
+    draw_plate(out, reel, table, false, plate_spot(table))?;
+    draw_pressed(out, reel, PRESS1)?;
+    draw_pressed(out, reel, PRESS2)
 }
 
 // The shape and the name of a machine, and over them its marks.
@@ -141,43 +140,63 @@ fn draw_machine<W: Write>(out: &mut W, machine: Machine) -> io::Result<()> {
     end(out)
 }
 
-// A belt's light, and the arrow of its motion.
-fn draw_signs<W: Write>(out: &mut W, belt: Belt, axis: Axis) -> io::Result<()> {
+// A belt's light.
+fn draw_lamp<W: Write>(out: &mut W, belt: Belt) -> io::Result<()> {
     begin(out, Part::Lamp(belt, Colour::Red), CENTRE)?;
     draw_light(out, belt, Colour::Red)?;
     end(out)?;
     begin(out, Part::Lamp(belt, Colour::Green), CENTRE)?;
     draw_light(out, belt, Colour::Green)?;
-    end(out)?;
-    begin(out, Part::Going(axis), CENTRE)?;
-    draw_flow(out, belt)?;
+    end(out)
+}
+
+// The arrows of the belts' motions.
+fn draw_flows<W: Write>(out: &mut W) -> io::Result<()> {
+    for (axis, to) in [
+        (Axis::FeedBelt, Pose::ToEnd),
+        (Axis::FeedBelt, Pose::ToTable),
+        (Axis::DepositBelt, Pose::ToEnd),
+    ] {
+        begin(out, Part::Going(axis, to), CENTRE)?;
+        if let Some(motion) = motion_named(axis, to) {
+            draw_flow(out, motion)?;
+        }
+        end(out)?;
+    }
+    Ok(())
+}
+
+// A scale of heights, with a dot where a press or the table is.
+fn draw_gauge<W: Write>(out: &mut W, axis: Axis) -> io::Result<()> {
+    draw_scale(out, axis)?;
+    begin(out, Part::Height(axis), CENTRE)?;
+    ink_circle(out, height_spot(axis, home(axis)), 6, "#222222", LINE)?;
     end(out)
 }
 
 // The bed of a press, which glows while it forges, and its height.
 fn draw_bed<W: Write>(out: &mut W, press: Press) -> io::Result<()> {
     let middle = plate_spot(press.station);
+    let bed = square(middle, bed_half(Pose::Middle));
     begin(out, Part::Moved(press.axis), middle)?;
-    ink_rectangle(out, square(middle, 30), "#c5ccd8", LINE)?;
+    ink_rectangle(out, bed, BED, LINE)?;
     begin(out, Part::Glow(press), middle)?;
-    ink_rectangle(out, square(middle, 30), "#ff9a3c", LINE)?;
+    ink_rectangle(out, bed, "#ff9a3c", LINE)?;
     end(out)?;
     end(out)?;
-    draw_scale(out, press)?;
-    begin(out, Part::Height(press), middle)?;
-    ink_circle(out, height_spot(press, Pose::Middle), 6, "#222222", LINE)?;
-    end(out)
+    draw_gauge(out, press.axis)
 }
 
-// The ring and the pointer of the table.
+// The bed and the pointer of the table, and its height.
 fn draw_disc<W: Write>(out: &mut W) -> io::Result<()> {
     let middle = plate_spot(Station::Table);
     begin(out, Part::Moved(Axis::TableLift), middle)?;
-    ink_circle(out, middle, 35, RING, LINE)?;
+    ink_circle(out, middle, bed_half(Pose::Low), BED, LINE)?;
     end(out)?;
     begin(out, Part::Moved(Axis::TableTurn), middle)?;
-    draw_pointer(out, Pose::Belt)?;
-    end(out)
+    draw_pointer(out, Pose::Belt, false)?;
+    end(out)?;
+    draw_gauge(out, Axis::TableLift)
 }
 
 // The places of plates.
@@ -213,8 +232,9 @@ pub fn draw_floor<W: Write>(out: &mut W) -> io::Result<()> {
     draw_bed(out, PRESS2)?;
     draw_disc(out)?;
     draw_places(out)?;
-    draw_signs(out, Belt::Feed, Axis::FeedBelt)?;
-    draw_signs(out, Belt::Deposit, Axis::DepositBelt)?;
+    draw_lamp(out, Belt::Feed)?;
+    draw_lamp(out, Belt::Deposit)?;
+    draw_flows(out)?;
     draw_zones(out)
 }
 

@@ -4,7 +4,7 @@ use crate::moving::part::Part;
 use crate::moving::play::{Moment, Player, Reel, is_arrival};
 use crate::spots::height_spot;
 use cell_picture::axis_at;
-use cell_types::{Axis, Entry, Pose};
+use cell_types::{Axis, Entry, Pose, home};
 use std::io::Write;
 use std::{fmt, io};
 
@@ -105,10 +105,7 @@ fn write_key<W: Write>(
 // How a part looks where its axis is at a pose.
 fn look_at(part: Part, axis: Axis, pose: Pose, turned: i64) -> Look {
     match part {
-        Part::Height(press) => Look::Moved(
-            height_spot(press, Pose::Middle),
-            height_spot(press, pose),
-        ),
+        Part::Height(axis) => Look::Moved(height_spot(axis, home(axis)), height_spot(axis, pose)),
         Part::Glow(_) => Look::Shown(matches!(pose, Pose::Top)),
         Part::Upright => Look::Turned(0i64.saturating_sub(turned)),
         Part::Moved(Axis::RobotTurn) => Look::Turned(turned),
@@ -178,8 +175,8 @@ fn step_of(track: &mut Track, moment: &Moment) -> Option<Look> {
 // Writes what an entry changes in a part.
 fn follow<W: Write>(out: &mut W, track: &mut Track, moment: &Moment) -> io::Result<()> {
     match track.part {
-        Part::Moved(axis) => follow_axis(out, track, axis, moment),
-        Part::Height(press) | Part::Glow(press) => follow_axis(out, track, press.axis, moment),
+        Part::Moved(axis) | Part::Height(axis) => follow_axis(out, track, axis, moment),
+        Part::Glow(press) => follow_axis(out, track, press.axis, moment),
         Part::Upright => follow_axis(out, track, Axis::RobotTurn, moment),
         _ => match step_of(track, moment) {
             Some(look) => write_key(out, track, moment.time, 0, look),

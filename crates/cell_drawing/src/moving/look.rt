@@ -1,7 +1,7 @@
 //! How a part of a drawing looks at a moment, in CSS.
 use crate::ink::Spot;
 use crate::robot::tip;
-use crate::spots::plate_spot;
+use crate::spots::{bed_half, plate_spot};
 use cell_types::{Arm, Axis, Pose, Station, motion_named};
 use std::fmt;
 
@@ -64,10 +64,7 @@ pub fn look_of(axis: Axis, pose: Pose) -> Look {
         (Axis::ArmTwo, _) => reaching(Arm::Arm2, pose),
         (Axis::TableTurn, Pose::Robot) => Look::Turned(180),
         (Axis::TableTurn | Axis::RobotTurn, _) => Look::Turned(0),
-        (_, Pose::High) => Look::Sized(110),
-        (_, Pose::Top) => Look::Sized(112),
-        (_, Pose::Bottom) => Look::Sized(88),
-        _ => Look::Sized(100),
+        _ => Look::Sized(bed_half(pose).saturating_mul(100) / bed_half(Pose::Middle).max(1)),
     }
 }
 

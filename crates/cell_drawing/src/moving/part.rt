@@ -3,8 +3,8 @@ use crate::moving::play::{Moment, is_mishap};
 use cell_picture::{Facts, axis_at, holder_at, is_asked, is_failed, lamp_at, plate_at};
 use cell_sentences::EntrySentence;
 use cell_types::{
-    Axis, Belt, Colour, Entry, Machine, Press, Station, Totals, Zone, axis_number, belt_number,
-    machine_number, machine_of_axis, station_number, zone_number,
+    Axis, Belt, Colour, Entry, Machine, Pose, Press, Station, Totals, Zone, axis_number,
+    belt_number, machine_number, machine_of_axis, station_number, zone_number,
 };
 use std::fmt;
 
@@ -22,8 +22,8 @@ pub enum Count {
 pub enum Part {
     /// What an axis moves.
     Moved(Axis),
-    /// The dot that tells the height of a press.
-    Height(Press),
+    /// The dot that tells the height of a press or of the table.
+    Height(Axis),
     /// The glow of a press that forges.
     Glow(Press),
     /// What stands upright while the robot turns.
@@ -38,8 +38,8 @@ pub enum Part {
     Asked(Machine),
     /// The light of a belt, if it has this colour.
     Lamp(Belt, Colour),
-    /// The arrow of a belt that goes.
-    Going(Axis),
+    /// The arrow of a belt's motion.
+    Going(Axis, Pose),
     /// The number of the plate at a station, if it is forged, or if it isn't.
     Number(Station, bool),
     /// How many plates there are of a kind.
@@ -73,7 +73,7 @@ impl fmt::Display for Part {
     fn fmt<W: fmt::Write>(&self, f: &mut fmt::Formatter<W>) -> fmt::Result {
         match *self {
             Part::Moved(axis) => write!(f, "a{}", axis_number(axis)),
-            Part::Height(press) => write!(f, "h{}", axis_number(press.axis)),
+            Part::Height(axis) => write!(f, "h{}", axis_number(axis)),
             Part::Glow(press) => write!(f, "g{}", axis_number(press.axis)),
             Part::Upright => write!(f, "u"),
             Part::Plate(station, true) => write!(f, "q{}", station_number(station)),
@@ -83,7 +83,8 @@ impl fmt::Display for Part {
             Part::Asked(machine) => write!(f, "s{}", machine_number(machine)),
             Part::Lamp(belt, Colour::Red) => write!(f, "r{}", belt_number(belt)),
             Part::Lamp(belt, Colour::Green) => write!(f, "l{}", belt_number(belt)),
-            Part::Going(axis) => write!(f, "b{}", axis_number(axis)),
+            Part::Going(axis, Pose::ToTable) => write!(f, "k{}", axis_number(axis)),
+            Part::Going(axis, _) => write!(f, "b{}", axis_number(axis)),
             Part::Number(station, true) => write!(f, "m{}", station_number(station)),
             Part::Number(station, false) => write!(f, "n{}", station_number(station)),
             Part::Counted(count) => write!(f, "c{}", count as usize),
@@ -135,8 +136,8 @@ impl Part {
             Part::Failed(machine) => is_failed(facts, machine),
             Part::Asked(machine) => is_asked(facts, machine),
             Part::Lamp(belt, colour) => lamp_at(facts, belt) == colour,
-            Part::Going(axis) => {
-                axis_at(facts, axis).going.is_some() && !is_failed(facts, machine_of_axis(axis))
+            Part::Going(axis, to) => {
+                axis_at(facts, axis).going == Some(to) && !is_failed(facts, machine_of_axis(axis))
             }
             Part::Glow(_) => false,
             _ => true,

@@ -51,9 +51,9 @@ impl fmt::Display for PartName {
     }
 }
 
-// Why a record that can be read isn't booked.
+/// Why an entry isn't booked.
 #[derive(Clone, Copy)]
-struct Reason(Refusal);
+pub(crate) struct Reason(pub(crate) Refusal);
 
 impl fmt::Display for Reason {
     ghost use Rattle.std.specs.Prelude.{Some};

@@ -8,7 +8,7 @@ use cell_picture::{Scene, facts_after};
 use plate_book::Book;
 use std::io::Write;
 
-// Bytes enough for a picture: those that were seen had at most 7,400.
+// Bytes enough for a picture: those that were seen had at most 12,200.
 const ROOM: usize = 16_384;
 
 // Draws what all entries of a book left, and says how many bytes it took, if there was room for them.

@@ -2,13 +2,17 @@
 ghost use Rattle.std.specs.Prelude.{◌≡◌, ◌<◌, ◌≤◌, ◌↔◌, Err, OnOk, length, take};
 ghost use Rattle.std.specs.Io.KnownBytes.{Appends};
 ghost use Rattle.cell_picture.specs.Told.{facts_told, last_of};
-ghost use Rattle.cell_show.specs.Page.{ShowsChart, WritesPage, answer_line, chart_section, no_scripts_text, rows_text};
+ghost use Rattle.cell_show.specs.Page.{AppendsSome, ShowsChart, WritesPage, answer_line, chart_section};
+ghost use Rattle.cell_show.specs.Page.{no_scripts_text, rows_text};
 
 use crate::page::PageError;
-use crate::page::parts::{CONTROL_SCRIPT, DRAWING, DRAWING_SCRIPT, HEAD, LISTS, MIDDLE};
+use crate::page::parts::{
+    CONTROL_SCRIPT, DRAWING, DRAWING_SCRIPT, FOLLOW_SCRIPT, HEAD, LISTS, MIDDLE, SPANS_SCRIPT,
+};
 use crate::page::refused::write_refused;
 use crate::page::rows::Row;
 use crate::page::still::write_still;
+use crate::page::waits::write_waits;
 use crate::page::words::write_words;
 use cell_audit::AuditError;
 use cell_picture::{AnswerLine, facts_after};
@@ -105,6 +109,17 @@ fn write_chart<W: Write>(writer: &mut W, chart: Option<&[u8]>) -> Result<(), Pag
     Ok(())
 }
 
+// Writes the rest of the page's script, from the first part on.
+fn write_scripts<W: Write>(writer: &mut W) -> Result<(), PageError>
+    ensures fault { result ≡ Err PageError.TooManyEntries → ⊥ }
+    ensures some { OnOk result (AppendsSome (W.contents writer.old) (W.contents writer.new)) }
+{
+    writer.write_all(SPANS_SCRIPT.as_bytes())?;
+    writer.write_all(FOLLOW_SCRIPT.as_bytes())?;
+    writer.write_all(CONTROL_SCRIPT.as_bytes())?;
+    Ok(())
+}
+
 // Writes the page of a journal that isn't too long.
 fn write_parts<W: Write>(
     writer: &mut W,
@@ -127,10 +142,11 @@ fn write_parts<W: Write>(
     writer.write_all(MIDDLE.as_bytes())?;
     write_words(writer)?;
     write_refused(writer, answer, refused)?;
+    write_waits(writer, book, 0, book.journal().len())?;
     writer.write_all(b"\"rows\":[\n")?;
     write_rows(writer, book)?;
     writer.write_all(DRAWING_SCRIPT.as_bytes())?;
-    writer.write_all(CONTROL_SCRIPT.as_bytes())?;
+    write_scripts(writer)?;
     Ok(())
 }
 

@@ -1,127 +1,10 @@
-//! The second part of the page's script: the lanes and the controls.
+//! The last part of the page's script: steps, play, keys and controls.
 
 /// To the end of the page.
-pub(crate) const CONTROL_SCRIPT: &str =
-    r##"  // What is followed: a plate's number, a zone's place, and the entries of each and of both.
-  const followed = { plate: 0, zone: -1, ofPlate: [], ofZone: [], all: [] };
-  const numbered = Array.from({ length: good }, (_, i) => i + 1);
-  const isOfPlate = (i, plate) =>
-    rows[i][13].split(/[ ,]/).some((word, place, all) => word === String(plate) && all[place - 1] === "plate")
-    || rows[i][0].indexOf(plate) !== rows[i - 1][0].indexOf(plate);
-  const isOfZone = (i, zone) => rows[i][13].endsWith(zones[zone]) || rows[i][4][zone] !== rows[i - 1][4][zone];
-  const follows = (i) => followed.ofPlate.includes(i) || followed.ofZone.includes(i);
-  const listFollowed = () => {
-    const { plate, zone } = followed;
-    followed.ofPlate = plate === 0 ? [] : numbered.filter((i) => isOfPlate(i, plate));
-    followed.ofZone = zone === -1 ? [] : numbered.filter((i) => isOfZone(i, zone));
-    followed.all = [...followed.ofPlate, ...followed.ofZone].sort((a, b) => a - b);
-  };
-  const failures = numbered.filter((i) => kindOf(i) === "declared");
-  if (last > good) failures.push(last);
-  const nextOf = (list) => list.find((i) => i > current);
-  const beforeOf = (list) => list.findLast((i) => i < current);
-  const soFar = (list, i) => `${list.length} entries, ${list.filter((k) => k <= i).length} of them so far`;
-  const drawFollowed = (state, i) => {
-    const { plate, zone, ofPlate, ofZone, all } = followed;
-    stations.forEach((_, s) => el("plate-" + s).classList.toggle("followed", plate !== 0 && state.plates[s] === plate));
-    zones.forEach((_, z) => el("zone-" + z).classList.toggle("followed", z === zone));
-    const station = state.plates.indexOf(plate);
-    const where = station === -1 ? "not in the cell" : "at " + stations[station];
-    const texts = [];
-    if (plate !== 0) texts.push(`Plate ${plate}: ${where}; ${soFar(ofPlate, i)}.`);
-    if (zone !== -1)
-      texts.push(`Z${zones[zone].slice(1)}: ${named(machines, state.holders[zone]) ?? "free"}; ${soFar(ofZone, i)}.`);
-    el("followed").textContent = texts.join(" ");
-    const wanted = { "followed-back": beforeOf(all), "followed-on": nextOf(all),
-      "failure-back": beforeOf(failures), "failure-on": nextOf(failures) };
-    Object.entries(wanted).forEach(([id, found]) => { el(id).disabled = found === undefined; });
-  };
-
-  // The lanes: a part of the entries, of which the current one is one.
-  const lanes = { first: 1, shown: 0, left: 104, step: 17, height: 24 };
-  const svg = (name, attributes, text) => {
-    const node = document.createElementNS("http://www.w3.org/2000/svg", name);
-    Object.entries(attributes).forEach(([key, value]) => node.setAttribute(key, value));
-    if (text !== undefined) node.textContent = text;
-    return node;
-  };
-  const laneX = (i) => lanes.left + (i - lanes.first) * lanes.step;
-  const markOf = (i) => {
-    const kind = kindOf(i);
-    const y = rows[i][11] * lanes.height;
-    const mark = svg("g", { class: "mark" + (faults.includes(kind) || i > good ? " fault" : ""), "data-entry": i });
-    mark.append(
-      svg("title", {}, `${i}: ${sentenceOf(i)}`),
-      svg("rect", { x: laneX(i) + 1, y: y + 3, width: lanes.step - 2, height: lanes.height - 6, rx: 3 }),
-      svg("text", { class: "sign", x: laneX(i) + lanes.step / 2, y: y + lanes.height / 2 }, signOf(i)),
-    );
-    if (follows(i))
-      mark.append(svg("rect", { class: "followed", x: laneX(i), y: y + lanes.height - 4, width: lanes.step,
-        height: 4 }));
-    return mark;
-  };
-  const layLanes = () => {
-    const width = el("lanes").clientWidth;
-    const height = actors.length * lanes.height;
-    lanes.shown = Math.max(1, Math.floor((width - lanes.left - 4) / lanes.step));
-    const parts = actors.flatMap((name, lane) => [
-      svg("line", { class: "lane", x1: 0, x2: width, y1: (lane + 1) * lanes.height, y2: (lane + 1) * lanes.height }),
-      svg("text", { x: 2, y: lane * lanes.height + 17 }, name),
-    ]);
-    const until = Math.min(last, lanes.first + lanes.shown - 1);
-    for (let i = lanes.first; i <= until; i += 1) {
-      parts.push(markOf(i));
-      if (i % 5 === 0) parts.push(svg("text", { class: "tick", x: laneX(i) + lanes.step / 2, y: height + 14 }, i));
-    }
-    parts.push(svg("rect", { class: "now off", id: "now", y: 0, width: lanes.step, height }));
-    el("lanes").setAttribute("height", height + 20);
-    el("lanes").replaceChildren(...parts);
-  };
-  const showInLanes = (i) => {
-    const shown = lanes.first <= i && i < lanes.first + lanes.shown;
-    if (!shown && i > 0) {
-      lanes.first = Math.max(1, i - (i % Math.max(1, lanes.shown - 1)));
-      layLanes();
-    } else if (i === 0 && lanes.first !== 1) {
-      lanes.first = 1;
-      layLanes();
-    }
-    document.querySelectorAll("#lanes .current").forEach((mark) => mark.classList.remove("current"));
-    el("now").classList.toggle("off", i === 0);
-    el("now").setAttribute("x", laneX(i));
-    const mark = document.querySelector(`#lanes [data-entry="${i}"]`);
-    if (mark !== null) mark.classList.add("current");
-  };
-
-  // All entries in one strip, and below them those that are followed, drawn once for a size, and a frame round the
-  // current one.
-  const drawStrip = () => {
-    const canvas = el("whole");
-    canvas.width = canvas.clientWidth;
-    canvas.height = 48;
-    const pen = canvas.getContext("2d");
-    const colours = getComputedStyle(document.documentElement);
-    const wide = canvas.width / Math.max(1, last);
-    pen.fillStyle = colours.getPropertyValue("--soft");
-    for (let i = 1; i <= last; i += 1) pen.fillRect((i - 1) * wide, rows[i][11] * 6, Math.max(1, wide - 0.5), 5);
-    pen.fillStyle = colours.getPropertyValue("--red");
-    for (let i = 1; i <= last; i += 1) {
-      if (faults.includes(kindOf(i)) || i > good)
-        pen.fillRect((i - 1) * wide, rows[i][11] * 6, Math.max(2, wide - 0.5), 5);
-    }
-    pen.fillStyle = colours.getPropertyValue("--follow");
-    followed.all.forEach((i) => pen.fillRect((i - 1) * wide, 43, Math.max(2, wide - 0.5), 5));
-  };
-  const showInStrip = (i) => {
-    const share = 100 / Math.max(1, last);
-    el("here").classList.toggle("off", i === 0);
-    el("here").style.left = `${(i - 1) * share}%`;
-    el("here").style.width = `max(4px, ${share}%)`;
-  };
-
-  let current = -1;
+pub(crate) const CONTROL_SCRIPT: &str = r##"  let current = -1;
   const show = (wanted, isAsked = false) => {
     const i = Math.min(last, Math.max(0, Math.trunc(Number(wanted)) || 0));
+    el("number").value = el("slider").value = i;
     if (i === current) return;
     const before = current;
     current = i;
@@ -132,18 +15,18 @@ pub(crate) const CONTROL_SCRIPT: &str =
     drawAxes(state);
     drawMachines(state);
     drawRefusal(i);
+    drawWaits(i);
     drawCounts(state);
     writeFacts(state);
+    drawChanges(i);
+    drawEvents(i);
     drawFollowed(state, i);
-    showInLanes(i);
-    showInStrip(i);
-    el("sentence").textContent = sentenceOf(i);
-    el("count").textContent = placeOf(i);
-    el("slider").value = i;
+    showInSpans(i);
+    setText("sentence", sentenceOf(i));
+    setText("count", placeOf(i));
     el("slider").setAttribute("aria-valuetext", i === 0 ? "0, the opening" : `${i}, ${sentenceOf(i)}`);
-    el("number").value = i;
-    el("first").disabled = el("back").disabled = i === 0;
-    el("end").disabled = el("forward").disabled = i === last;
+    ["first", "back"].forEach((id) => enable(id, i !== 0));
+    ["end", "forward"].forEach((id) => enable(id, i !== last));
     if (timer === null) keepAddress();
     around?.postMessage({ entry: i, last, isAsked }, "*");
   };
@@ -157,10 +40,25 @@ pub(crate) const CONTROL_SCRIPT: &str =
     if (around === null) history.replaceState(null, "", "#entry=" + current);
   };
 
-  // The page around this one, where two stand side by side: it is told each step, and says where to go.
+  // The page around this one, where two stand side by side: it is told each step, says where to go, in which entries
+  // and parts the other journal differs, and whether all play.
   const around = location.protocol === "about:" ? window.parent : null;
+  let different = [];
+  const markDifferences = (ids) => {
+    different.forEach((id) => el(id)?.classList.remove("differs"));
+    different = ids;
+    different.forEach((id) => el(id)?.classList.add("differs"));
+  };
   const onMessage = ({ source, data }) => {
     if (around === null || source !== around) return;
+    if (data.differing !== undefined) {
+      differing = data.differing;
+      drawStrip();
+      drawRuler();
+    }
+    if (data.other !== undefined) markDifferences(data.other === null ? [] : differences(data.other, rows[current]));
+    if (data.toggle) toggleAlone();
+    if (data.entry === undefined) return;
     if (timer !== null) pause();
     show(data.entry, true);
   };
@@ -169,50 +67,44 @@ pub(crate) const CONTROL_SCRIPT: &str =
   const pause = () => {
     clearInterval(timer);
     timer = null;
-    el("play").textContent = "Play";
+    setText("play", "Play");
     el("play").setAttribute("aria-pressed", "false");
     el("last").setAttribute("aria-live", "polite");
     keepAddress();
   };
   const step = () => {
     show(current + 1);
-    if (current === last) pause();
+    if (current === last || (el("stops").checked && happened.includes(current))) pause();
   };
   const play = () => {
     if (current === last) show(0);
     clearInterval(timer);
     timer = setInterval(step, Number(el("speed").value));
-    el("play").textContent = "Pause";
+    setText("play", "Pause");
     el("play").setAttribute("aria-pressed", "true");
     el("last").setAttribute("aria-live", "off");
   };
-  const toggle = () => (timer === null ? play() : pause());
+  const toggleAlone = () => (timer === null ? play() : pause());
+  // Where two stand side by side, the page around them decides which of them play.
+  const toggle = () => (around === null ? toggleAlone() : around.postMessage({ toggle: true }, "*"));
   const goTo = (i) => {
     if (timer !== null) pause();
     show(i);
   };
-
   const jump = (i) => {
     if (i !== undefined) goTo(i);
-  };
-  const follow = () => {
-    const plate = Number(el("plate").value);
-    followed.plate = Number.isInteger(plate) && plate > 0 ? plate : 0;
-    followed.zone = el("zone").value === "" ? -1 : Number(el("zone").value);
-    listFollowed();
-    drawStrip();
-    layLanes();
-    showInLanes(current);
-    drawFollowed(read(current), current);
   };
 
   // Larger words: in a narrow window always, and where they are asked for.
   const narrow = window.matchMedia("(max-width: 40rem)");
   const root = document.documentElement.classList;
-  const size = () => root.toggle("large", narrow.matches || root.contains("back-row"));
+  const size = () => {
+    placeSigns(root.toggle("large", narrow.matches || root.contains("back-row")));
+  };
   const enlarge = () => {
     el("words").setAttribute("aria-pressed", String(root.toggle("back-row")));
     size();
+    drawSpans();
   };
 
   // The keys. A letter is one in small letters, and with Shift goes the other way.
@@ -225,76 +117,97 @@ pub(crate) const CONTROL_SCRIPT: &str =
     d: () => jump(nextOf(failures)), D: () => jump(beforeOf(failures)),
     p: () => jump(nextOf(followed.ofPlate)), P: () => jump(beforeOf(followed.ofPlate)),
     z: () => jump(nextOf(followed.ofZone)), Z: () => jump(beforeOf(followed.ofZone)),
-    w: enlarge,
+    m: () => jump(nextOf(followed.ofMachine)), M: () => jump(beforeOf(followed.ofMachine)),
+    n: () => jump(nextOf(found.list)), N: () => jump(beforeOf(found.list)), g: () => el("number").focus(),
+    w: enlarge, "/": () => el("search").focus(), "?": () => el("keys").showModal(),
+    "+": () => zoom(0.6), "=": () => zoom(0.6), "-": () => zoom(1 / 0.6), 0: () => look(0, whole),
   };
-  const keysAt = (target) => {
+  const inRows = { ArrowUp: () => choose(view.chosen - 1), ArrowDown: () => choose(view.chosen + 1) };
+  const keysAt = ({ target }) => {
+    if (el("keys").open) return {};
+    if (target.type === "search" || target.type === "number") return pages;
     if (target.type === "select-one") return {};
-    if (target.type === "number") return pages;
-    return el("letters").checked ? { ...moves, ...letters } : moves;
+    const all = el("letters").checked ? { ...moves, ...letters } : moves;
+    return el("names").contains(target) ? { ...all, ...inRows } : all;
   };
   const onKey = (event) => {
     if (event.ctrlKey || event.metaKey || event.altKey) return;
-    const { type, tagName } = event.target;
-    const act = keysAt(event.target)[event.key];
-    const pressed = type === "button" || type === "checkbox" || tagName === "SUMMARY";
+    const { target } = event;
+    const isPart = target.classList.contains("part");
+    if (isPart && (event.key === "Enter" || event.key === " ")) {
+      event.preventDefault();
+      followPart(target);
+      return;
+    }
+    // A box in which something was typed gives the keys back.
+    const isBox = target.type === "number" || target.type === "search";
+    if (isBox && (event.key === "Enter" || event.key === "Escape")) {
+      event.preventDefault();
+      if (target === el("number")) goTo(target.value);
+      if (target === el("search") && event.key === "Enter") jump(nextOf(found.list) ?? found.list[0]);
+      el("slider").focus();
+      return;
+    }
+    const act = keysAt(event)[event.key];
+    const pressed = target.type === "button" || target.type === "checkbox";
     if (act === undefined || (event.key === " " && pressed)) return;
     event.preventDefault();
     act();
   };
-  const onLanes = (event) => {
-    const left = el("lanes").getBoundingClientRect().left + lanes.left;
-    const i = lanes.first + Math.floor((event.clientX - left) / lanes.step);
-    if (i >= lanes.first && i < lanes.first + lanes.shown && i <= last) goTo(i);
-  };
-  const onStrip = (event) => {
-    const box = el("whole").getBoundingClientRect();
-    goTo(Math.max(1, Math.ceil(((event.clientX - box.left) / box.width) * last)));
-  };
   const entryInAddress = () => {
-    const found = /^#entry=(\d+)$/.exec(location.hash);
-    return found === null ? 0 : Number(found[1]);
+    const place = /^#entry=(\d+)$/.exec(location.hash);
+    return place === null ? 0 : Number(place[1]);
   };
-  const redraw = () => {
-    const i = current;
-    current = -1;
-    lanes.first = 1;
-    drawStrip();
-    layLanes();
-    show(i);
+  const print = (isPrinting) => {
+    root.toggle("printing", isPrinting);
+    drawSpans();
   };
 
   el("slider").max = el("number").max = last;
-  el("legend").textContent =
-    "Signs: " + Object.values(signs).map(([sign, words]) => `${sign} ${words}`).join(", ") + ".";
+  zones.forEach((zone, z) => el("zone").add(new Option(zone, z)));
+  machines.forEach((machine, m) => el("machine").add(new Option(machine, m)));
+  const clicks = {
+    first: () => goTo(0), back: () => goTo(current - 1), forward: () => goTo(current + 1), end: () => goTo(last),
+    play: toggle, words: enlarge, help: letters["?"], close: () => el("keys").close(),
+    "followed-back": () => jump(beforeOf(followed.all)), "followed-on": () => jump(nextOf(followed.all)),
+    "failure-back": letters.D, "failure-on": letters.d, "search-back": letters.N, "search-on": letters.n,
+    "zoom-in": letters["+"], "zoom-out": letters["-"], "zoom-all": letters[0], "by-time": toTimes,
+  };
+  Object.entries(clicks).forEach(([id, act]) => el(id).addEventListener("click", act));
   el("slider").addEventListener("input", (event) => goTo(event.target.value));
   el("number").addEventListener("change", (event) => goTo(event.target.value));
-  el("first").addEventListener("click", () => goTo(0));
-  el("back").addEventListener("click", () => goTo(current - 1));
-  el("forward").addEventListener("click", () => goTo(current + 1));
-  el("end").addEventListener("click", () => goTo(last));
-  el("play").addEventListener("click", toggle);
-  zones.forEach((name, z) => el("zone").add(new Option(name, z)));
-  el("plate").addEventListener("input", follow);
-  el("zone").addEventListener("change", follow);
-  el("followed-back").addEventListener("click", () => jump(beforeOf(followed.all)));
-  el("followed-on").addEventListener("click", () => jump(nextOf(followed.all)));
-  el("failure-back").addEventListener("click", () => jump(beforeOf(failures)));
-  el("failure-on").addEventListener("click", () => jump(nextOf(failures)));
-  el("words").addEventListener("click", enlarge);
-  narrow.addEventListener("change", size);
+  ["plate", "zone", "machine"].forEach((id) => el(id).addEventListener("input", follow));
+  // What is typed into a box takes the place of what stands there.
+  ["number", "plate"].forEach((id) => ["focus", "click"].forEach((kind) =>
+    el(id).addEventListener(kind, () => el(id).select())));
+  el("search").addEventListener("input", search);
   el("speed").addEventListener("change", () => { if (timer !== null) play(); });
-  el("lanes").addEventListener("click", onLanes);
-  el("whole").addEventListener("click", onStrip);
+  el("cell").addEventListener("click", ({ target }) => {
+    const part = target.closest(".part");
+    if (part !== null) followPart(part);
+  });
+  el("bars").addEventListener("pointerdown", onDown);
+  ["pointerup", "pointercancel"].forEach((kind) => window.addEventListener(kind, onUp));
+  el("bars").addEventListener("pointermove", onMove);
+  el("bars").addEventListener("pointerleave", (event) => { if (event.pointerType === "mouse") setText("under", ""); });
+  el("bars").addEventListener("wheel", onWheel, { passive: false });
+  ["pointerdown", "pointermove"].forEach((kind) => el("strip").addEventListener(kind, onStrip));
   document.addEventListener("keydown", onKey);
   window.addEventListener("hashchange", () => goTo(entryInAddress()));
   window.addEventListener("message", onMessage);
-  window.addEventListener("resize", redraw);
-  window.matchMedia("(prefers-color-scheme: dark)").addEventListener("change", redraw);
+  window.addEventListener("resize", drawSpans);
+  window.addEventListener("beforeprint", () => print(true));
+  window.addEventListener("afterprint", () => print(false));
+  narrow.addEventListener("change", size);
+  window.matchMedia("(prefers-color-scheme: dark)").addEventListener("change", drawSpans);
+  makeRows();
+  makeWaits();
+  makeEvents();
   root.add("ready");
-  size();
-  drawStrip();
-  layLanes();
+  layRows();
   show(entryInAddress());
+  size();
+  drawSpans();
 })();
 </script>
 </body>

@@ -6,7 +6,7 @@ use Rattle.clap.specs.Words.{AddsInTurn, AddsSubcommand, App, app_of, with_subco
 use Rattle.clap.specs.declared.builder.command.Command.{Command}
 use Rattle.clap.specs.declared.builder.command.Command.TheViews.{out-Command}
 use Rattle.cell_command.specs.Shape.{IsCommand, commands, with_command}
-use Rattle.cell_command.proofs.command.with_commands.Goals as goal
+use Rattle.cell_command.proofs.command.program.Goals as goal
 
 added : (apps : List App) (subs : List Command) (start : App) (old new : Command) → IsCommand start old
     → AllZip IsCommand apps subs → AddsInTurn AddsSubcommand old subs new

@@ -1,0 +1,8 @@
+-- What is written list after list is some text
+use Rattle.cell_show.proofs.Pages.{some_after, some_on}
+use Rattle.cell_show.proofs.page.words.write_neighbours.Goals as goal
+
+pub returns-clause-some : goal.returns-clause-some
+returns-clause-some g c = some_on c.write_names-4.result _ _ _
+    (some_after _ _ _ (some_after _ _ _ c.in_ok-write_names.ensures.some c.in_ok-write_names-2.ensures.some)
+    c.in_ok-write_names-3.ensures.some) c.write_names-4.ensures.some
