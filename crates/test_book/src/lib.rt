@@ -11,8 +11,6 @@ mod diagnosis;
 #[cfg(test)]
 mod journal;
 #[cfg(test)]
-mod past;
-#[cfg(test)]
 mod types;
 #[cfg(test)]
 mod views;

@@ -1,16 +1,8 @@
-//! The tests of `cell_plant`, `cell_rounds`, `cell_lines` and `cell_control`: cells that are controlled over their
-//! ports and over lines.
+//! The tests of `cell_rounds` and `cell_control`: cells that are controlled over their ports and over lines, by which
+//! `cell_plant` and `cell_lines` are tested too. Each test stands in the module of the crate whose call it tests.
 #![tactic(auto)]
 
 #[cfg(test)]
-mod failing;
-#[cfg(test)]
-mod lines;
-#[cfg(test)]
-mod orders;
-#[cfg(test)]
-mod ports;
+mod control;
 #[cfg(test)]
 mod rounds;
-#[cfg(test)]
-mod sample;

@@ -1,81 +1,72 @@
-//! What comes when in a round, what a wish is answered, and when a stalled run goes on.
-use crate::sample::{NEW, STILL, STOP, WAITING, controlled, is_due, new_book};
-use cell_types::{Cause, Entry, Machine};
-use plate_book::Book;
+//! The simulated cell, controlled over its ports.
+use cell_ledger::Blanks;
+use cell_plant::{KeepFault, Keeper, Ported, Unkept};
+use cell_rounds::{Halt, Outcome, Start, Terms, control, last_command};
+use cell_runs::{Inputs, Texts, empty_book, read_inputs, sim_ports};
+use cell_sim::{SimOperator, World};
+use cell_types::Entry;
+use cell_workers::End;
+use std::marker::Brand;
 use std::process::Abort;
-use std::test::Fail;
+use std::sync::{Mutex, Wait};
 
-// A book in which this machine is failed.
-fn book_with_failed<R: AllocGlobal + Abort>(rt: &R, machine: Machine) -> Book {
-    let mut book = new_book(rt);
-    let declared = Entry::Declared {
-        machine,
-        cause: Cause::CommandFault,
+// Keeps so many entries, and then no more.
+#[derive(Drop)]
+struct Few {
+    left: u32,
+}
+
+impl Keeper for Few {
+    fn keep(&mut self, _entry: Entry) -> Result<(), KeepFault> {
+        match self.left.checked_sub(1) {
+            Some(left) => {
+                self.left = left;
+                Ok(())
+            }
+            None => Err(KeepFault),
+        }
+    }
+}
+
+// What a run over the simulated cell left, with three plates and without faults.
+fn controlled<R: AllocGlobal + Abort + Wait, K: Keeper>(rt: &R, keeper: &mut K) -> Outcome {
+    let alloc = rt.alloc();
+    let inputs = read_inputs(alloc, Texts::new(b"plates = 3\n", b"", b""));
+    let Inputs {
+        plan,
+        faults,
+        script,
+        ..
+    } = inputs.ok().expect(rt, "inputs");
+    let world = Mutex::new(World::new(plan.plates));
+    let mut plant = Ported {
+        ports: sim_ports(rt, &world, &faults),
+        hands: SimOperator::new(rt, &world),
     };
-    assert!(rt; book.apply(declared).is_ok());
-    book
+    let start = Start {
+        book: empty_book(alloc, &plan).ok().expect(rt, "a book"),
+        script,
+        pending: None,
+    };
+    let terms = Terms {
+        plan: &plan,
+        waits: false,
+    };
+    control::<_, _, Brand>(alloc, &mut plant, keeper, start, Blanks::new(1), terms)
 }
 
 #[test]
-fn the_script_has_its_turn_after_the_machines(rt: HostRuntime) -> Result<(), Fail> {
-    let lines = [
-        "drive,1,1,\n",
-        "operator,stop,press2,\n",
-        STILL,
-        "round,1,,\nok,,,\nok,,,\nok,,,\n",
-    ];
-    let book = book_with_failed(&rt, Machine::Press1);
-    let script = "failed,press1,repair,press1\n";
-    let left = controlled(&rt, book, script, NEW, &lines)?;
-    let written = [
-        "stay,,,\n",
-        "lamp,feed,green,\n",
-        "home,press1,,\n",
-        "booked,4,,\n",
-        "done,,,\n",
-        STOP,
-    ];
-    is_due(&rt, &left, &written, &["cell gone\n"], 1)
+fn the_simulated_cell_forges_all_plates(rt: HostRuntime) {
+    let left = controlled(&rt, &mut Unkept);
+    assert!(rt; left.halt == Halt::End(End::Finished));
+    assert!(rt; left.book.totals().delivered == 3);
 }
 
 #[test]
-fn a_wish_is_answered_by_what_became_of_it(rt: HostRuntime) -> Result<(), Fail> {
-    let lines = [
-        "drive,1,1,\n",
-        "operator,repair,press1,\noperator,clear,table,\noperator,brew,,\noperator,stop,press2,\n",
-        STILL,
-        "round,1,,\nok,,,\nok,,,\nfailed,,,\n",
-    ];
-    let book = book_with_failed(&rt, Machine::Press1);
-    let left = controlled(&rt, book, "", NEW, &lines)?;
-    let written = [
-        "stay,,,\n",
-        "lamp,feed,green,\n",
-        "home,press1,,\nrefused,Failed,,\n",
-        "refused,MachineHealthy,table,\n",
-        "refused,Unreadable,,\n",
-        "booked,3,,\n",
-        "done,,,\n",
-        STOP,
-    ];
-    let told = "line 4 of the cell can't be read: operator,brew,,\n";
-    is_due(&rt, &left, &written, &[told], 1)
-}
-
-#[test]
-fn a_stalled_run_goes_on_only_where_it_waits(rt: HostRuntime) -> Result<(), Fail> {
-    let lines = ["drive,1,1,\n", STILL, "round,1,,\nok,,,\n"];
-    let book = book_with_failed(&rt, Machine::Feed);
-    let left = controlled(&rt, book, "", NEW, &lines)?;
-    is_due(
-        &rt,
-        &left,
-        &["stay,,,\n", STOP, "quit,,,\n"],
-        &["stalled\n"],
-        1,
-    )?;
-    let book = book_with_failed(&rt, Machine::Feed);
-    let left = controlled(&rt, book, "", WAITING, &lines)?;
-    let written = ["stay,,,\n", "done,,,\n", STOP];
-    is_due(&rt, &left, &written, &["cell gone\n"], 1)
+fn what_cannot_be_kept_halts_the_run(rt: HostRuntime) {
+    let left = controlled(&rt, &mut Few { left: 5 });
+    assert!(rt; left.halt == Halt::Unkept);
+    assert!(rt; left.book.journal().len() == 6);
+    let last = last_command(left.book.journal());
+    assert!(rt; last.is_some());
 }

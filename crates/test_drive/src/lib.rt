@@ -1,18 +1,8 @@
-//! The tests of `cell_method` and `cell_drive`, in which a method drives the simulated cell by the lines that it
-//! writes, and of `cell_sweep`.
+//! The tests of `cell_drive`, in which a method drives the simulated cell by the lines that it writes, and by which
+//! `cell_method` is tested too; and of `cell_sweep`. Each stands in the module of its crate.
 #![tactic(auto)]
 
 #[cfg(test)]
-mod commands;
-#[cfg(test)]
-mod entries;
-#[cfg(test)]
-mod hostile;
-#[cfg(test)]
-mod own;
-#[cfg(test)]
-mod sample;
+mod drive;
 #[cfg(test)]
 mod sweep;
-#[cfg(test)]
-mod takeover;

@@ -1,20 +1,12 @@
-//! The tests of `cell_command`, of the texts that `cell_orders` reads, of `cell_explain` and `cell_explore`, and of
-//! `run_kept` of `cell_runs`, whose runs are explained.
+//! The tests of `cell_command`, of the texts that `cell_orders` reads, of `cell_explain` and `cell_explore`, each in
+//! the module of its crate. Those of `cell_explain` also test `run_kept` of `cell_runs`, whose runs are explained.
 #![tactic(auto)]
 
 #[cfg(test)]
-mod commands;
+mod command;
 #[cfg(test)]
-mod endings;
+mod explain;
 #[cfg(test)]
 mod explore;
 #[cfg(test)]
-mod journals;
-#[cfg(test)]
-mod reading;
-#[cfg(test)]
-mod said;
-#[cfg(test)]
-mod scripts;
-#[cfg(test)]
-mod settings;
+mod orders;

@@ -1,23 +1,20 @@
 //! Whole runs by their texts, in rounds on one thread and on threads.
 use cell_audit::{AuditError, audit, read_journal};
-use cell_explain::endings::{EndedRun, write_ending};
 use cell_journal::Journal;
 use cell_output::{WatchedWriter, WriteFault};
-use cell_runs::{KeptRun, Left, Mode, Texts, follow_kept, run_after, run_kept};
+use cell_runs::{KeptRun, Left, Mode, Texts, follow_after, run_after, run_kept};
 use cell_types::Totals;
-use std::alloc::Global;
-use std::io::ErrorKind;
 use std::process::Abort;
 use std::sync::Wait;
 use std::test::Fail;
 use std::thread::Threads;
 use test_samples::{CLEARED_PRESS, STUCK_PRESS, call_begins, call_ends};
 
-// Room for all that a run writes, so that the writer asks for no memory.
-const ROOM: usize = 100_000;
+/// Room for all that a run writes, so that the writer asks for no memory.
+pub(crate) const ROOM: usize = 100_000;
 
-// The texts of a run: its settings, its faults and the operator's script.
-type Case = [&'static str; 3];
+/// The texts of a run: its settings, its faults and the operator's script.
+pub(crate) type Case = [&'static str; 3];
 
 // In rounds the only plate is cleared from the feed belt, which is repaired. This takes few rounds, each of which takes
 // memory for its lists.
@@ -62,8 +59,8 @@ fn run<R: AllocGlobal + Abort + Threads + Wait + Sync>(
     Ok((written, answer))
 }
 
-// Whether these are the five lines of a run that ended for want of memory.
-fn tells_memory(written: &[u8]) -> bool {
+/// Whether these are the five lines of a run that ended for want of memory.
+pub(crate) fn tells_memory(written: &[u8]) -> bool {
     let ends = written.iter().filter(|byte| **byte == b'\n').count();
     written.starts_with(b"memory\nadmitted ") && written.ends_with(b"\n") && ends == 5
 }
@@ -145,8 +142,8 @@ fn run_texts_on_threads_with_journal(rt: HostRuntime) -> Result<(), Fail> {
     Ok(())
 }
 
-// A run in rounds with its journal, which is kept. Where it is marked, memory may be refused to it.
-fn keep<R: AllocGlobal + Abort + Threads + Wait + Sync>(
+/// A run in rounds with its journal, which is kept. Where it is marked, memory may be refused to it.
+pub(crate) fn keep<R: AllocGlobal + Abort + Threads + Wait + Sync>(
     rt: &R,
     texts: Case,
     marked: bool,
@@ -214,7 +211,7 @@ fn run_kept_in_rounds(rt: HostRuntime) -> Result<(), Fail> {
 
 // The journal of that plate's run is followed.
 #[test]
-fn follow_kept_of_a_run(rt: HostRuntime) -> Result<(), Fail> {
+fn follow_after_a_run(rt: HostRuntime) -> Result<(), Fail> {
     let (journal, status) = run(&rt, SHORT, false, true, false)?;
     assert!(rt; status == Ok(0));
     let alloc = rt.alloc();
@@ -229,7 +226,7 @@ fn follow_kept_of_a_run(rt: HostRuntime) -> Result<(), Fail> {
     let mut written = Vec::with_capacity(alloc, ROOM)?;
     let mut writer = WatchedWriter::new(&mut written);
     call_begins(alloc);
-    let answer = follow_kept(&rt, &followed, texts, false, &mut writer);
+    let answer = follow_after(&rt, &followed, texts, false, &mut writer);
     let status = answer.map(|(status, _)| status);
     call_ends(alloc, status == Ok(4));
     let lines = written.as_slice();
@@ -268,63 +265,6 @@ fn run_from_a_journal_that_was_read(rt: HostRuntime) -> Result<(), Fail> {
     } else {
         let due: &[u8] = b"finished\nadmitted 1\nforged 0\nquarantined 1\ndelivered 0\n";
         assert!(rt; status == Ok(0) && lines == due);
-    }
-    Ok(())
-}
-
-// The plate stays on the feed belt, which fails, since the operator waits for more plates, and no plate sets the second
-// press in motion.
-const STALLED: Case = [
-    "plates = 1",
-    "\"press_two\",1,no_motion,\n",
-    "admitted,1,stop,feed\n\"admitted\",2,repair,feed\n",
-];
-
-// What is said of the end of a run, and whether memory was wanting.
-fn ending(
-    rt: &impl Abort,
-    alloc: Global,
-    run: &KeptRun,
-    marked: bool,
-) -> Result<(Vec<u8>, bool), Fail> {
-    let [_, faults, operator] = STALLED;
-    let ended = EndedRun {
-        journal: &run.journal,
-        before: 0,
-        end: run.end,
-        plan: &run.plan,
-        faults: faults.as_bytes(),
-        operator: operator.as_bytes(),
-    };
-    let mut written = Vec::with_capacity(alloc, ROOM)?;
-    if marked {
-        call_begins(alloc);
-    }
-    let answer = write_ending(alloc, &ended, &mut written);
-    if marked {
-        call_ends(alloc, answer.is_err());
-    }
-    if let Err(why) = &answer {
-        assert!(rt; why.kind() == ErrorKind::OutOfMemory);
-    }
-    Ok((written, answer.is_err()))
-}
-
-#[test]
-fn write_ending_of_a_stalled_run(rt: HostRuntime) -> Result<(), Fail> {
-    let alloc = rt.alloc();
-    let (_, status, run) = keep(&rt, STALLED, false)?;
-    let run = run.expect(&rt, "a run");
-    assert!(rt; status == 1);
-    let (due, wanted) = ending(&rt, alloc, &run, false)?;
-    assert!(rt; !wanted);
-    let ends = due.iter().filter(|byte| **byte == b'\n').count();
-    assert!(rt; ends == 4);
-    let (written, wanted) = ending(&rt, alloc, &run, true)?;
-    if wanted {
-        assert!(rt; due.as_slice().starts_with(written.as_slice()));
-    } else {
-        assert!(rt; written.as_slice() == due.as_slice());
     }
     Ok(())
 }

@@ -1,16 +1,8 @@
 //! The tests of `cell_runs`: runs of the simulated cell by their texts, in rounds on one thread and by workers on
-//! threads; and hostile schedules of turns over it.
+//! threads; and of `cell_turns`: hostile schedules over that cell. Each stands in the module of its crate.
 #![tactic(auto)]
 
 #[cfg(test)]
-mod follow;
+mod runs;
 #[cfg(test)]
-mod from;
-#[cfg(test)]
-mod refusals;
-#[cfg(test)]
-mod rounds;
-#[cfg(test)]
-mod schedules;
-#[cfg(test)]
-mod threads;
+mod turns;

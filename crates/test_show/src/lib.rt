@@ -1,23 +1,20 @@
-//! The tests of `cell_sentences`, `cell_picture`, `cell_drawing`, `cell_measures` and `cell_show`: sentences, the
-//! pictures of some states, whole, measures computed by hand, the charts and the page of a short journal, journals that
-//! play, what is shown for journals' texts, and what readers and writers that fail leave of it.
+//! The tests of `cell_sentences`, `cell_picture`, `cell_drawing`, `cell_measures`, `cell_waits` and `cell_show`, each
+//! in the module of its crate: sentences, the pictures of some states, whole, measures computed by hand, who waits for
+//! what, the charts and the page of a short journal, journals that play, what is shown for journals' texts, and what
+//! readers and writers that fail leave of it.
 #![tactic(auto)]
 
 #[cfg(test)]
-mod charts;
-#[cfg(test)]
-mod drawings;
+mod drawing;
 #[cfg(test)]
 mod measures;
 #[cfg(test)]
-mod pages;
-#[cfg(test)]
-mod plays;
+mod picture;
 #[cfg(test)]
 mod sentences;
 #[cfg(test)]
-mod shows;
+mod show;
 #[cfg(test)]
 mod states;
 #[cfg(test)]
-mod texts;
+mod waits;

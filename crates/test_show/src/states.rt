@@ -1,16 +1,15 @@
-//! The states that are drawn, and writers that fail while they are.
+//! The states that are drawn.
 use cell_audit::AuditError;
 use cell_drawing::draw_picture;
-use cell_journal::Snapshot;
 use cell_output::WatchedWriter;
-use cell_picture::{Facts, Scene, ShownPlate, draw_text, facts_after, facts_of};
+use cell_picture::{Facts, Scene, ShownPlate, draw_text, facts_after};
 use cell_show::Form;
 use cell_types::{AxisState, Cause, Colour, Entry, Machine, PlateId, Pose, Totals};
 use plate_book::{Book, Refusal};
 use std::alloc::Global;
 use std::io::Write;
 use std::process::Abort;
-use test_samples::{FailingWriter, book_all};
+use test_samples::book_all;
 
 /// Plate 1 is forged in the first press, and plate 2 lies on the table.
 pub const TWO_PLATES: [&str; 50] = [
@@ -84,8 +83,8 @@ pub const FAILED_PRESS: [&str; 14] = [
     "declared,press1,silent,",
 ];
 
-// Draws a scene as text, or as an SVG file. Whether that was done.
-fn draws<W: Write>(writer: &mut W, scene: &Scene, form: Form) -> bool {
+/// Draws a scene as text, or as an SVG file. Whether that was done.
+pub fn draws<W: Write>(writer: &mut W, scene: &Scene, form: Form) -> bool {
     match form {
         Form::Text => draw_text(&mut WatchedWriter::new(writer), scene, false).is_ok(),
         Form::Unicode => draw_text(&mut WatchedWriter::new(writer), scene, true).is_ok(),
@@ -180,26 +179,4 @@ pub fn longest(facts: &Facts) -> Scene<'_> {
         }),
         answer: Some(AuditError::Refused(1_000_006, Refusal::MachineFailed(Machine::Deposit))),
     }
-}
-
-// A writer that fails after so many bytes has taken a first part of a scene's file.
-fn is_cut(rt: &impl Abort, alloc: Global, scene: &Scene, form: Form) {
-    let file = drawn(rt, alloc, scene, form);
-    let whole = file.as_bytes();
-    let length = whole.len();
-    for &left in &[0, 1, 500, 1000, length.saturating_sub(1), length] {
-        let mut writer = FailingWriter::new(Vec::new(alloc), left);
-        let is_whole = draws(&mut writer, scene, form);
-        assert!(rt; is_whole == (left == length), "after {left} bytes");
-        let part = &whole[..left.min(length)];
-        assert!(rt; writer.inner().as_slice() == part, "after {left} bytes");
-    }
-}
-
-#[test]
-fn a_writer_that_fails_is_told(rt: HostRuntime) {
-    let opening = facts_of(&Snapshot::opening());
-    is_cut(&rt, rt.alloc(), &longest(&opening), Form::Text);
-    let facts = largest();
-    is_cut(&rt, rt.alloc(), &longest(&facts), Form::Picture);
 }

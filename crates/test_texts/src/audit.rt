@@ -1,4 +1,9 @@
 //! The audit of texts, whole, cut and from readers that fail, and the writing of journals.
+mod endless;
+mod lines;
+mod migration;
+mod readings;
+
 use cell_audit::{AuditError, WriteError, audit, audit_text, write_journal};
 use cell_journal::Journal;
 use cell_types::{Axis, Belt, Machine, Station, Totals};

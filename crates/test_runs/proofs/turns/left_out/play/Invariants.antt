@@ -1,0 +1,13 @@
+use Rattle.test_runs.proofs.turns.left_out.play.Given as goal
+
+abbrev pub ghosts-play_over : goal.ghosts-play_over
+ghosts-play_over g a = record {
+  parts = a.blanks.entries.parts;
+  limits = a.book.limits;
+  entries_name = a.blanks.entries.name;
+  admitted_name = a.blanks.admitted.name;
+  forged_name = a.blanks.forged.name;
+  quarantined_name = a.blanks.quarantined.name;
+  delivered_name = a.blanks.delivered.name;
+  reinstated_name = a.blanks.reinstated.name;
+}
