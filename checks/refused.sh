@@ -143,7 +143,7 @@ refuse_calls() {
     {
         list_tests test_refused '::' 0
         list_tests test_workers 'refusals::' 0
-        list_tests test_orders 'commands::refused::' 1
+        list_tests test_orders 'command::refused::' 1
     } > "$folder/tests"
     for crate in test_refused test_workers test_orders; do
         if ! grep -q "^$crate " "$folder/tests"; then

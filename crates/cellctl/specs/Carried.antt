@@ -15,10 +15,11 @@ use Rattle.cell_command.specs.declared.order.Running.{Running}
 use Rattle.cell_command.specs.declared.order.Sweeping.{Sweeping}
 use Rattle.cell_command.specs.declared.order.Order.{Order}
 use Rattle.cell_command.specs.declared.order.Driving.{Driving}
-use Rattle.cell_drive.specs.Drives.{DrivesTexts, TellsMeasures}
+use Rattle.cell_drive.specs.Drives.{DrivesTexts}
+use Rattle.cell_drive.specs.Measured.{KeepsMeasured}
 use Rattle.cell_sim.specs.declared.fault.Fault.{Fault}
 use Rattle.cell_sweep.specs.Sweeps.{SweepsTexts, Wanted, wanted}
-use Rattle.cell_runs.specs.Runs.{TellsRun, TellsPart as PartOfRun}
+use Rattle.cell_runs.specs.Runs.{Kept, TellsRun, TellsPart as PartOfRun}
 use Rattle.cell_runs.specs.declared.texts.Mode.{Mode}
 use Rattle.cell_runs.specs.declared.texts.Mode.TheVariants as modes
 use Rattle.cell_runs.specs.RunsFrom.{TellsPartFrom, TellsRunFrom}
@@ -78,25 +79,25 @@ abbrev pub DrivesFiles : Driving → Option (List ℕ) → Option (List ℕ) →
 DrivesFiles driving input old new written =
     DrivesFrom driving.from driving input old new written ⊎ TellsUnfit driving.running.times old new written
 
--- what is measured of a run by some texts, of one on threads by the journal that is left of it
-abbrev pub MeasuresRun : Mode → List ℕ → List ℕ → List ℕ → Option (List ℕ) → Option (List ℕ) → Type 0
-MeasuresRun modes.Threads settings faults operator run new = (measures : List ℕ) × Appends run new measures
-MeasuresRun modes.Rounds settings faults operator run new = TellsMeasures settings faults operator run new
+-- what is written behind a run on threads with a status: nothing where memory was refused for it or for its measures,
+-- which the status of both tells, and else the measures
+abbrev pub AddsLeast : ℕ → Option (List ℕ) → Option (List ℕ) → ℕ → Type 0
+AddsLeast ran printed new status =
+    ((status ≡ 4) × (new ≡ printed))
+    ⊎ ((ran ≢ 4) × (status ≡ ran) × ((measures : List ℕ) × Appends printed new measures))
 
--- what is written behind a run with a status: nothing where memory was refused for it or for its measures, which the
--- status tells, and else the measures
-abbrev pub AddsMeasures : Mode → List ℕ → List ℕ → List ℕ → ℕ → ℕ → Option (List ℕ) → Option (List ℕ) → Type 0
-AddsMeasures mode settings faults operator ran status run new =
-    ((status ≡ 4) × (new ≡ run))
-    ⊎ ((ran ≢ 4) × (status ≡ ran) × MeasuresRun mode settings faults operator run new)
+-- what is written of a run by three texts and behind it of its measures: in rounds those of the very journal that is
+-- kept of the run
+abbrev pub MeasuresRun : Mode → List ℕ → List ℕ → List ℕ → Bool → Option (List ℕ) → Option (List ℕ) → ℕ → Type 0
+MeasuresRun modes.Rounds settings faults operator journal old new status =
+    (run : Option Kept) × KeepsMeasured settings faults operator journal old new status run
+MeasuresRun modes.Threads settings faults operator journal old new status = (printed : Option (List ℕ)) × (ran : ℕ)
+    × TellsRun settings faults operator modes.Threads journal old printed ran × AddsLeast ran printed new status
 
--- what is written of a run by some texts and then of its measures: the status is the run's, but where memory was
--- refused for the measures
+-- the same by some texts
 abbrev pub MeasuresTexts : Mode → Bool → Option (List ℕ) → Option (List ℕ) → Result ℕ WriteFault → Type 0
 MeasuresTexts mode journal old new written = (settings : List ℕ) × (faults : List ℕ) × (operator : List ℕ)
-    × IfOk written (λ status. (run : Option (List ℕ)) × (ran : ℕ)
-    × TellsRun settings faults operator mode journal old run ran
-    × AddsMeasures mode settings faults operator ran status run new)
+    × IfOk written (MeasuresRun mode settings faults operator journal old new)
 
 -- what is written of a run by the texts of its files and then of its measures, unless the settings are too long or the
 -- durations are refused

@@ -1,25 +1,24 @@
 //! What is done for an order, over any reader and writers.
-ghost use Rattle.std.specs.Prelude.{◌≡◌, ◌≢◌, ◌⊎◌, ℕ, List, IfErr, IfOk, Ok, OnOk};
-ghost use Rattle.std.specs.Io.KnownBytes.{Appends};
+ghost use Rattle.std.specs.Prelude.{◌≡◌, ℕ, List, IfErr, IfOk, Ok};
 ghost use Rattle.cell_runs.specs.Told.{IsRead};
-ghost use Rattle.cellctl.specs.Carried.{CarriesOut, FollowsFiles, FollowsTexts, MeasuresFiles};
-ghost use Rattle.cellctl.specs.Carried.{AddsMeasures, MeasuresRun, MeasuresTexts, RunsFiles, RunsTexts, TellsUnfit};
+ghost use Rattle.cellctl.specs.Carried.{CarriesOut, FollowsFiles, FollowsTexts, MeasuresFiles, MeasuresRun};
+ghost use Rattle.cellctl.specs.Carried.{MeasuresTexts, RunsFiles, RunsTexts, TellsUnfit};
 
 use crate::continued::continue_words;
 use crate::control::control_words;
 use crate::driven::drive_files;
-use crate::least::tell_least;
+use crate::least::run_least;
 use crate::sweep::sweep_words;
 use cell_audit::Audited;
 use cell_command::{Order, Running};
-use cell_drive::measure_texts;
+use cell_drive::run_measured;
 use cell_measures::Durations;
 use cell_orders::{
     Failure, audit_file, book_in, check_file, durations_in, explain_words, explore_words,
     measure_words, migrate_file, script_in, settings_in, show_words, tell_times, tell_too_long,
 };
-use cell_output::{WatchedWriter, WriteFault, status};
-use cell_runs::{KeptRun, Left, Mode, Texts, follow_kept, run_kept};
+use cell_output::{WatchedWriter, WriteFault};
+use cell_runs::{KeptRun, Left, Mode, Texts, follow_after, run_kept};
 use std::io::{Read, Write};
 use std::rt::Files;
 use std::sync::Wait;
@@ -194,57 +193,22 @@ fn run_files<'a, R: AllocGlobal + Files + Threads + Wait + Sync, W: Write>(
     }
 }
 
-// The status of a run with its measures: the run's, but where memory was refused for the measures.
-fn status_with(run: u8, measures: u8) -> u8
-    ensures status { (result ≡ run) ⊎ (result ≡ 4) }
-    ensures memory { measures ≡ 4 → result ≡ 4 }
-    ensures run { measures ≢ 4 → result ≡ run }
-{
-    if measures == status::OUT_OF_MEMORY {
-        measures
-    } else {
-        run
-    }
-}
-
-// Tells what is measured of a run: of one on threads by the journal that is left of it, of one in rounds by the same
-// run in a cell that is watched.
-fn tell_measures<R: AllocGlobal + Wait, W: Write>(
+// Runs the simulated cell by its texts, and tells what is measured of it: of a run on threads by the journal that is
+// left of it, of one in rounds in a cell that is watched.
+fn run_with_measures<R: AllocGlobal + Threads + Wait + Sync, W: Write>(
     rt: &R,
     output: &mut W,
     mode: Mode,
+    journal: bool,
     texts: Texts<'_>,
-    left: &Left,
-) -> Result<u8, WriteFault>
-    ensures told { OnOk result ((told : List ℕ) × Appends (W.contents output.old) (W.contents output.new) told) }
-    ensures status { IfOk result (λ status. (status ≡ 0) ⊎ (status ≡ 4)) }
-    ensures measured { result ≡ Ok 0 → MeasuresRun mode texts.entry.settings.now texts.entry.faults.now
-        texts.entry.operator.now (W.contents output.old) (W.contents output.new) }
-    ensures memory { result ≡ Ok 4 → output.new ≡ output.old }
+) -> Result<(u8, Left), WriteFault>
+    ensures { IfOk result (λ ran. MeasuresRun mode texts.entry.settings.now texts.entry.faults.now
+        texts.entry.operator.now journal (W.contents output.old) (W.contents output.new) ran.0) }
 {
     match mode {
-        Mode::Rounds => measure_texts(rt, texts, output),
-        Mode::Threads => tell_least(rt.alloc(), output, left, &texts.durations),
+        Mode::Rounds => run_measured(rt, texts, journal, &mut WatchedWriter::new(output)),
+        Mode::Threads => run_least(rt, output, journal, texts),
     }
-}
-
-// Tells what is measured of a run that has this status, unless memory was refused for it, and gives the status of both.
-fn add_measures<R: AllocGlobal + Wait, W: Write>(
-    rt: &R,
-    output: &mut W,
-    mode: Mode,
-    texts: Texts<'_>,
-    status: u8,
-    left: &Left,
-) -> Result<u8, WriteFault>
-    ensures { IfOk result (λ both. AddsMeasures mode texts.entry.settings.now texts.entry.faults.now
-        texts.entry.operator.now status both (W.contents output.old) (W.contents output.new)) }
-{
-    if status == status::OUT_OF_MEMORY {
-        return Ok(status);
-    }
-    let measured = tell_measures(rt, output, mode, texts, left)?;
-    Ok(status_with(status, measured))
 }
 
 // Runs the simulated cell by its texts, on threads or in rounds, and tells what is measured of it.
@@ -258,21 +222,8 @@ fn measure_sources<R: AllocGlobal + Threads + Wait + Sync, W: Write>(
     ensures { MeasuresTexts mode running.entry.journal (W.contents output.old) (W.contents output.new)
         result.written }
 {
-    let texts = sources.texts();
-    let ran = run_kept(
-        rt,
-        texts,
-        mode,
-        running.journal,
-        &mut WatchedWriter::new(output),
-    );
-    let Ok((status, left)) = ran else {
-        return without_ending(Err(WriteFault));
-    };
-    let Ok(both) = add_measures(rt, output, mode, texts, status, &left) else {
-        return without_ending(Err(WriteFault));
-    };
-    with_ending(Ok((both, left)), 0, running.explain, sources)
+    let ran = run_with_measures(rt, output, mode, running.journal, sources.texts());
+    with_ending(ran, 0, running.explain, sources)
 }
 
 // Runs the simulated cell by what its files say, on threads or in rounds, and tells what is measured of it. The files
@@ -304,7 +255,7 @@ fn follow_sources<R: AllocGlobal + Wait, W: Write>(
         → FollowsTexts running.entry.journal (W.contents output.old) (W.contents output.new) result.written }
 {
     let mut writer = WatchedWriter::new(output);
-    let told = follow_kept(rt, followed, sources.texts(), running.journal, &mut writer);
+    let told = follow_after(rt, followed, sources.texts(), running.journal, &mut writer);
     with_ending(told, 0, running.explain, sources)
 }
 

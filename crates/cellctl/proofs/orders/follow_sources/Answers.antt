@@ -13,7 +13,7 @@ returns g c = λ text read.
     let settings = c.texts.result.settings.now in
     let faults = c.texts.result.faults.now in
     let operator = c.texts.result.operator.now in
-    let ran = c.follow_kept-told.result in
+    let ran = c.follow_after-told.result in
     let journal = c.args.running.journal in (
       text,
       settings,
@@ -23,8 +23,8 @@ returns g c = λ text read.
           (as-held (λ (old new : Option (List ℕ)). IfOk ran
           (λ told. TellsFollowed text settings faults operator journal old new told.0)) _ _ _ _
           (search rules) (search rules)
-          (IfOk-weaker ran _ _ (λ told keeps. (kept_of told.1, keeps)) (c.follow_kept-told.ensures.whole text read)))
+          (IfOk-weaker ran _ _ (λ told keeps. (kept_of told.1, keeps)) (c.follow_after-told.ensures.whole text read)))
           (λ failed. as-held (λ (old new : Option (List ℕ)).
           TellsPartFollowed text settings faults operator journal old new)
-          _ _ _ _ (search rules) (search rules) (c.follow_kept-told.ensures.part text read failed)),
+          _ _ _ _ (search rules) (search rules) (c.follow_after-told.ensures.part text read failed)),
     )
