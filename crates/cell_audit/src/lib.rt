@@ -20,5 +20,5 @@ pub use lines::{
 };
 pub use migration::{migrate, migrate_watched};
 pub use profile::Profile;
-pub use read::{Audited, read_journal, read_rows};
+pub use read::{Audited, read_rows};
 pub use write::{WriteError, write_journal, write_journal_watched};

@@ -155,9 +155,9 @@ pub fn audit_rows_watched<R: TellsFault, W: Write>(
     write_answer(writer, answer)
 }
 
-/// Audits a journal's text, as `audit_lines` does, and writes what is found to a writer that notes whether a write of
-/// it was refused.
-pub fn audit_lines_watched<R: Read + Drop, W: Write>(
+/// Audits a journal's text, as `audit_lines` does, from a reader that tells whether a read failed, and writes what is
+/// found to a writer that notes whether a write of it was refused.
+pub fn audit_lines_watched<R: TellsFault + Drop, W: Write>(
     alloc: Global,
     reader: R,
     writer: &mut WatchedWriter<'_, W>,
@@ -171,7 +171,7 @@ pub fn audit_lines_watched<R: Read + Drop, W: Write>(
     // It answers that the writer failed only where a write was refused.
     ensures fault { IsErr result → has_refused writer.new ≡ true }
 {
-    let mut rows = RowReader::new(alloc, Watched::new(reader));
+    let mut rows = RowReader::new(alloc, reader);
     audit_rows_watched(alloc, &mut rows, writer)
 }
 
@@ -198,7 +198,7 @@ pub fn audit_lines<R: Read + Drop, W: Write>(
     ensures some { TellsSome (W.contents writer.old) (W.contents writer.new) result }
 {
     let mut writer = WatchedWriter::new(writer);
-    audit_lines_watched(alloc, reader, &mut writer)
+    audit_lines_watched(alloc, Watched::new(reader), &mut writer)
 }
 
 /// Migrates the records that a reader has left, as `migrate_lines` does those of a text, to writers that note whether a
@@ -245,26 +245,28 @@ pub fn migrate_rows_watched<R: TellsFault, W: Write, E: Write>(
 /// writer. Where the reader fails (status 3) nothing is written. Where memory is refused (status 4) a first part of the
 /// text may be written.
 ///
-/// That status 3 comes only where a failed read was noted, and `WriteFault` only where a refused write of one of the
-/// writers was, are clauses of `migrate_rows_watched`, of which this is the case of new ones.
-pub fn migrate_lines<R: Read + Drop, W: Write, E: Write>(
+/// That status 3 comes only where a failed read was noted is a clause of `migrate_rows_watched`, of which this is the
+/// case of a new reader of rows.
+pub fn migrate_lines<R: TellsFault + Drop, W: Write, E: Write>(
     alloc: Global,
     reader: R,
-    writer: &mut W,
-    errors: &mut E,
+    writer: &mut WatchedWriter<'_, W>,
+    errors: &mut WatchedWriter<'_, E>,
 ) -> Result<u8, WriteFault>
+    ensures writer { IsSameWriter writer.old writer.new }
+    ensures errors { IsSameWriter errors.old errors.new }
     // What is written, the line to the errors and the status are those of one answer of the migration.
-    ensures whole { IfOk result (TellsMigration (rows_in (R.remaining reader)) (W.contents writer.old)
-        (W.contents writer.new) (E.contents errors.old) (E.contents errors.new)) }
+    ensures whole { IfOk result (TellsMigration (rows_in (R.remaining reader)) (bytes_held W.contents writer.old)
+        (bytes_held W.contents writer.new) (bytes_held E.contents errors.old) (bytes_held E.contents errors.new)) }
     // Where a writer failed, a first part of the text or of such a line was written.
-    ensures part { IsErr result → StopsMigration (rows_in (R.remaining reader)) (W.contents writer.old)
-        (W.contents writer.new) (E.contents errors.old) (E.contents errors.new) }
+    ensures part { IsErr result → StopsMigration (rows_in (R.remaining reader)) (bytes_held W.contents writer.old)
+        (bytes_held W.contents writer.new) (bytes_held E.contents errors.old) (bytes_held E.contents errors.new) }
     // Where the reader doesn't tell its bytes, they are those of some text.
-    ensures some { MigratesSome (W.contents writer.old) (W.contents writer.new) (E.contents errors.old)
-        (E.contents errors.new) result }
+    ensures some { MigratesSome (bytes_held W.contents writer.old) (bytes_held W.contents writer.new)
+        (bytes_held E.contents errors.old) (bytes_held E.contents errors.new) result }
+    // It answers that a writer failed only where a write of one of the two was refused.
+    ensures fault { IsErr result → (has_refused writer.new ≡ true) ⊎ (has_refused errors.new ≡ true) }
 {
-    let mut rows = RowReader::new(alloc, Watched::new(reader));
-    let mut writer = WatchedWriter::new(writer);
-    let mut errors = WatchedWriter::new(errors);
-    migrate_rows_watched(alloc, &mut rows, &mut writer, &mut errors)
+    let mut rows = RowReader::new(alloc, reader);
+    migrate_rows_watched(alloc, &mut rows, writer, errors)
 }

@@ -5,6 +5,4 @@ mod going_on;
 mod texts;
 mod told;
 
-pub use texts::{
-    ControlOptions, Finished, Orders, Streams, control_cell, read_orders, refuse_orders,
-};
+pub use texts::{ControlOptions, Finished, Orders, Streams, control_cell, read_orders};

@@ -2,9 +2,6 @@
 ghost use Rattle.std.specs.Prelude.{◌≡◌, IfOk, IsErr, OnOk, true};
 ghost use Rattle.cell_rules.specs.Legal.{legal};
 ghost use Rattle.cell_rules.specs.Safety.{IsSafe};
-ghost use Rattle.std.specs.Io.Buffered.{reader_remaining};
-ghost use Rattle.cell_rows.specs.Watched.{bytes_under};
-ghost use Rattle.cell_runs.specs.Inputs.{WritesError, input_line, input_status};
 ghost use Rattle.cell_lines.specs.Stands.{WritesSome, stand_of};
 ghost use Rattle.cell_control.specs.Controlling.{AreOrders, Controlling, Controls, HasStatus};
 ghost use Rattle.cell_control.specs.Controlling.{Ran, Starts, left_open, start_text};
@@ -17,17 +14,16 @@ use cell_explain::endings::{EndedRun, write_ending};
 use cell_ledger::Blanks;
 use cell_lines::{FarEnd, Loss};
 use cell_measures::Durations;
-use cell_output::{WatchedWriter, WriteFault};
 use cell_plant::{Gone, Keeper};
 use cell_ports::Plan;
 use cell_rounds::{Halt, LastCommand, Outcome, Start, Terms, control, last_command};
-use cell_rows::{TellsFault, Watched};
-use cell_runs::{InputError, Texts, read_inputs, refuse_input};
+use cell_rows::TellsFault;
+use cell_runs::{InputError, Texts, read_inputs};
 use operator_desk::Script;
 use plate_book::Book;
 use std::alloc::Global;
 use std::io;
-use std::io::{BufReader, Read, Write};
+use std::io::Write;
 use std::marker::Brand;
 
 /// How a cell is controlled, and what is told besides.
@@ -70,14 +66,6 @@ pub fn read_orders<'a>(
         script: inputs.script,
         operator,
     })
-}
-
-/// Tells which text is refused, as `sim` does, and gives the status.
-pub fn refuse_orders<E: Write>(errors: &mut E, error: InputError) -> Result<u8, WriteFault>
-    ensures { IfOk result (WritesError (E.contents errors.old) (E.contents errors.new) (input_line error)
-        (input_status error)) }
-{
-    refuse_input(&mut WatchedWriter::new(errors), error)
 }
 
 // Reads the cell's first line, or has it find a run again whose journal has so many entries.
@@ -220,16 +208,9 @@ fn run_far<I: TellsFault + Drop, W: Write, E: Write, K: Keeper>(
     }
 }
 
-// Opens the input. A run that goes on from a journal starts with the lines of the script that the journal leaves. Its
+// Prepares a run. One that goes on from a journal starts with the lines of the script that the journal leaves. Its
 // pending command is that of the last entry, of which it isn't known whether it went out.
-fn open<I: Read + Drop>(
-    alloc: Global,
-    input: I,
-    start: &mut Start,
-    operator: &[u8],
-    resumes: bool,
-) -> io::Result<Watched<BufReader<I>>>
-    ensures bytes { IfOk result (λ reader. bytes_under (reader_remaining I.remaining) reader ≡ I.remaining input) }
+fn prepare(alloc: Global, start: &mut Start, operator: &[u8], resumes: bool) -> io::Result<()>
     ensures book { start.new.book ≡ start.old.book }
     ensures lines { OnOk result (AreDue resumes operator.now start.old.book.entries start.old.script start.new.script) }
     ensures pending { OnOk result (start.new.pending ≡ left_open resumes start.old.book.entries) }
@@ -238,12 +219,12 @@ fn open<I: Read + Drop>(
         go_on(alloc, &mut start.script, operator, start.book.journal())?;
     }
     start.pending = left_open(&start.book, resumes);
-    Ok(Watched::new(BufReader::new(alloc, input)?))
+    Ok(())
 }
 
 /// Controls the cell whose lines are on the input, by these orders and from this book on, and tells at the end what
 /// came of it among the errors; gives both writers back, and the exit status.
-pub fn control_cell<I: Read + Drop, W: Write + Drop, E: Write + Drop, K: Keeper>(
+pub fn control_cell<I: TellsFault + Drop, W: Write + Drop, E: Write + Drop, K: Keeper>(
     alloc: Global,
     orders: Orders<'_>,
     book: Book,
@@ -270,9 +251,9 @@ pub fn control_cell<I: Read + Drop, W: Write + Drop, E: Write + Drop, K: Keeper>
         pending: None,
     };
     let resumes = options.resume;
-    let opened = open(alloc, streams.input, &mut start, operator, resumes);
-    let reader = match opened {
-        Ok(reader) => reader,
+    let prepared = prepare(alloc, &mut start, operator, resumes);
+    match prepared {
+        Ok(()) => {}
         Err(error) => {
             return Finished {
                 output: streams.output,
@@ -280,12 +261,7 @@ pub fn control_cell<I: Read + Drop, W: Write + Drop, E: Write + Drop, K: Keeper>
                 status: Err(error),
             };
         }
-    };
-    let streams = Streams {
-        input: reader,
-        output: streams.output,
-        errors: streams.errors,
-    };
+    }
     let terms = Terms {
         plan: &plan,
         waits: options.wait,

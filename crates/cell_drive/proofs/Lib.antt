@@ -1,4 +1,3 @@
 pub mod Drove
 pub mod Measured
-pub mod Opened
 pub mod Telling

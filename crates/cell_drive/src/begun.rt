@@ -1,6 +1,7 @@
 //! What a run begins with where it goes on from a journal.
 ghost use Rattle.std.specs.Prelude.{Err, IfOk};
 ghost use Rattle.cell_audit.specs.Lines.{WritesAnswer};
+ghost use Rattle.cell_output.specs.Watched.{bytes_held};
 
 use cell_audit::{AuditError, write_answer};
 use cell_measures::Durations;
@@ -17,10 +18,14 @@ pub(crate) fn world_after(book: &Book, plan: &Plan, durations: Durations) -> Wor
 }
 
 /// Tells that an entry of a journal isn't within the limits of a run, and gives the status.
-pub(crate) fn refuse_journal<W: Write>(writer: &mut W, error: AuditError) -> Result<u8, DriveError>
-    ensures { IfOk result (WritesAnswer (W.contents writer.old) (W.contents writer.new) (Err error)) }
+pub(crate) fn refuse_journal<W: Write>(
+    writer: &mut WatchedWriter<'_, W>,
+    error: AuditError,
+) -> Result<u8, DriveError>
+    ensures { IfOk result (WritesAnswer (bytes_held W.contents writer.old) (bytes_held W.contents writer.new)
+        (Err error)) }
 {
-    match write_answer(&mut WatchedWriter::new(writer), Err(error)) {
+    match write_answer(writer, Err(error)) {
         Ok(status) => Ok(status),
         Err(_) => Err(DriveError::WriteFault),
     }

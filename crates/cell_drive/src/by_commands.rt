@@ -6,6 +6,7 @@ use crate::texts::{Told, status_of, write_told};
 use crate::unread::{UnreadLine, unread_command};
 use crate::wish::{Wish, wish_of};
 use cell_method::{Conversation, DriveEnd, DriveError, MAX_LINES, ReadingLine};
+use cell_output::WatchedWriter;
 use cell_ports::{Act, OperatorPort, Plan, Port};
 use cell_rows::{Four, TellsFault, read_script};
 use cell_runs::{Inputs, sim_ports};
@@ -286,7 +287,7 @@ pub(crate) fn drive_commands<R: AllocGlobal + Wait, I: TellsFault, W: Write, E: 
     inputs: &Inputs,
     script: Vec<Line>,
     world: World,
-    method: &mut Conversation<'_, I, W>,
+    method: &mut Conversation<'_, I, WatchedWriter<'_, W>>,
     told: Told<'_, E>,
 ) -> Result<u8, DriveError> {
     let measures = Measures::new(rt.alloc(), &world);

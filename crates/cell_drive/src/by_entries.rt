@@ -119,11 +119,11 @@ fn tell_run<R: AllocGlobal + Wait, W: Write, E: Write>(
     book: &Book,
     looker: &mut Looker<'_, R>,
     durations: &Durations,
-    writer: &mut W,
-    told: Told<'_, E>,
+    writer: &mut WatchedWriter<'_, W>,
+    told: Told<'_, WatchedWriter<'_, E>>,
 ) -> Result<u8, DriveError>
     ensures told { OnOk result ((text : List ℕ) × TellsEnd end book.now.entries text
-        × Appends (W.contents writer.old) (W.contents writer.new) text) }
+        × Appends (bytes_held W.contents writer.old) (bytes_held W.contents writer.new) text) }
     ensures status { IfOk result (EndStatus end) }
     ensures memory { IfOk result (λ status. status < 3 → end ≢ DriveEnd.Memory) }
 {
@@ -136,12 +136,7 @@ fn tell_run<R: AllocGlobal + Wait, W: Write, E: Write>(
     if told.explain {
         explain(looker, told.errors)?;
     }
-    write_wanted(
-        alloc,
-        told.journal,
-        book.journal(),
-        &mut WatchedWriter::new(told.errors),
-    )?;
+    write_wanted(alloc, told.journal, book.journal(), told.errors)?;
     Ok(status)
 }
 
@@ -152,13 +147,13 @@ fn drive_on<R: AllocGlobal + Wait, I: TellsFault, W: Write, E: Write>(
     inputs: Inputs,
     mut book: Book,
     world: World,
-    method: &mut Conversation<'_, I, W>,
-    told: Told<'_, E>,
+    method: &mut Conversation<'_, I, WatchedWriter<'_, W>>,
+    told: Told<'_, WatchedWriter<'_, E>>,
 ) -> Result<u8, DriveError>
     requires { book.limits ≡ limits_of inputs.plan }
     ensures run { IfOk result (λ status. status < 3
         → DrivesEntries inputs.plan inputs.script book.entries (lines_left I.remaining method.old.lines)
-        (W.contents method.old.writer.now) (W.contents method.new.writer.now) status) }
+        (bytes_held W.contents method.old.writer.now) (bytes_held W.contents method.new.writer.now) status) }
     ensures writer { KeepsWriter method.old method.new }
 {
     let Inputs {
@@ -186,13 +181,13 @@ pub(crate) fn drive_entries<R: AllocGlobal + Wait, I: TellsFault, W: Write, E: W
     rt: &R,
     inputs: Inputs,
     from: Option<&Journal>,
-    method: &mut Conversation<'_, I, W>,
-    told: Told<'_, E>,
+    method: &mut Conversation<'_, I, WatchedWriter<'_, W>>,
+    told: Told<'_, WatchedWriter<'_, E>>,
 ) -> Result<u8, DriveError>
     ensures run { IfOk result (λ status. status < 3
         → DrivesFrom inputs.plan inputs.script (option_map (λ j. j.now.entries) from.entry)
-        (lines_left I.remaining method.old.lines) (W.contents method.old.writer.now)
-        (W.contents method.new.writer.now) status) }
+        (lines_left I.remaining method.old.lines) (bytes_held W.contents method.old.writer.now)
+        (bytes_held W.contents method.new.writer.now) status) }
     ensures writer { KeepsWriter method.old method.new }
 {
     let Some(journal) = from else {

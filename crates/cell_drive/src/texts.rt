@@ -1,6 +1,7 @@
 //! A run by its texts.
 ghost use Rattle.std.specs.Prelude.{◌≡◌, ◌<◌, Ok, IfOk, OnOk, option_map};
 ghost use Rattle.std.specs.Io.KnownBytes.{Appends};
+ghost use Rattle.cell_output.specs.Watched.{bytes_held};
 ghost use Rattle.cell_drive.specs.Drives.{DrivesTexts, EndStatus, drive_line};
 
 use crate::begun::{refuse_journal, world_after};
@@ -10,11 +11,11 @@ use cell_journal::Journal;
 use cell_method::{Conversation, DriveEnd, DriveError, LineReader, tell_entries};
 use cell_output::{WatchedWriter, WriteFault, status};
 use cell_ports::Plan;
-use cell_rows::{TellsFault, Watched};
+use cell_rows::TellsFault;
 use cell_runs::{InputError, Inputs, Texts, book_after, read_inputs, refuse_input};
 use cell_sim::World;
 use std::io;
-use std::io::{BufReader, Read, Write};
+use std::io::Write;
 use std::sync::Wait;
 
 /// How a method drives the cell, from where, and what is told besides.
@@ -68,7 +69,7 @@ fn drive_raw<R: AllocGlobal + Wait, I: TellsFault, W: Write, E: Write>(
     inputs: &Inputs,
     operator: &[u8],
     from: Option<&Journal>,
-    method: &mut Conversation<'_, I, W>,
+    method: &mut Conversation<'_, I, WatchedWriter<'_, W>>,
     told: Told<'_, E>,
 ) -> Result<u8, DriveError> {
     let (plan, durations) = (&inputs.plan, inputs.durations);
@@ -76,7 +77,7 @@ fn drive_raw<R: AllocGlobal + Wait, I: TellsFault, W: Write, E: Write>(
         Ok(script) => script,
         Err(error) => {
             let error = InputError::Operator(error);
-            let answer = refuse_input(&mut WatchedWriter::new(method.writer), error);
+            let answer = refuse_input(method.writer, error);
             return answer.map_err(|_| DriveError::WriteFault);
         }
     };
@@ -102,10 +103,13 @@ pub(crate) fn begin<W: Write>(output: &mut W, plan: &Plan) -> io::Result<()>
 }
 
 /// Writes what is told of a run, and flushes the writer.
-pub(crate) fn write_told<W: Write>(output: &mut W, text: &[u8]) -> Result<(), DriveError>
-    ensures { OnOk result (Appends (W.contents output.old) (W.contents output.new) text.now) }
+pub(crate) fn write_told<W: Write>(
+    output: &mut WatchedWriter<'_, W>,
+    text: &[u8],
+) -> Result<(), DriveError>
+    ensures { OnOk result (Appends (bytes_held W.contents output.old) (bytes_held W.contents output.new) text.now) }
 {
-    if WatchedWriter::new(output).write_bytes(text).is_err() {
+    if output.write_bytes(text).is_err() {
         return Err(DriveError::WriteFault);
     }
     output.flush()?;
@@ -118,28 +122,25 @@ pub(crate) fn write_told<W: Write>(output: &mut W, text: &[u8]) -> Result<(), Dr
 /// The first text that is refused is told as by `run_texts`, and nothing of the protocol is written. So it is where an
 /// entry of the journal from which the run goes on isn't within the settings' limits, as by an audit. A reader that
 /// fails ends the run with status 3. Want of memory before the first round gives status 4 with nothing more written.
-pub fn drive_texts<R: AllocGlobal + Wait, I: Read + Drop, W: Write, E: Write>(
+pub fn drive_texts<R: AllocGlobal + Wait, I: TellsFault + Drop, W: Write, E: Write>(
     rt: &R,
     texts: Texts<'_>,
     driving: DriveOptions<'_>,
     input: I,
-    output: &mut W,
-    errors: &mut E,
+    output: &mut WatchedWriter<'_, W>,
+    errors: &mut WatchedWriter<'_, E>,
 ) -> Result<u8, WriteFault>
     // What is written is of the first text that is refused, of the journal's first entry that the settings' limits
     // refuse, or of a run by entries within these limits that goes on from the journal, where there is one.
     ensures { IfOk result (DrivesTexts texts.entry.settings.now texts.entry.faults.now texts.entry.operator.now
         driving.entry.raw (option_map (λ j. j.now.entries) driving.entry.from) (I.remaining input)
-        (W.contents output.old) (W.contents output.new)) }
+        (bytes_held W.contents output.old) (bytes_held W.contents output.new)) }
 {
     let inputs = match read_inputs(rt.alloc(), texts) {
         Ok(inputs) => inputs,
-        Err(error) => return refuse_input(&mut WatchedWriter::new(output), error),
+        Err(error) => return refuse_input(output, error),
     };
-    let Ok(reader) = BufReader::new(rt.alloc(), input) else {
-        return Ok(status::OUT_OF_MEMORY);
-    };
-    let lines = LineReader::new(Watched::new(reader));
+    let lines = LineReader::new(input);
     let mut method = Conversation {
         lines,
         writer: output,

@@ -7,7 +7,7 @@ ghost use Rattle.cell_lines.specs.Written.{line_of};
 
 use crate::written::Written;
 use arrayvec::ArrayString;
-use cell_output::{WatchedWriter, WriteFault};
+use cell_output::{WriteFault, write_whole};
 use std::fmt::Write as _;
 use std::io::Write;
 
@@ -30,7 +30,10 @@ fn put_text<W: Write>(writer: &mut W, text: &[u8]) -> Result<(), WriteFault>
     ensures whole { OnOk result (Appends (W.contents writer.old) (W.contents writer.new) text.now) }
     ensures part { IsErr result → WritesPart (W.contents writer.old) (W.contents writer.new) text.now }
 {
-    WatchedWriter::new(writer).write_bytes(text)
+    match write_whole(writer, text) {
+        Ok(()) => Ok(()),
+        Err(_) => Err(WriteFault),
+    }
 }
 
 /// Writes what it says as its line.

@@ -23,6 +23,10 @@ bytes_held contents w = contents w.writer.now
 abbrev pub has_refused : {W : Type 0} → WatchedWriter W → Bool
 has_refused w = w.refused
 
+-- the error of its last call that failed and wasn't interrupted, if one did
+abbrev pub error_noted : {W : Type 0} → WatchedWriter W → Option Error
+error_noted w = w.error
+
 -- an answer to a write of some bytes that refuses them: none was taken, or the write failed and wasn't interrupted
 abbrev pub Refuses : Result ℕ Error → Type 0
 Refuses (Ok count) = count ≡ 0

@@ -4,6 +4,8 @@
 mod number;
 pub mod status;
 mod watched;
+mod whole;
 
 pub use number::write_number;
 pub use watched::{WatchedWriter, WriteFault};
+pub use whole::write_whole;

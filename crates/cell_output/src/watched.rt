@@ -1,10 +1,13 @@
 //! A writer that notes whether a write of it was refused.
-ghost use Rattle.std.specs.Prelude.{◌≡◌, ◌≤◌, ◌<◌, ◌⊎◌, ◌↔◌, true, false, take, length, map, IfOk, IsErr, OnOk};
+ghost use Rattle.std.specs.Prelude.{◌≡◌, ◌≢◌, ◌⊎◌, ◌↔◌, true, false, map, IfErr, IfOk, IsErr, IsOk, None, OnOk, Some};
+ghost use Rattle.std.specs.IoError.{error_kind};
 ghost use Rattle.std.specs.List.{concat};
-ghost use Rattle.std.specs.Io.KnownBytes.{Appends, Keeps};
-ghost use Rattle.cell_output.specs.Watched.{IsSameWriter, Refuses, Watches, WritesPart, bytes_held, has_refused};
-ghost use Rattle.cell_output.specs.Watched.{taken_of};
+ghost use Rattle.std.specs.Io.{WritesAtMost};
+ghost use Rattle.std.specs.Io.KnownBytes.{Appends, Keeps, WriteAppends};
+ghost use Rattle.cell_output.specs.Watched.{IsSameWriter, Refuses, Watches, WritesPart, bytes_held, error_noted};
+ghost use Rattle.cell_output.specs.Watched.{has_refused, taken_of};
 
+use crate::whole::write_whole;
 use std::io;
 use std::io::{ErrorKind, Write};
 
@@ -13,11 +16,33 @@ use std::io::{ErrorKind, Write};
 pub struct WriteFault;
 
 /// A writer that notes whether a write of it was refused: whether one took none of its bytes, or failed and wasn't
-/// interrupted. A write that was interrupted is tried again, and is refused where that comes 2^64 - 1 times.
+/// interrupted. It notes the error of the last call that failed, too. A write that was interrupted is tried again, and
+/// is refused where that comes 2^64 - 1 times.
 #[derive(Drop)]
 pub struct WatchedWriter<'a, W> {
     writer: &'a mut W,
     refused: bool,
+    // The error of the last call that failed and wasn't interrupted, if one did.
+    error: Option<io::Error>,
+}
+
+// Notes the error of a call, if it failed and wasn't interrupted.
+fn note_error<T>(noted: &mut Option<io::Error>, answer: &io::Result<T>)
+    ensures failed { IfErr answer.now (λ e. error_kind e ≢ ErrorKind.Interrupted → noted.new ≡ Some e) }
+    ensures worked { IsOk answer.now → noted.new ≡ noted.old }
+{
+    match answer {
+        Err(error) if error.kind() != ErrorKind::Interrupted => *noted = Some(*error),
+        _ => {}
+    }
+}
+
+// The error that is noted after this one of a write. That none of its bytes was taken is no error of the writer.
+fn noted_after(noted: Option<io::Error>, error: io::Error) -> Option<io::Error> {
+    match error.kind() {
+        ErrorKind::WriteZero => noted,
+        _ => Some(error),
+    }
 }
 
 impl<'a, W: Write> WatchedWriter<'a, W> {
@@ -25,11 +50,20 @@ impl<'a, W: Write> WatchedWriter<'a, W> {
     pub fn new(writer: &'a mut W) -> WatchedWriter<'a, W>
         ensures writer { Watches result writer.entry }
         ensures refused { has_refused result ≡ false }
+        ensures error { error_noted result ≡ None }
     {
         WatchedWriter {
             writer,
             refused: false,
+            error: None,
         }
+    }
+
+    /// The error of the last call that failed and wasn't interrupted, if one did.
+    pub fn error(&self) -> Option<io::Error>
+        ensures { result ≡ error_noted self.now }
+    {
+        self.error
     }
 
     // Notes the writer's answer to a write of some bytes, and gives how many it took, or that it refused them.
@@ -39,7 +73,9 @@ impl<'a, W: Write> WatchedWriter<'a, W> {
         ensures taken { IfOk result (λ count. count ≡ taken_of answer) }
         ensures fault { IsErr result ↔ Refuses answer }
         ensures noted { (has_refused self.new ≡ true) ↔ (has_refused self.old ≡ true) ⊎ Refuses answer }
+        ensures error { IfErr answer (λ e. error_kind e ≢ ErrorKind.Interrupted → error_noted self.new ≡ Some e) }
     {
+        note_error(&mut self.error, &answer);
         match answer {
             Ok(0) => {}
             Ok(count) => return Ok(count),
@@ -48,21 +84,6 @@ impl<'a, W: Write> WatchedWriter<'a, W> {
         }
         self.refused = true;
         Err(WriteFault)
-    }
-
-    // One write of some bytes: how many it took, or that it refused them.
-    fn write_some(&mut self, bytes: &[u8]) -> Result<usize, WriteFault>
-        requires { 0 < length bytes.now }
-        ensures writer { IsSameWriter self.old self.new }
-        ensures bound { IfOk result (λ count. count ≤ length bytes.now) }
-        ensures bytes { IfOk result (λ count. Appends (bytes_held W.contents self.old) (bytes_held W.contents self.new)
-            (take count bytes.now)) }
-        ensures nothing { IsErr result → Keeps (bytes_held W.contents self.old) (bytes_held W.contents self.new) }
-        ensures fault { IsErr result → has_refused self.new ≡ true }
-        ensures same { OnOk result (has_refused self.new ≡ has_refused self.old) }
-    {
-        let answer = self.writer.write(bytes);
-        self.note(answer)
     }
 
     /// Writes bytes.
@@ -77,18 +98,14 @@ impl<'a, W: Write> WatchedWriter<'a, W> {
         ensures fault { IsErr result → has_refused self.new ≡ true }
         ensures same { OnOk result (has_refused self.new ≡ has_refused self.old) }
     {
-        let mut taken = 0;
-        'writes: for _ in 0..u64::MAX {
-            if taken >= bytes.len() {
-                return Ok(());
+        match write_whole(self.writer, bytes) {
+            Ok(()) => Ok(()),
+            Err(error) => {
+                self.error = noted_after(self.error, error);
+                self.refused = true;
+                Err(WriteFault)
             }
-            taken += self.write_some(&bytes[taken..])?;
         }
-        if taken >= bytes.len() {
-            return Ok(());
-        }
-        self.refused = true;
-        Err(WriteFault)
     }
 
     /// Writes pieces of a text, one after the other.
@@ -107,5 +124,33 @@ impl<'a, W: Write> WatchedWriter<'a, W> {
             self.write_bytes(piece)?;
         }
         Ok(())
+    }
+}
+
+impl<W: Write> Write for WatchedWriter<'_, W> {
+    ghost use Rattle.cell_output.specs.Watched.{bytes_held};
+
+    ghost contents = { bytes_held W.contents };
+
+    /// One write. Where it was interrupted it isn't noted: whoever calls tries it again.
+    fn write(&mut self, buf: &[u8]) -> io::Result<usize>
+        ensures bound { WritesAtMost result buf.now }
+        ensures bytes { WriteAppends (bytes_held W.contents self.old) (bytes_held W.contents self.new) result buf.now }
+        ensures writer { IsSameWriter self.old self.new }
+        ensures noted { IfErr result (λ e. error_kind e ≢ ErrorKind.Interrupted → error_noted self.new ≡ Some e) }
+    {
+        let answer = self.writer.write(buf);
+        let _ = self.note(answer);
+        answer
+    }
+
+    fn flush(&mut self) -> io::Result<()>
+        ensures bytes { Keeps (bytes_held W.contents self.old) (bytes_held W.contents self.new) }
+        ensures writer { IsSameWriter self.old self.new }
+        ensures noted { IfErr result (λ e. error_kind e ≢ ErrorKind.Interrupted → error_noted self.new ≡ Some e) }
+    {
+        let answer = self.writer.flush();
+        note_error(&mut self.error, &answer);
+        answer
     }
 }

@@ -1,8 +1,8 @@
 //! Readers that tell whether they failed.
-ghost use Rattle.std.specs.Prelude.{◌≡◌, ◌⊎◌, false, true, IsErr};
+ghost use Rattle.std.specs.Prelude.{◌≡◌, ◌⊎◌, false, true, IfErr, IsErr, None, Some};
 ghost use Rattle.std.specs.Io.{ReadsAtMost};
 ghost use Rattle.std.specs.Io.KnownBytes.{ReadConsumes};
-ghost use Rattle.cell_rows.specs.Watched.{bytes_under, read_failed};
+ghost use Rattle.cell_rows.specs.Watched.{bytes_under, error_noted, read_failed};
 
 use std::io;
 use std::io::{ErrorKind, Read};
@@ -42,11 +42,26 @@ impl TellsFault for &[u8] {
     }
 }
 
-/// Any reader, with what it takes to tell whether a read of it failed. A read that was interrupted is tried again.
+/// A reader that is lent tells what it tells.
+impl<R: TellsFault> TellsFault for &mut R {
+    ghost failed = { λ r. R.failed r.now };
+
+    fn has_failed(&self) -> bool {
+        TellsFault::has_failed(&**self)
+    }
+
+    fn read_told(&mut self, buf: &mut [u8]) -> io::Result<usize> {
+        TellsFault::read_told(&mut **self, buf)
+    }
+}
+
+/// Any reader, with what it takes to tell whether a read of it failed, and by which error. A read that was interrupted
+/// is tried again.
 #[derive(Drop)]
 pub struct Watched<R> {
     source: R,
-    failed: bool,
+    // The error of the last read that failed, if one did.
+    error: Option<io::Error>,
 }
 
 impl<R: Read> Watched<R> {
@@ -54,11 +69,19 @@ impl<R: Read> Watched<R> {
     pub fn new(source: R) -> Watched<R>
         ensures bytes { bytes_under R.remaining result ≡ R.remaining source }
         ensures fresh { read_failed result ≡ false }
+        ensures error { error_noted result ≡ None }
     {
         Watched {
             source,
-            failed: false,
+            error: None,
         }
+    }
+
+    /// The error of the last read that failed, if one did.
+    pub fn error(&self) -> Option<io::Error>
+        ensures { result ≡ error_noted self.now }
+    {
+        self.error
     }
 }
 
@@ -75,19 +98,21 @@ impl<R: Read> Read for Watched<R> {
         ensures noted { read_failed self.new ≡ true → (read_failed self.old ≡ true) ⊎ IsErr result }
         ensures notes { IsErr result → read_failed self.new ≡ true }
         ensures kept { read_failed self.old ≡ true → read_failed self.new ≡ true }
+        ensures error { IfErr result (λ e. error_noted self.new ≡ Some e) }
     {
         for _ in 0..u64::MAX {
             match self.source.read(buf) {
                 Ok(count) => return Ok(count),
                 Err(e) if e.kind() == ErrorKind::Interrupted => {}
                 Err(e) => {
-                    self.failed = true;
+                    self.error = Some(e);
                     return Err(e);
                 }
             }
         }
-        self.failed = true;
-        Err(io::Error::from(ErrorKind::Interrupted))
+        let error = io::Error::from(ErrorKind::Interrupted);
+        self.error = Some(error);
+        Err(error)
     }
 }
 
@@ -97,7 +122,7 @@ impl<R: Read> TellsFault for Watched<R> {
     ghost failed = { read_failed };
 
     fn has_failed(&self) -> bool {
-        self.failed
+        self.error.is_some()
     }
 
     fn read_told(&mut self, buf: &mut [u8]) -> io::Result<usize> {
