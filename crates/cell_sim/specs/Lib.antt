@@ -1,4 +1,11 @@
 pub mod Simulated
+pub mod Moves
+pub mod Parts
+pub mod Looks
+pub mod Commands
+pub mod Readings
+pub mod Hands
 pub mod Takeover
 pub mod Faults
 pub mod Script
+pub mod Spelled

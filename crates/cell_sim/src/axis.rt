@@ -1,6 +1,8 @@
 //! One axis as it is.
-ghost use Rattle.std.specs.Prelude.{◌≡◌};
-ghost use Rattle.cell_types.specs.Cell.{home};
+ghost use Rattle.std.specs.Prelude.{◌≡◌, None};
+ghost use Rattle.cell_sim.specs.Simulated.{at_home};
+ghost use Rattle.cell_sim.specs.Moves.{going_by, moves};
+ghost use Rattle.cell_sim.specs.Readings.{switches_by};
 
 use crate::motion::{Moving, Path, Phase};
 use crate::switches::switch_bit;
@@ -19,7 +21,7 @@ pub(crate) struct AxisInWorld {
 impl AxisInWorld {
     /// An axis at home that hasn't moved yet.
     pub(crate) fn new(axis: Axis) -> AxisInWorld
-        ensures { result.pose ≡ home axis }
+        ensures { result ≡ at_home axis }
     {
         AxisInWorld {
             pose: home(axis),
@@ -30,7 +32,8 @@ impl AxisInWorld {
 
     /// The pose that it has or has left, and where it is going.
     pub(crate) fn state(self, axis: Axis) -> AxisState
-        ensures { result.at ≡ self.pose }
+        ensures at { result.at ≡ self.pose }
+        ensures going { result.going ≡ going_by axis self.motion }
     {
         AxisState {
             at: self.pose,
@@ -38,7 +41,9 @@ impl AxisInWorld {
         }
     }
 
-    fn going(self, axis: Axis) -> Option<Pose> {
+    fn going(self, axis: Axis) -> Option<Pose>
+        ensures { result ≡ going_by axis self.motion }
+    {
         match self.motion {
             Some(motion) if !motion.is_over() => motion.goal(axis),
             _ => None,
@@ -47,7 +52,9 @@ impl AxisInWorld {
 
     /// Whether a motion of it is under way.
     #[inline(always)]
-    pub(crate) fn is_moving(self) -> bool {
+    pub(crate) fn is_moving(self) -> bool
+        ensures { result ≡ moves self.motion }
+    {
         match self.motion {
             Some(motion) => !motion.stopped && motion.phase != Phase::Arrived,
             None => false,
@@ -55,7 +62,9 @@ impl AxisInWorld {
     }
 
     /// The switches that it shows.
-    pub(crate) fn switches(self, axis: Axis) -> u8 {
+    pub(crate) fn switches(self, axis: Axis) -> u8
+        ensures { result ≡ switches_by axis self self.motion }
+    {
         let Some(motion) = self.motion else {
             return self.switch_at_rest(axis);
         };
@@ -65,7 +74,9 @@ impl AxisInWorld {
         }
     }
 
-    fn switch_at_rest(self, axis: Axis) -> u8 {
+    fn switch_at_rest(self, axis: Axis) -> u8
+        ensures { result ≡ switches_by axis self None }
+    {
         match axis {
             Axis::FeedBelt | Axis::DepositBelt => 0,
             _ => switch_bit(self.pose),

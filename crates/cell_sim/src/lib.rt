@@ -4,6 +4,7 @@
 
 mod axis;
 mod fault;
+pub mod laws;
 mod motion;
 mod port;
 mod read;

@@ -1,4 +1,8 @@
 //! The motion of one axis, and how it goes on from reading to reading.
+ghost use Rattle.std.specs.Prelude.{◌≡◌};
+ghost use Rattle.cell_sim.specs.Moves.{after_leaving, begun, between_at, carried_from, goal_of, hides_by};
+ghost use Rattle.cell_sim.specs.Moves.{is_over, left_at, next_phase, shown_bits, shows_by_fault};
+
 use crate::fault::Fault;
 use crate::switches::{all_switches, switch_bit};
 use cell_types::{Axis, Pose, Station, motion_to};
@@ -49,7 +53,9 @@ pub(crate) struct Moving {
 
 impl Moving {
     /// A motion that begins. Its duration is how many readings show nothing between its two ends, one at least.
-    pub(crate) fn begin(path: Path, fault: Option<Fault>, duration: u16) -> Moving {
+    pub(crate) fn begin(path: Path, fault: Option<Fault>, duration: u16) -> Moving
+        ensures { result ≡ begun path fault duration }
+    {
         let missing = match fault {
             Some(Fault::Silent(readings)) => readings,
             _ => 0,
@@ -65,7 +71,9 @@ impl Moving {
     }
 
     /// The phase after one more reading is given.
-    pub(crate) fn next_phase(self) -> Phase {
+    pub(crate) fn next_phase(self) -> Phase
+        ensures { result ≡ next_phase self }
+    {
         if self.stopped {
             return self.phase;
         }
@@ -77,7 +85,9 @@ impl Moving {
         }
     }
 
-    fn phase_after_leaving(self) -> Phase {
+    fn phase_after_leaving(self) -> Phase
+        ensures { result ≡ after_leaving self.fault self.further }
+    {
         match self.fault {
             Some(Fault::NoMotion) => Phase::Seen,
             Some(Fault::Slow(readings)) => Phase::Between(self.further.saturating_add(readings)),
@@ -87,17 +97,23 @@ impl Moving {
 
     /// Whether the axis has left where the motion began, so that a fault of its switches or sensors shows. Such a fault
     /// changes what is shown alone: the axis moves.
-    pub(crate) fn has_left(self) -> bool {
+    pub(crate) fn has_left(self) -> bool
+        ensures { result ≡ left_at self.phase }
+    {
         matches!(self.phase, Phase::Between(_) | Phase::Arrived)
     }
 
     /// Whether the axis is at rest: it has arrived, or was stopped before it left.
-    pub(crate) fn is_over(self) -> bool {
+    pub(crate) fn is_over(self) -> bool
+        ensures { result ≡ is_over self }
+    {
         self.phase == Phase::Arrived || (self.stopped && !self.has_left())
     }
 
     /// Where the motion leads: a pose, or of a belt the name of its motion.
-    pub(crate) fn goal(self, axis: Axis) -> Option<Pose> {
+    pub(crate) fn goal(self, axis: Axis) -> Option<Pose>
+        ensures { result ≡ goal_of axis self }
+    {
         match self.path {
             Path::Poses { from: _, to } => Some(to),
             Path::Stations { to, .. } => motion_to(axis, to).map(|motion| motion.to),
@@ -105,7 +121,9 @@ impl Moving {
     }
 
     /// The switches that an axis shows in this motion from one of its poses to another.
-    pub(crate) fn shown_switches(self, axis: Axis, from: Pose, to: Pose) -> u8 {
+    pub(crate) fn shown_switches(self, axis: Axis, from: Pose, to: Pose) -> u8
+        ensures { result ≡ shown_bits self axis from to }
+    {
         let moved = match self.phase {
             Phase::Begun | Phase::Seen => switch_bit(from),
             Phase::Between(_) => 0,
@@ -120,7 +138,9 @@ impl Moving {
 
     /// Whether a fault of this motion shows a plate at a station, be one there or not: at where a plate was carried
     /// from, or at both ends.
-    pub(crate) fn shows_by_fault(self, station: Station) -> bool {
+    pub(crate) fn shows_by_fault(self, station: Station) -> bool
+        ensures { result ≡ shows_by_fault self.fault (left_at self.phase) self.path station }
+    {
         let Path::Stations { from, to, plate } = self.path else {
             return false;
         };
@@ -132,7 +152,9 @@ impl Moving {
     }
 
     /// Whether this plate at a station isn't shown, since it is carried and on its way.
-    pub(crate) fn hides(self, station: Station, shown: Option<u32>) -> bool {
+    pub(crate) fn hides(self, station: Station, shown: Option<u32>) -> bool
+        ensures { result ≡ hides_by self.path (between_at self.phase) station shown }
+    {
         let Path::Stations { from, to: _, plate } = self.path else {
             return false;
         };
@@ -140,7 +162,9 @@ impl Moving {
     }
 
     /// The plate that this motion carries from a station, if it does.
-    pub(crate) fn plate_from(self, station: Station) -> Option<u32> {
+    pub(crate) fn plate_from(self, station: Station) -> Option<u32>
+        ensures { result ≡ carried_from self.path station }
+    {
         match self.path {
             Path::Stations { from, to: _, plate } if from == station => plate,
             _ => None,

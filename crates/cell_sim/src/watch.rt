@@ -1,9 +1,12 @@
 //! The safety rules as they show in the world and not in the book, and how often each was broken.
-ghost use Rattle.std.specs.Prelude.{◌≡◌, ◌<◌, Some, replicate, slice_get};
-ghost use Rattle.cell_sim.specs.Simulated.{rule_number};
+ghost use Rattle.std.specs.Prelude.{◌≡◌, ◌<◌, ◌&&◌, not, Some, slice_get};
+ghost use Rattle.cell_sim.specs.Looks.{now_so, was_so};
+ghost use Rattle.cell_sim.specs.Parts.{watch_after};
+ghost use Rattle.cell_sim.specs.Simulated.{new_watch, rule_number};
 
 pub(crate) mod rules;
 
+use crate::watch::rules::Situation;
 use cell_types::Command;
 use std::fmt;
 
@@ -112,7 +115,7 @@ pub(crate) struct Watch {
 impl Watch {
     /// A watch by which no rule is broken yet.
     pub(crate) fn new(is_on: bool) -> Watch
-        ensures { result.counts ≡ replicate 12 0 }
+        ensures { result ≡ new_watch is_on }
     {
         Watch {
             is_on,
@@ -123,7 +126,9 @@ impl Watch {
     }
 
     /// Counts that a rule was broken.
-    pub(crate) fn count(&mut self, rule: SafetyRule, occasion: Occasion) {
+    pub(crate) fn count(&mut self, rule: SafetyRule, occasion: Occasion)
+        ensures { self.new ≡ watch_after rule occasion self.old }
+    {
         if !self.is_on {
             return;
         }
@@ -142,14 +147,18 @@ impl Watch {
     }
 
     /// Where a rule was broken first.
-    pub(crate) fn first_of(&self, rule: SafetyRule) -> Option<Occasion> {
+    pub(crate) fn first_of(&self, rule: SafetyRule) -> Option<Occasion>
+        ensures { slice_get self.now.firsts (rule_number rule) ≡ Some result }
+    {
         self.firsts[rule_number(rule)]
     }
 
     /// Keeps how a situation is now, and says whether it is so and wasn't.
-    pub(crate) fn is_new(&mut self, place: usize, is_so: bool) -> bool
-        requires { place < 7 }
+    pub(crate) fn is_new(&mut self, situation: Situation, is_so: bool) -> bool
+        ensures new { result ≡ (is_so && not (was_so self.old situation)) }
+        ensures watch { self.new ≡ now_so situation is_so self.old }
     {
+        let place = situation.place();
         let was_so = self.standing[place];
         self.standing[place] = is_so;
         is_so && !was_so

@@ -1,10 +1,10 @@
 //! A world where a journal left the cell.
-ghost use Rattle.std.specs.Prelude.{◌≡◌, ◌≤◌, ◌-◌, length, option_map, slice_get};
+ghost use Rattle.std.specs.Prelude.{◌≡◌, ◌≤◌, ◌-◌, length, slice_get};
 ghost use Rattle.std.specs.List.{count_by};
-ghost use Rattle.cell_rules.specs.Views.{at_of, plate_of};
 ghost use Rattle.plate_book.specs.Listed.{delivered_of};
-ghost use Rattle.cell_types.specs.declared.words.Entry.{Entry as EntryValue};
-ghost use Rattle.cell_sim.specs.Takeover.{left_by, tells_cleared, tells_laid};
+ghost use Rattle.cell_types.specs.Cell.{motion_named};
+ghost use Rattle.cell_sim.specs.Takeover.{axis_left, is_forging, left_by, motion_left, path_left, plate_left};
+ghost use Rattle.cell_sim.specs.Takeover.{tells_cleared, tells_laid, was_forged};
 
 use crate::axis::AxisInWorld;
 use crate::motion::{Moving, Path};
@@ -27,7 +27,7 @@ impl World {
     /// hand from before a press. Motions take these durations, as by `with_durations`. It isn't watched, unless it is
     /// made so by `with_watch`.
     pub fn from_book(book: &Book, plates: u32, durations: &Durations) -> World
-        ensures { result ≡ left_by book.now.entries plates }
+        ensures { result ≡ left_by book.now.entries plates durations.now }
     {
         let totals = book.totals();
         World {
@@ -68,8 +68,9 @@ impl World {
 }
 
 // An axis where a book's journal left it. No motion of it is counted yet.
+#[tactic(auto, unfolding(crate::specs::Takeover::axis_left))]
 fn axis_left(book: &Book, axis: Axis, durations: &Durations) -> AxisInWorld
-    ensures { result.pose ≡ at_of book.now.entries axis }
+    ensures { result ≡ axis_left book.now.entries durations.now axis }
 {
     let state = book.pose(axis);
     let motion = match state.going {
@@ -84,7 +85,9 @@ fn axis_left(book: &Book, axis: Axis, durations: &Durations) -> AxisInWorld
 }
 
 // A motion of an axis that begins anew. It is stopped where its machine is failed.
-fn motion_left(book: &Book, axis: Axis, from: Pose, to: Pose, durations: &Durations) -> Moving {
+fn motion_left(book: &Book, axis: Axis, from: Pose, to: Pose, durations: &Durations) -> Moving
+    ensures { result ≡ motion_left book.now.entries durations.now axis from to }
+{
     let duration = durations.of(Move { axis, to });
     let motion = Moving::begin(path_left(book, axis, from, to), None, duration);
     Moving {
@@ -94,7 +97,9 @@ fn motion_left(book: &Book, axis: Axis, from: Pose, to: Pose, durations: &Durati
 }
 
 // Where a motion that a book shows under way leads.
-fn path_left(book: &Book, axis: Axis, from: Pose, to: Pose) -> Path {
+fn path_left(book: &Book, axis: Axis, from: Pose, to: Pose) -> Path
+    ensures { result ≡ path_left book.now.entries from to (motion_named axis to) }
+{
     match motion_named(axis, to) {
         Some(motion) => Path::Stations {
             from: motion.from,
@@ -115,8 +120,9 @@ fn number_of(plate: Option<PlateId>) -> Option<u32>
 }
 
 // The plate of a station.
+#[tactic(auto, unfolding(crate::specs::Takeover::plate_left))]
 fn plate_left(book: &Book, station: Station) -> Option<Plate>
-    ensures { option_map (λ p. p.number) result ≡ plate_of book.now.entries station }
+    ensures { result ≡ plate_left book.now.entries station }
 {
     match book.plate_at(station) {
         Some(plate) => Some(Plate {
@@ -128,15 +134,24 @@ fn plate_left(book: &Book, station: Station) -> Option<Plate>
 }
 
 // Whether a plate was forged.
-fn is_forged(journal: &Journal, plate: PlateId) -> bool {
+fn is_forged(journal: &Journal, plate: PlateId) -> bool
+    ensures { result ≡ was_forged journal.now.entries plate }
+{
     for place in 0..journal.len() {
-        if let Entry::Forged { plate: forged, .. } = journal.at(place) {
-            if forged == plate {
-                return true;
-            }
+        if is_forging(journal.at(place), plate) {
+            return true;
         }
     }
     false
+}
+
+fn is_forging(entry: Entry, plate: PlateId) -> bool
+    ensures { result ≡ is_forging plate entry }
+{
+    match entry {
+        Entry::Forged { plate: forged, .. } => forged.number() == plate.number(),
+        _ => false,
+    }
 }
 
 // The plate that was delivered last.
