@@ -1,0 +1,6 @@
+//! The simulated cell as a whole cell that a controller on one thread reaches, with no lock round it.
+#![tactic(auto)]
+
+mod plant;
+
+pub use plant::SimPlant;
