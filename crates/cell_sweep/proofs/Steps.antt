@@ -1,7 +1,7 @@
 -- Steps of the loops of a sweep
-use Rattle.std.proofs.Common.{◌≡◌, ◌≢◌, inl, inr, ℕ, suc, ◌+◌, ◌<◌, ◌≤◌, Bool, true, false, List, [], ◌∷◌, ◌++◌, Option}
-use Rattle.std.proofs.Common.{Some, None, Result, Ok, Err, IfErr, IfOk, IsErr, OnOk, map, length, get_or, take, refl}
-use Rattle.std.proofs.Common.{sym, ap, subst, ◌∙◌, append_assoc, append-nil, add-one}
+use Rattle.std.proofs.Common.{◌≡◌, ◌≢◌, inl, inr, ℕ, suc, ◌+◌, ◌<◌, ◌≤◌, Bool, true, List, [], ◌∷◌, ◌++◌, Option}
+use Rattle.std.proofs.Common.{Some, None, Result, Ok, Err, IfErr, IfOk, IsErr, IsErrAnd, OnOk, map, length}
+use Rattle.std.proofs.Common.{get_or, take, refl, sym, ap, subst, ◌∙◌, append-nil, add-one}
 use Rattle.std.specs.Borrow.{Bor}
 use Rattle.std.specs.Io.KnownBytes.{Appends}
 use Rattle.std.specs.List.{flat_map}
@@ -13,9 +13,19 @@ use Rattle.cell_sim.specs.declared.fault.Fault.{Fault}
 use Rattle.cell_sim.specs.declared.fault.PlannedFault.{PlannedFault}
 use Rattle.cell_output.specs.Watched.{WritesPart}
 use Rattle.cell_output.specs.declared.watched.WriteFault.{WriteFault}
-use Rattle.cell_runs.specs.Inputs.{AreInputs}
+use Rattle.cell_rows.specs.Rows.{rows_of}
+use Rattle.cell_rows.specs.Scripts.{Gives, lines_of}
+use Rattle.cell_rows.specs.declared.script.LineError.{LineError}
+use Rattle.cell_settings.specs.Settings.{plan_numbers}
+use Rattle.cell_sim.specs.Script.{next_fault}
+use Rattle.operator_desk.specs.Lines.{line_of}
+use Rattle.operator_desk.specs.declared.line.Line.{Line}
+use Rattle.cell_runs.specs.Inputs.{AreFaults, AreInputs, AreLines, AreSettings}
+use Rattle.cell_runs.specs.Rounds.{IsRun}
+use Rattle.cell_runs.specs.Runs.{limits_of}
 use Rattle.cell_runs.specs.declared.inputs.Inputs.{Inputs}
 use Rattle.cell_runs.specs.declared.inputs.InputError.{InputError}
+use Rattle.cell_runs.specs.declared.inputs.InputError.TheVariants as input
 use Rattle.cell_types.specs.declared.words.Axis.{Axis}
 use Rattle.cell_types.specs.declared.words.Entry.{Entry}
 use Rattle.cell_explain.specs.Missed.{motions_of}
@@ -25,10 +35,11 @@ use Rattle.cell_sweep.specs.declared.runs.NoRun.{NoRun}
 use Rattle.cell_sweep.specs.declared.runs.NoRun.TheVariants as none
 use Rattle.cell_sweep.specs.declared.sweep.Stop.{Stop}
 use Rattle.cell_sweep.specs.declared.sweep.Stop.TheVariants as stop
-use Rattle.cell_sweep.specs.Cases.{cases_of, in_motions, planned, script_of}
+use Rattle.cell_sim.specs.Spelled.{script_of}
+use Rattle.cell_sweep.specs.Cases.{cases_of, in_motions, planned}
 use Rattle.cell_sweep.specs.Kinds.{kind_of}
 use Rattle.cell_sweep.specs.Rows.{Grows, GrowsBy, IsNoRun, IsScript, IsToldOf, RefusesRun, RefusesServed, RunsTo}
-use Rattle.cell_sweep.specs.Rows.{TellsRun, TellsServed, Told, csv_head, csv_line}
+use Rattle.cell_sweep.specs.Rows.{TellsRun, TellsServed, Told, csv_head, csv_line, ones}
 use Rattle.cell_sweep.specs.Sweeps.{AreCounts, EndsSo, IsSingle, RefusesSome, StopsSo, Sweeps, SweepsTexts, TellsCase}
 use Rattle.cell_sweep.specs.Sweeps.{TellsCases, Wanted}
 
@@ -202,25 +213,54 @@ grew-part old new text (n, inside, h) = (take n text, h)
 pub by-grows : (old new : Option (List ℕ)) (csv : Bool) (line : List ℕ) → GrowsBy old new csv line → Grows old new
 by-grows old new csv line (text, h, same) = (text, h)
 
--- what holds of a refusal holds more weakly
-pub norun-weaker : (P Q : InputError → Type 0) (why : NoRun) → ((e : InputError) → P e → Q e)
-    → IsNoRun P why → IsNoRun Q why
-norun-weaker P Q (none.Refused e) weaker refused = weaker e refused
-norun-weaker P Q none.OutOfMemory weaker refused = tt
+-- what three texts say leads to a run by them
+pub runs_to : (settings faults operator : List ℕ) (plan : Plan) (said : List PlannedFault) (script : List Line)
+    (J : List Entry) (e : End)
+    → AreSettings settings (plan_numbers plan) → AreFaults faults said → AreLines operator script
+    → IsRun (limits_of plan) plan script J e → RunsTo settings faults operator plan J e
+runs_to settings faults operator plan said script J e say mean want run =
+    (record { plan = plan; faults = said; script = script; durations = ones }, (say, mean, want), refl, run)
 
--- what refuses the run with these faults refuses a run of the sweep
-pub some-refused : (settings operator faults : List ℕ) (service : Bool) (why : NoRun) → IsSingle faults
-    → IsNoRun (RefusesServed settings operator service faults) why
-    → IsNoRun (RefusesSome settings operator service) why
-some-refused settings operator faults service why single refused =
-    norun-weaker _ _ why (λ e served. (faults, single, served)) refused
+-- the operator's script is refused, behind settings and faults that say something
+pub lines_refused : (settings faults operator : List ℕ) (plan : Plan) (said : List PlannedFault) (e : LineError)
+    → AreSettings settings (plan_numbers plan) → AreFaults faults said
+    → Gives (Err e) (lines_of line_of (rows_of operator))
+    → RefusesRun settings faults operator (input.Operator e)
+lines_refused settings faults operator plan said e say mean gives = (plan_numbers plan, say, (said, mean, gives))
 
--- what refuses a script refuses the run that goes by it
-pub served-refused : (settings operator faults script : List ℕ) (service : Bool) (why : NoRun)
-    → IsScript service operator script → IsNoRun (RefusesRun settings faults script) why
+-- the script of faults is refused, behind settings that say something, whatever the operator's script
+pub faults_refused : (settings operator faults : List ℕ) (service : Bool) (plan : Plan) (e : LineError)
+    → AreSettings settings (plan_numbers plan)
+    → Gives (Err e) (lines_of next_fault (rows_of faults))
+    → RefusesServed settings operator service faults (input.Faults e)
+faults_refused settings operator faults service plan e say gives =
+    (operator, (λ off. refl), (plan_numbers plan, say, gives))
+
+-- what holds of a refusal holds more weakly of the answer that hands it on
+pub hands_on : {X : Type 0} (r : Result X NoRun) (P Q : InputError → Type 0) (why : NoRun)
+    → ((e : InputError) → P e → Q e) → IsErrAnd r (λ e. e ≡ why) → IsNoRun P why → IfErr r (IsNoRun Q)
+hands_on (Ok x) P Q why weaker is refused = absurd is
+hands_on (Err none.OutOfMemory) P Q why weaker is refused = tt
+hands_on (Err (none.Refused e)) P Q why weaker is refused =
+    weaker e (subst (λ (w : NoRun). IsNoRun P w) (sym is) refused)
+
+-- what refuses a run by a script that serves, or by the operator's, refuses what asks for the run
+pub run_refused : {X : Type 0} (r : Result X NoRun) (settings operator faults script : List ℕ) (service : Bool)
+    (why : NoRun) → IsScript service operator script → IsErrAnd r (λ e. e ≡ why)
+    → IsNoRun (RefusesRun settings faults script) why
+    → IfErr r (IsNoRun (RefusesServed settings operator service faults))
+run_refused r settings operator faults script service why kept is refused =
+    hands_on r (RefusesRun settings faults script) (RefusesServed settings operator service faults) why
+    (λ e run. (script, kept, run)) is refused
+
+-- what refuses the run with a script of no fault, or of one, refuses a run of the sweep
+pub some_refused : {X : Type 0} (r : Result X NoRun) (settings operator faults text : List ℕ) (service : Bool)
+    (why : NoRun) → IsSingle text → faults ≡ text → IsErrAnd r (λ e. e ≡ why)
     → IsNoRun (RefusesServed settings operator service faults) why
-served-refused settings operator faults script service why is refused =
-    norun-weaker _ _ why (λ e run. (script, is, run)) refused
+    → IfErr r (IsNoRun (RefusesSome settings operator service))
+some_refused r settings operator faults text service why single same is refused =
+    hands_on r (RefusesServed settings operator service faults) (RefusesSome settings operator service) why
+    (λ e served. (faults, subst IsSingle (sym same) single, served)) is refused
 
 -- whether the sweep is whole or breaks off, what was written before it only grew
 pub swept-grows : (swept : Result Unit Stop) (settings operator : List ℕ) (w : Wanted) (old mid : Option (List ℕ))
@@ -230,25 +270,22 @@ swept-grows (Err why) settings operator w old mid told part = part refl
 
 -- where no text is refused, the sweep is whole, or it broke off and its status says so
 pub sweeps-or-breaks : (swept : Result Unit Stop) (ended : Result ℕ WriteFault) (settings operator : List ℕ)
-    (w : Wanted) (old mid new : Option (List ℕ)) (refused : Bool) (inputs : Result Inputs InputError)
-    → AreInputs settings [] operator inputs → ((e : InputError) → inputs ≢ Err e)
+    (w : Wanted) (old mid new : Option (List ℕ)) (refused : Bool) (inputs : Inputs)
+    → AreInputs settings [] operator (Ok inputs)
     → OnOk swept (Sweeps settings operator w old mid) → (IsErr swept → Grows old mid)
     → IfErr swept (StopsSo settings operator w.service refused)
     → IfOk ended (EndsSo mid new swept) → IfOk ended (λ status. SweepsTexts settings operator w old new status)
-sweeps-or-breaks swept (Err fault) settings operator w old mid new refused inputs are good told part stops ends = tt
-sweeps-or-breaks swept (Ok status) settings operator w old mid new refused (Err e) are good told part stops ends =
-    absurd (good e refl)
-sweeps-or-breaks (Ok done) (Ok status) settings operator w old mid new refused (Ok inputs) are good told part stops
-    (ok, same) =
+sweeps-or-breaks swept (Err fault) settings operator w old mid new refused inputs are told part stops ends = tt
+sweeps-or-breaks (Ok done) (Ok status) settings operator w old mid new refused inputs are told part stops (ok, same) =
     (Ok inputs, are, inl (ok, subst (Sweeps settings operator w old) (sym same) told))
-sweeps-or-breaks (Err (stop.NoRun (none.Refused e))) (Ok status) settings operator w old mid new refused (Ok inputs)
-    are good told part stops ends =
-    (Ok inputs, are, inr (inr (mid, part refl, (e, stops, ends))))
-sweeps-or-breaks (Err (stop.NoRun none.OutOfMemory)) (Ok status) settings operator w old mid new refused (Ok inputs)
-    are good told part stops (memory, same) =
-    (Ok inputs, are, inr (inl (memory, subst (Grows old) (sym same) (part refl))))
-sweeps-or-breaks (Err stop.WriteFault) (Ok status) settings operator w old mid new refused (Ok inputs) are good told
+sweeps-or-breaks (Err (stop.NoRun (none.Refused e))) (Ok status) settings operator w old mid new refused inputs are told
     part stops ends =
+    (Ok inputs, are, inr (inr (mid, part refl, (e, stops, ends))))
+sweeps-or-breaks (Err (stop.NoRun none.OutOfMemory)) (Ok status) settings operator w old mid new refused inputs are told
+    part stops (memory, same) =
+    (Ok inputs, are, inr (inl (memory, subst (Grows old) (sym same) (part refl))))
+sweeps-or-breaks (Err stop.WriteFault) (Ok status) settings operator w old mid new refused inputs are told part stops
+    ends =
     absurd ends
 
 -- the writer stops a sweep only where a write was refused

@@ -8,7 +8,7 @@ use Rattle.cell_types.specs.Numbers.{number_to}
 use Rattle.cell_types.specs.Texts.{find_word}
 use Rattle.cell_sweep.specs.declared.kinds.KindsError.{KindsError}
 use Rattle.cell_sweep.specs.declared.kinds.KindsError.TheVariants as wrong
-use Rattle.cell_sweep.specs.Cases.{word_of}
+use Rattle.cell_sim.specs.Spelled.{word_of}
 
 -- every kind of fault, each that takes a number of readings with 30 of them
 abbrev pub all_kinds : List Fault

@@ -1,5 +1,5 @@
 -- What is told of each run of a sweep
-use Rattle.std.specs.Prelude.{◌≡◌, ◌==◌, ℕ, Bool, true, false, List, [], ◌∷◌, ◌++◌, Option, Some, None, Result, Ok, Err}
+use Rattle.std.specs.Prelude.{◌≡◌, ◌==◌, ℕ, Bool, true, false, List, [], ◌∷◌, ◌++◌, Option, Some, None, Ok, Err}
 use Rattle.std.specs.Prelude.{codes, decimal, if◌then◌else◌, replicate, ⊤}
 use Rattle.std.specs.List.{flat_map}
 use Rattle.std.specs.Io.KnownBytes.{Appends}
@@ -22,7 +22,7 @@ use Rattle.cell_measures.specs.Times.{times}
 use Rattle.cell_measures.specs.declared.durations.Durations.{Durations}
 use Rattle.cell_sweep.specs.declared.runs.NoRun.{NoRun}
 use Rattle.cell_sweep.specs.declared.runs.NoRun.TheVariants as none
-use Rattle.cell_sweep.specs.Cases.{readings_of, script_of, word_of}
+use Rattle.cell_sim.specs.Spelled.{readings_of, script_of, word_of}
 
 -- what is told of the run with one fault
 pub record Told : Type 0 where

@@ -1,5 +1,5 @@
 -- What is written of a sweep
-use Rattle.std.specs.Prelude.{◌≡◌, ◌⊎◌, ℕ, Bool, true, List, [], ◌++◌, map, All, Option, Some, None, Result, Ok, Err, ⊤}
+use Rattle.std.specs.Prelude.{◌≡◌, ◌⊎◌, ℕ, Bool, true, List, [], ◌++◌, map, All, Option, Some, None, Result, Ok, Err}
 use Rattle.std.specs.List.{flat_map}
 use Rattle.cell_types.specs.declared.words.Axis.{Axis}
 use Rattle.cell_types.specs.declared.words.Entry.{Entry}
@@ -14,7 +14,8 @@ use Rattle.cell_explain.specs.Missed.{motions_of}
 use Rattle.cell_sweep.specs.declared.runs.NoRun.TheVariants as none
 use Rattle.cell_sweep.specs.declared.sweep.Stop.{Stop}
 use Rattle.cell_sweep.specs.declared.sweep.Stop.TheVariants as stop
-use Rattle.cell_sweep.specs.Cases.{cases_of, script_of}
+use Rattle.cell_sim.specs.Spelled.{script_of}
+use Rattle.cell_sweep.specs.Cases.{cases_of}
 use Rattle.cell_sweep.specs.Rows.{Grows, GrowsBy, IsNoRun, IsScript, RefusesServed, RunsTo, TellsServed, Told, csv_head}
 use Rattle.cell_sweep.specs.Rows.{csv_line}
 

@@ -1,8 +1,8 @@
 //! The script of a fault.
 ghost use Rattle.std.specs.Prelude.{◌≡◌, IfOk, string_bytes};
-ghost use Rattle.cell_sweep.specs.Cases.{script_of};
+ghost use Rattle.cell_sim.specs.Spelled.{script_of};
 
-use crate::kinds::{readings_of, word_of};
+use crate::kinds::word_of;
 use cell_sim::PlannedFault;
 use cell_types::texts::axis_word;
 use std::alloc::{AllocError, Global};
@@ -14,7 +14,7 @@ pub(crate) fn script_of(alloc: Global, planned: PlannedFault) -> Result<String, 
     let axis = axis_word(planned.axis);
     let motion = planned.motion;
     let kind = word_of(planned.fault);
-    match readings_of(planned.fault) {
+    match planned.fault.readings() {
         Some(readings) => format!(in alloc; "{axis},{motion},{kind},{readings}\n"),
         None => format!(in alloc; "{axis},{motion},{kind},\n"),
     }

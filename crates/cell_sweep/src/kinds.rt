@@ -1,6 +1,6 @@
 //! The kinds of faults that a sweep goes through.
 ghost use Rattle.std.specs.Prelude.{◌≡◌, ◌∷◌, ◌++◌, [], map, IfErr, IfOk, OnOk};
-ghost use Rattle.cell_sweep.specs.Cases.{readings_of, word_of};
+ghost use Rattle.cell_sim.specs.Spelled.{word_of};
 ghost use Rattle.cell_sweep.specs.Kinds.{IsNoList, NamesKinds, kind_named, kind_of, number_of, parts_of, with_readings};
 
 use cell_sim::Fault;
@@ -56,16 +56,6 @@ pub(crate) fn word_of(kind: Fault) -> &'static str
         Fault::LosePlate => "lose_plate",
         Fault::Silent(_) => "silent",
         Fault::RefuseCommand => "refuse_command",
-    }
-}
-
-/// How many readings a kind has that takes a number.
-pub(crate) fn readings_of(kind: Fault) -> Option<u32>
-    ensures { result ≡ readings_of kind }
-{
-    match kind {
-        Fault::Slow(readings) | Fault::Silent(readings) => Some(readings),
-        _ => None,
     }
 }
 

@@ -10,6 +10,7 @@ mod row;
 mod runs;
 mod service;
 mod sweep;
+mod texts;
 
 pub use kinds::{KINDS, KindsError, read_kinds};
 pub use sweep::{Sweep, sweep_texts};

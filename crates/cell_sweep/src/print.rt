@@ -4,7 +4,7 @@ ghost use Rattle.std.specs.Io.KnownBytes.{Appends};
 ghost use Rattle.cell_runs.specs.Runs.{word_of as end_word};
 ghost use Rattle.cell_sweep.specs.Rows.{csv_head, csv_line, kind_text, quoted, quoted_byte, quoted_if_any};
 
-use crate::kinds::{readings_of, word_of};
+use crate::kinds::word_of;
 use crate::row::Row;
 use cell_sim::Fault;
 use cell_types::texts::axis_word;
@@ -38,7 +38,7 @@ fn kind_text(alloc: Global, kind: Fault) -> std::result::Result<String, AllocErr
     ensures { IfOk result (λ text. string_bytes text ≡ kind_text kind) }
 {
     let word = word_of(kind);
-    match readings_of(kind) {
+    match kind.readings() {
         Some(readings) => format!(in alloc; "{word}:{readings}"),
         None => String::from_str(alloc, word),
     }

@@ -1,6 +1,6 @@
 //! What is told of each run of a sweep.
 ghost use Rattle.std.specs.Prelude.{◌≡◌, IfOk};
-ghost use Rattle.cell_sweep.specs.Cases.{script_of};
+ghost use Rattle.cell_sim.specs.Spelled.{script_of};
 ghost use Rattle.cell_sweep.specs.Rows.{IsToldOf, IsWait, first_line};
 
 use crate::runs::Ran;

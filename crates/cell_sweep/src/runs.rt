@@ -2,11 +2,13 @@
 ghost use Rattle.std.specs.Prelude.{IfErr, IfOk};
 ghost use Rattle.cell_sweep.specs.Rows.{IsNoRun, RefusesRun, RunsTo};
 
+use crate::texts::{Faults, Settings};
 use cell_measures::Durations;
 use cell_ports::Plan;
-use cell_runs::{InputError, Inputs, Outcome, Texts, read_inputs, simulate};
+use cell_runs::{InputError, Outcome, simulate};
 use cell_sim::{SimOperator, World};
 use cell_workers::End;
+use operator_desk::Script;
 use std::alloc::AllocError;
 use std::sync::{Mutex, Wait};
 
@@ -40,34 +42,25 @@ pub(crate) struct Ran {
 }
 
 /// Runs the simulated cell by its texts over a new world. A run that ends for want of memory is none.
+#[tactic(auto, using(crate::proofs::Steps::lines_refused))]
 pub(crate) fn run_alone<R: AllocGlobal + Wait>(
     rt: &R,
-    settings: &[u8],
-    faults: &[u8],
+    settings: &Settings<'_>,
+    faults: &Faults<'_>,
     operator: &[u8],
 ) -> Result<Ran, NoRun>
-    ensures ran { IfOk result (λ ran. RunsTo settings.now faults.now operator.now ran.plan ran.outcome.book.entries
-        ran.outcome.end) }
-    ensures refused { IfErr result (IsNoRun (RefusesRun settings.now faults.now operator.now)) }
+    ensures ran { IfOk result (λ ran. RunsTo settings.now.text.now faults.now.text.now operator.now ran.plan
+        ran.outcome.book.entries ran.outcome.end) }
+    ensures refused { IfErr result (IsNoRun (RefusesRun settings.now.text.now faults.now.text.now operator.now)) }
 {
-    let texts = Texts {
-        settings,
-        faults,
-        operator,
-        durations: Durations::ONE,
+    let plan = settings.plan;
+    let script = match Script::read(rt.alloc(), operator) {
+        Ok(script) => script,
+        Err(error) => return Err(NoRun::Refused(InputError::Operator(error))),
     };
-    let Inputs {
-        plan,
-        faults,
-        script,
-        durations,
-    } = match read_inputs(rt.alloc(), texts) {
-        Ok(inputs) => inputs,
-        Err(error) => return Err(NoRun::Refused(error)),
-    };
-    let world = Mutex::new(World::new(plan.plates).with_durations(durations));
+    let world = Mutex::new(World::new(plan.plates).with_durations(Durations::ONE));
     let hands = SimOperator::new(rt, &world);
-    match simulate(rt, &plan, &faults, script, &world, hands) {
+    match simulate(rt, &plan, &faults.script, script, &world, hands) {
         Ok(outcome) if matches!(outcome.end, End::Memory) => Err(NoRun::OutOfMemory),
         Ok(outcome) => {
             let left = world.lock(rt).left();

@@ -4,6 +4,7 @@ ghost use Rattle.cell_sweep.specs.Rows.{IsNoRun, RefusesServed};
 
 use crate::lines::text_of;
 use crate::runs::{NoRun, Ran, run_alone};
+use crate::texts::{Faults, Settings};
 use cell_explain::endings::lines_done;
 use cell_rows::read_script;
 use cell_types::{Entry, MACHINES, Machine, PlateId, Station, stations_of};
@@ -144,11 +145,12 @@ fn lines_of(alloc: Global, operator: &[u8]) -> Result<Vec<Line>, AllocError> {
 /// try, before the first line that wasn't done in that. A script that grows beyond what a run takes is refused as any.
 pub(crate) fn serve<R: AllocGlobal + Wait>(
     rt: &R,
-    settings: &[u8],
-    faults: &[u8],
+    settings: &Settings<'_>,
+    faults: &Faults<'_>,
     operator: &[u8],
 ) -> Result<Vec<u8>, NoRun>
-    ensures refused { IfErr result (IsNoRun (RefusesServed settings.now operator.now true faults.now)) }
+    ensures refused { IfErr result (IsNoRun (RefusesServed settings.now.text.now operator.now true
+        faults.now.text.now)) }
 {
     let alloc = rt.alloc();
     let mut script = lines_of(alloc, operator)?;

@@ -2,6 +2,7 @@
 ghost use Rattle.std.specs.Prelude.{◌≡◌, true, Err, IfErr, IfOk, IsErr, OnOk, map, slice_index};
 ghost use Rattle.cell_output.specs.Watched.{IsSameWriter, bytes_held, has_refused};
 ghost use Rattle.cell_types.specs.Same.{axis_number};
+ghost use Rattle.cell_sim.specs.Spelled.{script_of};
 ghost use Rattle.cell_sweep.specs.Cases.{cases_of, in_motions, planned};
 ghost use Rattle.cell_sweep.specs.declared.sweep.Stop.TheVariants as stop;
 ghost use Rattle.cell_sweep.specs.Rows.{Grows, IsNoRun, IsScript, RefusesServed, TellsServed};
@@ -13,13 +14,14 @@ use crate::print::{Ends, counts_text, head_of, line_of};
 use crate::row::{Row, row_of};
 use crate::runs::{NoRun, run_alone};
 use crate::service::serve;
+use crate::texts::{Faults, Settings};
 use cell_explain::endings::motions;
 use cell_measures::Durations;
 use cell_output::{WatchedWriter, WriteFault, status};
-use cell_runs::{Texts, read_inputs, refuse_input};
-use cell_sim::{Fault, PlannedFault};
+use cell_runs::{InputError, Texts, read_inputs, refuse_input};
+use cell_sim::{Fault, FaultScript, PlannedFault};
 use cell_types::{AXES, Axis, axis_number};
-use std::alloc::AllocError;
+use std::alloc::{AllocError, Global};
 use std::io::Write;
 use std::sync::Wait;
 
@@ -84,7 +86,7 @@ impl From<AllocError> for Stop {
 // The texts of a sweep, and what it goes through.
 #[derive(Clone, Copy)]
 struct Task<'a> {
-    settings: &'a [u8],
+    settings: &'a Settings<'a>,
     operator: &'a [u8],
     sweep: Sweep<'a>,
 }
@@ -102,16 +104,46 @@ struct Tally<'a, E> {
 fn script_for<R: AllocGlobal + Wait>(
     rt: &R,
     task: &Task<'_>,
-    faults: &[u8],
+    faults: &Faults<'_>,
 ) -> Result<Vec<u8>, NoRun>
     ensures script { IfOk result (λ script. IsScript task.now.sweep.service task.now.operator.now script.items) }
-    ensures refused { IfErr result (IsNoRun (RefusesServed task.now.settings.now task.now.operator.now
-        task.now.sweep.service faults.now)) }
+    ensures refused { IfErr result (IsNoRun (RefusesServed task.now.settings.now.text.now task.now.operator.now
+        task.now.sweep.service faults.now.text.now)) }
 {
     if task.sweep.service {
         serve(rt, task.settings, faults, task.operator)
     } else {
         Ok(Vec::from_slice(rt.alloc(), task.operator)?)
+    }
+}
+
+// A script of faults that is read.
+fn read_faults<'a>(alloc: Global, task: &Task<'_>, text: &'a [u8]) -> Result<Faults<'a>, NoRun>
+    ensures text { IfOk result (λ faults. faults.text.now ≡ text.now) }
+    ensures refused { IfErr result (IsNoRun (RefusesServed task.now.settings.now.text.now task.now.operator.now
+        task.now.sweep.service text.now)) }
+{
+    match FaultScript::read(alloc, text) {
+        Ok(script) => Ok(Faults { text, script }),
+        Err(error) => Err(NoRun::Refused(InputError::Faults(error))),
+    }
+}
+
+// The script with one fault, of which this is the text. It is read only where no record can say the fault.
+fn faults_of<'a>(
+    alloc: Global,
+    task: &Task<'_>,
+    planned: PlannedFault,
+    text: &'a [u8],
+) -> Result<Faults<'a>, NoRun>
+    requires { text.now ≡ script_of planned }
+    ensures text { IfOk result (λ faults. faults.text.now ≡ text.now) }
+    ensures refused { IfErr result (IsNoRun (RefusesServed task.now.settings.now.text.now task.now.operator.now
+        task.now.sweep.service text.now)) }
+{
+    match FaultScript::of_fault(alloc, planned)? {
+        Some(script) => Ok(Faults { text, script }),
+        None => read_faults(alloc, task, text),
     }
 }
 
@@ -122,16 +154,20 @@ fn run_case<R: AllocGlobal + Wait>(
     planned: PlannedFault,
 ) -> Result<Row, NoRun>
     ensures planned { IfOk result (λ row. row.planned ≡ planned) }
-    ensures told { IfOk result (λ row. TellsServed task.now.settings.now task.now.operator.now task.now.sweep.service
-        row) }
-    ensures refused { IfErr result (IsNoRun (RefusesSome task.now.settings.now task.now.operator.now
+    ensures told { IfOk result (λ row. TellsServed task.now.settings.now.text.now task.now.operator.now
+        task.now.sweep.service row) }
+    ensures refused { IfErr result (IsNoRun (RefusesSome task.now.settings.now.text.now task.now.operator.now
         task.now.sweep.service)) }
 {
-    let faults = script_of(rt.alloc(), planned)?;
-    let faults = faults.as_str().as_bytes();
-    let operator = script_for(rt, task, faults)?;
-    let ran = run_alone(rt, task.settings, faults, operator.as_slice())?;
-    let row = row_of(rt.alloc(), planned, &ran, faults, operator.as_slice())?;
+    let script = script_of(rt.alloc(), planned)?;
+    let text = script.as_str().as_bytes();
+    let faults = match faults_of(rt.alloc(), task, planned, text) {
+        Ok(faults) => faults,
+        Err(why) => return Err(why),
+    };
+    let operator = script_for(rt, task, &faults)?;
+    let ran = run_alone(rt, task.settings, &faults, operator.as_slice())?;
+    let row = row_of(rt.alloc(), planned, &ran, text, operator.as_slice())?;
     Ok(row)
 }
 
@@ -146,16 +182,20 @@ fn count_all(counts: &[u32; 9], kinds: &[Fault]) -> u64 {
 
 // How many motions of each axis the sweep goes through.
 fn counts_of<R: AllocGlobal + Wait>(rt: &R, task: &Task<'_>) -> Result<[u32; 9], NoRun>
-    ensures counts { IfOk result (λ counts. AreCounts task.now.settings.now task.now.operator.now task.now.sweep.service
-        task.now.sweep.motions (λ a. slice_index counts (axis_number a))) }
-    ensures refused { IfErr result (IsNoRun (RefusesSome task.now.settings.now task.now.operator.now
+    ensures counts { IfOk result (λ counts. AreCounts task.now.settings.now.text.now task.now.operator.now
+        task.now.sweep.service task.now.sweep.motions (λ a. slice_index counts (axis_number a))) }
+    ensures refused { IfErr result (IsNoRun (RefusesSome task.now.settings.now.text.now task.now.operator.now
         task.now.sweep.service)) }
 {
     if let Some(count) = task.sweep.motions {
         return Ok([count; 9]);
     }
-    let operator = script_for(rt, task, b"")?;
-    let ran = run_alone(rt, task.settings, b"", operator.as_slice())?;
+    let faults = match read_faults(rt.alloc(), task, b"") {
+        Ok(faults) => faults,
+        Err(why) => return Err(why),
+    };
+    let operator = script_for(rt, task, &faults)?;
+    let ran = run_alone(rt, task.settings, &faults, operator.as_slice())?;
     Ok(motions(ran.outcome.book.journal(), 0))
 }
 
@@ -176,11 +216,11 @@ fn write_case<R: AllocGlobal + Wait, W: Write, E: Write>(
     tally: &mut Tally<'_, E>,
 ) -> Result<(), Stop>
     ensures writer { IsSameWriter writer.old writer.new }
-    ensures told { OnOk result (TellsCase task.now.settings.now task.now.operator.now
+    ensures told { OnOk result (TellsCase task.now.settings.now.text.now task.now.operator.now
         (wanted task.now.sweep.kinds.now task.now.sweep.motions task.now.sweep.service task.now.sweep.csv) planned
         (bytes_held W.contents writer.old) (bytes_held W.contents writer.new)) }
     ensures part { IsErr result → Grows (bytes_held W.contents writer.old) (bytes_held W.contents writer.new) }
-    ensures stops { IfErr result (StopsSo task.now.settings.now task.now.operator.now task.now.sweep.service
+    ensures stops { IfErr result (StopsSo task.now.settings.now.text.now task.now.operator.now task.now.sweep.service
         (has_refused writer.new)) }
 {
     let row = run_case(rt, task, planned)?;
@@ -203,12 +243,12 @@ fn write_kinds<R: AllocGlobal + Wait, W: Write, E: Write>(
     tally: &mut Tally<'_, E>,
 ) -> Result<(), Stop>
     ensures writer { IsSameWriter writer.old writer.new }
-    ensures told { OnOk result (TellsCases task.now.settings.now task.now.operator.now
+    ensures told { OnOk result (TellsCases task.now.settings.now.text.now task.now.operator.now
         (wanted task.now.sweep.kinds.now task.now.sweep.motions task.now.sweep.service task.now.sweep.csv)
         (map (planned axis motion) task.now.sweep.kinds.now)
         (bytes_held W.contents writer.old) (bytes_held W.contents writer.new)) }
     ensures part { IsErr result → Grows (bytes_held W.contents writer.old) (bytes_held W.contents writer.new) }
-    ensures stops { IfErr result (StopsSo task.now.settings.now task.now.operator.now task.now.sweep.service
+    ensures stops { IfErr result (StopsSo task.now.settings.now.text.now task.now.operator.now task.now.sweep.service
         (has_refused writer.new)) }
 {
     for kind in task.sweep.kinds {
@@ -232,12 +272,12 @@ fn write_motions<R: AllocGlobal + Wait, W: Write, E: Write>(
     tally: &mut Tally<'_, E>,
 ) -> Result<(), Stop>
     ensures writer { IsSameWriter writer.old writer.new }
-    ensures told { OnOk result (TellsCases task.now.settings.now task.now.operator.now
+    ensures told { OnOk result (TellsCases task.now.settings.now.text.now task.now.operator.now
         (wanted task.now.sweep.kinds.now task.now.sweep.motions task.now.sweep.service task.now.sweep.csv)
         (in_motions task.now.sweep.kinds.now axis count)
         (bytes_held W.contents writer.old) (bytes_held W.contents writer.new)) }
     ensures part { IsErr result → Grows (bytes_held W.contents writer.old) (bytes_held W.contents writer.new) }
-    ensures stops { IfErr result (StopsSo task.now.settings.now task.now.operator.now task.now.sweep.service
+    ensures stops { IfErr result (StopsSo task.now.settings.now.text.now task.now.operator.now task.now.sweep.service
         (has_refused writer.new)) }
 {
     for before in 0..count {
@@ -255,12 +295,12 @@ fn write_rows<R: AllocGlobal + Wait, W: Write, E: Write>(
     tally: &mut Tally<'_, E>,
 ) -> Result<(), Stop>
     ensures writer { IsSameWriter writer.old writer.new }
-    ensures told { OnOk result (TellsCases task.now.settings.now task.now.operator.now
+    ensures told { OnOk result (TellsCases task.now.settings.now.text.now task.now.operator.now
         (wanted task.now.sweep.kinds.now task.now.sweep.motions task.now.sweep.service task.now.sweep.csv)
         (cases_of (λ a. slice_index counts.now (axis_number a)) task.now.sweep.kinds.now)
         (bytes_held W.contents writer.old) (bytes_held W.contents writer.new)) }
     ensures part { IsErr result → Grows (bytes_held W.contents writer.old) (bytes_held W.contents writer.new) }
-    ensures stops { IfErr result (StopsSo task.now.settings.now task.now.operator.now task.now.sweep.service
+    ensures stops { IfErr result (StopsSo task.now.settings.now.text.now task.now.operator.now task.now.sweep.service
         (has_refused writer.new)) }
 {
     for axis in AXES {
@@ -278,11 +318,11 @@ fn write_sweep<R: AllocGlobal + Wait, W: Write, E: Write>(
     errors: &mut E,
 ) -> Result<(), Stop>
     ensures writer { IsSameWriter writer.old writer.new }
-    ensures told { OnOk result (Sweeps task.now.settings.now task.now.operator.now
+    ensures told { OnOk result (Sweeps task.now.settings.now.text.now task.now.operator.now
         (wanted task.now.sweep.kinds.now task.now.sweep.motions task.now.sweep.service task.now.sweep.csv)
         (bytes_held W.contents writer.old) (bytes_held W.contents writer.new)) }
     ensures part { IsErr result → Grows (bytes_held W.contents writer.old) (bytes_held W.contents writer.new) }
-    ensures stops { IfErr result (StopsSo task.now.settings.now task.now.operator.now task.now.sweep.service
+    ensures stops { IfErr result (StopsSo task.now.settings.now.text.now task.now.operator.now task.now.sweep.service
         (has_refused writer.new)) }
 {
     let csv = task.sweep.csv;
@@ -350,11 +390,16 @@ pub fn sweep_texts<R: AllocGlobal + Wait, W: Write, E: Write>(
         operator,
         durations: Durations::ONE,
     };
-    if let Err(error) = read_inputs(rt.alloc(), texts) {
-        return refuse_input(writer, error);
-    }
+    let inputs = match read_inputs(rt.alloc(), texts) {
+        Ok(inputs) => inputs,
+        Err(error) => return refuse_input(writer, error),
+    };
+    let read = Settings {
+        text: settings,
+        plan: inputs.plan,
+    };
     let task = Task {
-        settings,
+        settings: &read,
         operator,
         sweep,
     };

@@ -8,8 +8,8 @@ returns-clause-writer g c = c.end_sweep.ensures.writer ∙ c.write_sweep-swept.e
 
 pub returns-clause-whole : goal.returns-clause-whole
 returns-clause-whole g c =
-    sweeps-or-breaks c.write_sweep-swept.result c.end_sweep.result _ _ _ _ _ _ _ c.read_inputs.result
-    c.read_inputs.ensures.inputs c.in_default.not-Err c.write_sweep-swept.ensures.told c.write_sweep-swept.ensures.part
+    sweeps-or-breaks c.write_sweep-swept.result c.end_sweep.result _ _ _ _ _ _ _ c.in-Ok.inputs
+    c.in-Ok.ensures.inputs c.write_sweep-swept.ensures.told c.write_sweep-swept.ensures.part
     c.write_sweep-swept.ensures.stops c.end_sweep.ensures.status
 
 pub returns-clause-part : goal.returns-clause-part

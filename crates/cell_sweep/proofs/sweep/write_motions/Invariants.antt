@@ -8,7 +8,7 @@ use Rattle.cell_sweep.proofs.sweep.write_motions.Given as goal
 abbrev pub invariant-loop-before : goal.invariant-loop-before
 invariant-loop-before g l =
     IsSameWriter l.fn.writer l.writer
-    × TellsCases l.task.settings.now l.task.operator.now
+    × TellsCases l.task.settings.now.text.now l.task.operator.now
     (wanted l.task.sweep.kinds.now l.task.sweep.motions l.task.sweep.service l.task.sweep.csv)
     (in_motions l.task.sweep.kinds.now l.axis l.before)
     (bytes_held g.W.Write.contents l.fn.writer) (bytes_held g.W.Write.contents l.writer)

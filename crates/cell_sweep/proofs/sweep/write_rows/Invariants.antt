@@ -14,7 +14,7 @@ abbrev pub invariant-loop-axis : goal.invariant-loop-axis
 invariant-loop-axis g l =
     (l.axis-items ≡ all_axis)
     × IsSameWriter l.fn.writer l.writer
-    × TellsCases l.task.settings.now l.task.operator.now
+    × TellsCases l.task.settings.now.text.now l.task.operator.now
     (wanted l.task.sweep.kinds.now l.task.sweep.motions l.task.sweep.service l.task.sweep.csv)
     (flat_map (λ (a : Axis). in_motions l.task.sweep.kinds.now a (get_or l.counts (axis_number a) 0))
     (take l.axis-index l.axis-items))
