@@ -11,6 +11,7 @@ const address = pathToFileURL(page).href;
 const each = (read) => ask(`[...document.querySelectorAll("iframe")].map((frame) => (${read})(frame.contentDocument))`);
 const entries = () => each('(inner) => Number(inner.getElementById("number").value)');
 const lasts = () => each('(inner) => Number(inner.getElementById("slider").max)');
+const firsts = () => each('(inner) => Number(inner.getElementById("slider").min)');
 const press = (frame, id) => ask(`document.querySelectorAll("iframe")[${frame}].contentDocument.getElementById("${id}").click()`);
 const open = async (hash) => {
   await tell("Page.navigate", { url: "about:blank" });
@@ -28,46 +29,57 @@ const picture = async (name) => {
 };
 
 let ends = [];
-// Both pages after so many entries, the shorter one at its end.
-const both = (i) => ends.map((end) => Math.min(end, Math.max(0, i)));
-const go = async (what, act, wanted) => { await act(); await sleep(100); check(what, await entries(), wanted); };
+let begin = 0;
+// Both pages after so many entries, each one at its end where it has fewer.
+const both = (i) => ends.map((end) => Math.min(end, Math.max(begin, i)));
+// Waits until both pages are there, for two seconds at most, since a step goes from page to page by messages.
+const settle = async (wanted) => {
+  await sleep(100);
+  for (let k = 0; k < 40 && String(await entries()) !== String(wanted); k += 1) await sleep(50);
+  return entries();
+};
+const go = async (what, act, wanted) => { await act(); check(what, await settle(wanted), wanted); };
 const checkTogether = async () => {
-  await open("#entry=2");
-  check("the address opens both", await entries(), both(2));
-  await go("right", () => key("ArrowRight", 39), both(3));
-  await go("page up", () => key("PageUp", 33), both(2));
-  await go("left", () => key("ArrowLeft", 37), both(1));
+  await open("#entry=" + (begin + 2));
+  check("the address opens both", await settle(both(begin + 2)), both(begin + 2));
+  await go("right", () => key("ArrowRight", 39), both(begin + 3));
+  await go("page up", () => key("PageUp", 33), both(begin + 2));
+  await go("left", () => key("ArrowLeft", 37), both(begin + 1));
   await go("end", () => key("End", 35), both(Math.max(...ends)));
   await go("right at the end", () => key("ArrowRight", 39), both(Math.max(...ends)));
-  await go("home", () => key("Home", 36), [0, 0]);
-  for (const [move, i] of [["ArrowRight", 1], ["End", Math.max(...ends)], ["ArrowLeft", Math.max(...ends) - 1], ["Home", 0]]) {
+  await go("home", () => key("Home", 36), both(0));
+  for (const [move, i] of [["ArrowRight", begin + 1], ["End", Math.max(...ends)], ["ArrowLeft", Math.max(...ends) - 1], ["Home", 0]]) {
     await go(`the button ${move}`, () => ask(`document.querySelector("[data-move=${move}]").click()`), both(i));
   }
-  await go("a step in the first page", () => press(0, "forward"), both(1));
-  await go("a step in the second page", () => press(1, "forward"), both(2));
+  await go("a step in the first page", () => press(0, "forward"), both(begin + 1));
+  await go("a step in the second page", () => press(1, "forward"), both(begin + 2));
   await go("the end of the first page", () => press(0, "end"), both(ends[0]));
   check("the address tells the entry", await ask("location.hash"), "#entry=" + ends[0]);
 };
 const checkAlone = async () => {
   await open("");
   await ask("document.getElementById('together').click()");
-  await go("a step in the first page alone", () => press(0, "forward"), [1, 0]);
-  await go("the end of the second page alone", () => press(1, "end"), [1, ends[1]]);
+  const step = both(begin + 1)[0];
+  await go("a step in the first page alone", () => press(0, "forward"), [step, both(0)[1]]);
+  await go("the end of the second page alone", () => press(1, "end"), [step, ends[1]]);
 };
 // Both play by one clock, and the first difference is told and marked.
 const checkDifferences = async () => {
   await open("");
   const records = await each('(inner) => JSON.parse(inner.getElementById("journal").textContent).rows.map((row) => row[12])');
+  const counts = await each('(inner) => JSON.parse(inner.getElementById("journal").textContent).entries');
   const longest = Math.max(...records.map((list) => list.length));
-  const first = Array.from({ length: longest }, (_, i) => i).find((i) => i > 0 && records[0][i] !== records[1][i]);
+  const place = Array.from({ length: longest }, (_, i) => i).find((i) => begin + i > 0 && records[0][i] !== records[1][i]);
+  const first = place === undefined ? undefined : begin + place;
+  const isPart = begin > 0 || records.some((list, k) => list.length <= counts[k]);
   check("the first difference", await ask("document.getElementById('difference').textContent"),
-    first === undefined ? "No difference in their good entries" : "First difference: entry " + first);
+    first === undefined ? "No difference in their good entries" + (isPart ? " that are shown" : "") : "First difference: entry " + first);
   if (first !== undefined) {
     await go("to the first difference", () => ask("document.getElementById('to-difference').click()"), both(first));
     const marked = await each('(inner) => inner.querySelectorAll("#cell .differs").length > 0');
     check("what differs is marked", marked, [true, true]);
   }
-  await go("home", () => key("Home", 36), [0, 0]);
+  await go("home", () => key("Home", 36), both(0));
   await each('(inner) => { inner.getElementById("speed").value = "100"; }');
   await ask("document.getElementById('play-both').click()");
   for (let k = 0; k < 5; k += 1) {
@@ -79,11 +91,11 @@ const checkDifferences = async () => {
   const paused = await entries();
   await sleep(300);
   check("both pause", await entries(), paused);
-  check("both played", paused.some((entry) => entry > 0), true);
-  await go("home again", () => key("Home", 36), [0, 0]);
+  check("both played", paused.some((entry) => entry > begin), true);
+  await go("home again", () => key("Home", 36), both(0));
   await press(0, "play");
   await sleep(400);
-  check("play in one page plays both", (await entries()).every((entry) => entry > 0), true);
+  check("play in one page plays both", (await entries()).every((entry) => entry > begin), true);
   await press(1, "play");
   console.log("the first difference, its marks and play were tried");
 };
@@ -108,8 +120,13 @@ const checkWithoutScripts = async () => {
 };
 await finish(address, async () => {
   await open("");
-  check("there are two pages, which begin at the start", await entries(), [0, 0]);
   ends = await lasts();
+  begin = Math.max(...(await firsts()));
+  check("there are two pages, which begin at the start", await entries(), both(0));
+  // The names of the files, where they are told (NAMES, as "one|other").
+  const heads = await ask("[...document.querySelectorAll('main > h2')].map((head) => head.textContent)");
+  const names = process.env.NAMES?.split("|") ?? heads.map((head) => head.split(": ").slice(1).join(": "));
+  check("the heads have the files' names", heads, ["The journal: " + names[0], "The other one, of --beside: " + names[1]]);
   await checkTogether();
   await checkAlone();
   await checkDifferences();

@@ -8,7 +8,9 @@ const [page, pictures] = process.argv.slice(2);
 const address = pathToFileURL(page).href;
 const text = readFileSync(page, "utf8");
 const journal = JSON.parse(text.split('<script type="application/json" id="journal">')[1].split("</script>")[0]);
-const { machines, stations, parts, movers, poses, ways, zones, geometry, rows, waits, refused } = journal;
+const { machines, stations, parts, movers, poses, ways, zones, geometry, first: begin, entries, waits, refused } = journal;
+// The row after each number of entries, from that of the first one that is shown on.
+const rows = Array(begin).concat(journal.rows);
 // A step more where a record is refused or can't be read.
 const good = rows.length - 1;
 if (refused !== null) rows.push([...rows[good].slice(0, 11), ...refused.slice(3)]);
@@ -16,14 +18,17 @@ const last = rows.length - 1;
 // The time at which each entry ends, where the page has times.
 const ends = /<metadata>([^<]*)</.exec(text.split('class="chart"')[1] ?? "")?.[1].trim().split(/\s+/).map(Number) ?? [];
 // What each machine waits for. In the data 0 stands where that is as in the state before.
-const waiting = [];
-rows.forEach((_, i) => waiting.push((waits[i] ?? [0, 0, 0, 0, 0, 0]).map((cell, m) => (cell === 0 ? waiting[i - 1]?.[m] ?? [] : cell))));
+const waiting = Array(begin);
+for (let i = begin; i <= last; i += 1)
+  waiting.push((waits[i - begin] ?? [0, 0, 0, 0, 0, 0]).map((cell, m) => (cell === 0 ? waiting[i - 1]?.[m] ?? [] : cell)));
 // A held zone is told with its holder.
 const holderTold = (part, i) => (!part.startsWith("zone-") || rows[i][4][part.slice(5)] === "-" ? ""
   : ` by the ${machines[rows[i][4].charCodeAt(part.slice(5)) - 97]}`.replace("the press", "press"));
 const waitsTold = (i) => waiting[i].filter((cell) => cell.length > 0)
   .map(([wants, why, part]) => `next is "${wants}", but ${why.split(": ").slice(1).join(": ")}${holderTold(part, i)}`);
-const shown = process.env.ENTRY ?? Math.round(last / 2);
+const shown = process.env.ENTRY ?? Math.round((begin + last) / 2);
+// A step of a share of those that are shown.
+const entryAt = (share) => begin + Math.round((last - begin) * share);
 const machineOfAxis = movers.map((name) => machines.indexOf(name));
 
 const open = async (hash) => {
@@ -102,8 +107,8 @@ const wanted = (i) => {
     heights: [1, 6, 7].map((axis) => heightOf[axis][at[axis]][0][1]),
     counts: [String(totals[1]), String(totals[2]), String(totals[4]), String(quarantine), expected === 0 ? "none" : "plate " + expected],
     sentence: i === 0 ? "The opening: nothing is booked." : i <= good ? sentence : sentence === "" ? "Here the journal stops." : "Refused: " + sentence,
-    place: (i <= good ? `Entry ${i} of ${good}` : `Record ${refused[0]}; the good entries end at ${good}`) + (record === "" ? "" : ` · ${record}`)
-      + (ends.length > 0 && i > 0 && i <= good ? ` · ends at ${ends[i - 1]}` : ""),
+    place: (i <= good ? `Entry ${i} of ${entries}` : `Record ${refused[0]}; the good entries end at ${good}`) + (record === "" ? "" : ` · ${record}`)
+      + (ends.length > 0 && i > begin && i <= good ? ` · ends at ${ends[i - 1 - begin]}` : ""),
     why: i <= good ? "" : refused[1],
     waits: waitsTold(i), nobody: waitsTold(i).length === 0,
     named: i <= good || refused[2] === "" ? []
@@ -121,7 +126,7 @@ const compare = async (i) => {
 };
 
 const checkEntries = async () => {
-  const chosen = new Set([0, 1, last, ...Array.from({ length: 60 }, (_, k) => Math.round((last * k) / 60))]);
+  const chosen = new Set([begin, Math.min(last, begin + 1), last, ...Array.from({ length: 60 }, (_, k) => entryAt(k / 60))]);
   await media({ "prefers-reduced-motion": "reduce" });
   for (const i of chosen) {
     await ask(`location.hash = "#entry=${i}"`);
@@ -139,9 +144,10 @@ const checkPlaces = async () => {
   const found = await ask(`(async () => {
     const faced = [{ h: 2, i: 5, k: 6 }, { j: 5, l: 6, m: 7 }];
     const centre = (node) => { const box = node.getBoundingClientRect(); return [box.left + box.width / 2, box.top + box.height / 2]; };
-    const rows = JSON.parse(document.getElementById("journal").textContent).rows;
+    const journal = JSON.parse(document.getElementById("journal").textContent);
+    const rows = Array(journal.first).concat(journal.rows);
     const told = { out: 0, off: [], unmarked: [], torn: [], twice: [] };
-    for (let i = 1; i < rows.length; i += 1) {
+    for (let i = journal.first + 1; i < rows.length; i += 1) {
       ${slide("i")}
       const [plates, , at, going] = rows[i];
       [0, 1].forEach((arm) => {
@@ -172,47 +178,47 @@ const checkPlaces = async () => {
     .filter(([x, y]) => !still.includes(`<rect x="${x - 23}" y="${y - 13}" width="46" height="26"`));
   check("places of plates that the picture hasn't", places, []);
   await media({});
-  console.log(`${found.out} arms that are out end on a plate's place, and ${good} entries are marked where they change something`);
+  console.log(`${found.out} arms that are out end on a plate's place, and ${good - begin} entries are marked where they change something`);
 };
 const checkControls = async () => {
   await open("#entry=0");
   const go = async (what, act, i) => { await act(); check(what, await entry(), i); };
-  await go("right", () => key("ArrowRight", 39), Math.min(last, 1));
-  await go("right again", () => key("ArrowRight", 39), Math.min(last, 2));
-  await go("left", () => key("ArrowLeft", 37), Math.min(last, 1));
+  await go("right", () => key("ArrowRight", 39), Math.min(last, begin + 1));
+  await go("right again", () => key("ArrowRight", 39), Math.min(last, begin + 2));
+  await go("left", () => key("ArrowLeft", 37), Math.min(last, begin + 1));
   await go("end", () => key("End", 35), last);
   await go("right at the end", () => key("ArrowRight", 39), last);
-  await go("home", () => key("Home", 36), 0);
-  await go("left at the start", () => key("ArrowLeft", 37), 0);
-  await go("page down", () => key("PageDown", 34), Math.min(last, 1));
-  await go("page up", () => key("PageUp", 33), 0);
-  for (const [id, i] of [["#end", last], ["#back", last - 1], ["#forward", last], ["#first", 0]]) {
+  await go("home", () => key("Home", 36), begin);
+  await go("left at the start", () => key("ArrowLeft", 37), begin);
+  await go("page down", () => key("PageDown", 34), Math.min(last, begin + 1));
+  await go("page up", () => key("PageUp", 33), begin);
+  for (const [id, i] of [["#end", last], ["#back", Math.max(begin, last - 1)], ["#forward", last], ["#first", begin]]) {
     await go(id, () => press(id), i);
     check(`the focus stays on ${id}`, await ask("document.activeElement.id"), id.slice(1));
   }
   await ask("document.getElementById('slider').focus()");
-  await go("a key in the slider", () => key("ArrowRight", 39), Math.min(last, 1));
+  await go("a key in the slider", () => key("ArrowRight", 39), Math.min(last, begin + 1));
   await press("#slider");
-  check("a click in the slider's middle", Math.abs((await entry()) - last / 2) <= Math.max(1, last / 50), true);
-  await ask("document.getElementById('number').focus(); document.getElementById('number').value = '3'");
-  await go("the number box", () => key("Enter", 13), Math.min(last, 3));
-  await go("a key after the number box", () => key("ArrowRight", 39), Math.min(last, 4));
+  check("a click in the slider's middle", Math.abs((await entry()) - entryAt(0.5)) <= Math.max(1, (last - begin) / 50), true);
+  await ask("document.getElementById('number').focus(); document.getElementById('number').value = '" + (begin + 3) + "'");
+  await go("the number box", () => key("Enter", 13), Math.min(last, begin + 3));
+  await go("a key after the number box", () => key("ArrowRight", 39), Math.min(last, begin + 4));
   await key("g", 71);
-  await tell("Input.insertText", { text: "2" });
-  await go("a number after a key for it", () => key("Enter", 13), Math.min(last, 2));
+  await tell("Input.insertText", { text: String(begin + 2) });
+  await go("a number after a key for it", () => key("Enter", 13), Math.min(last, begin + 2));
   await press("#number");
-  await tell("Input.insertText", { text: "4" });
-  await go("a number after a click into its box", () => key("Enter", 13), Math.min(last, 4));
+  await tell("Input.insertText", { text: String(begin + 4) });
+  await go("a number after a click into its box", () => key("Enter", 13), Math.min(last, begin + 4));
   await ask("document.activeElement.blur()");
   await ask("document.getElementById('speed').value = '33'");
   await key(" ", 32);
   await sleep(400);
   // A page of few entries is played to its end, where it stops.
-  if (last > 40) await key(" ", 32);
-  for (let i = 0; last <= 40 && i < 100 && (await ask("document.getElementById('play').textContent")) !== "Play"; i += 1) await sleep(50);
+  if (last - begin > 40) await key(" ", 32);
+  for (let i = 0; last - begin <= 40 && i < 100 && (await ask("document.getElementById('play').textContent")) !== "Play"; i += 1) await sleep(50);
   const paused = await entry();
   await sleep(200);
-  check("play by the space key", paused > 4 || paused === last, true);
+  check("play by the space key", paused > begin + 4 || paused === last, true);
   check("a pause", await entry(), paused);
   await compare(paused);
   await ask(`location.hash = "#entry=${last - 2}"`);
@@ -248,9 +254,9 @@ const checkSpans = async () => {
   await key("+", 187);
   const hidden = [];
   for (let k = 0; k <= 40; k += 1) {
-    await ask(slide(Math.round((last * k) / 40)));
+    await ask(slide(entryAt(k / 40)));
     const { left, right, from, to, off } = await cursor();
-    if (off || right < from - 1 || left > to) hidden.push(Math.round((last * k) / 40));
+    if (off || right < from - 1 || left > to) hidden.push(entryAt(k / 40));
   }
   check("entries at which the cursor isn't seen", hidden, []);
   const names = await ask("[...document.querySelectorAll('#names button')].map((button) => button.textContent)");
@@ -272,9 +278,10 @@ const checkSpans = async () => {
       }
       return told;
     })()`);
-    const most = Math.max(...ends);
+    const least = begin === 0 ? 0 : Math.min(...ends);
+    const timeAt = (share) => least + share * (Math.max(...ends) - least);
     const off = told.filter(([share, words]) => { const [, from, to, long] = /time (\d+) to (\d+), (\d+) long/.exec(words) ?? [];
-      return !(Number(from) <= share * most + 0.5 && share * most - 0.5 <= Number(to) && to - from === Number(long)); });
+      return !(Number(from) <= timeAt(share) + 0.5 && timeAt(share) - 0.5 <= Number(to) && to - from === Number(long)); });
     check("times that aren't below the pointer", off.slice(0, 3), []);
     await press("#by-time");
   }
@@ -307,28 +314,29 @@ const checkWaits = async () => {
 const checkEvents = async () => {
   const listed = await ask("[...document.querySelectorAll('#events button')].map((button) => Number(button.dataset.entry))");
   const kinds = ["declared", "stop_asked", "quarantined", "repaired", "expected", "reinstated"];
-  check("failures, clearings and repairs", listed, rows.map((_, i) => i).filter((i) => i > good || kinds.includes(rows[i][12].split(",")[0])));
+  check("failures, clearings and repairs", listed, rows.map((_, i) => i)
+    .filter((i) => i > begin && (i > good || kinds.includes(rows[i][12].split(",")[0]))));
   for (const i of listed.slice(0, 5)) {
     await press(`#events button[data-entry="${i}"]`);
     check(`a click on entry ${i} in the list goes there`, await entry(), i);
   }
-  const stop = listed.find((i) => i > 0 && i < last);
+  const stop = listed.find((i) => i > begin && i < last);
   if (stop === undefined) return;
   await ask("document.getElementById('stops').checked = true; document.getElementById('speed').value = '33'; document.activeElement.blur()");
-  await ask(slide(Math.max(0, stop - 3)));
+  await ask(slide(Math.max(begin, stop - 3)));
   await ask("document.getElementById('play').click()");
   for (let k = 0; k < 100 && (await ask("document.getElementById('play').textContent")) !== "Play"; k += 1) await sleep(20);
-  const first = listed.find((i) => i > Math.max(0, stop - 3));
+  const first = listed.find((i) => i > Math.max(begin, stop - 3));
   check("play stops at a failure, a clearing or a repair", await entry(), first);
   await ask("document.getElementById('stops').checked = false");
   console.log(`${listed.length} failures, clearings and repairs were tried`);
 };
 // The entries that name a plate or a zone, or after which it is elsewhere or has another holder, and those of a machine.
-const ofPlate = (plate) => rows.map((_, i) => i).filter((i) => i > 0 && i <= good
+const ofPlate = (plate) => rows.map((_, i) => i).filter((i) => i > begin && i <= good
   && (` ${rows[i][13]} `.replaceAll(",", " ").includes(` plate ${plate} `) || rows[i][0].indexOf(plate) !== rows[i - 1][0].indexOf(plate)));
-const ofZone = (zone) => rows.map((_, i) => i).filter((i) => i > 0 && i <= good
+const ofZone = (zone) => rows.map((_, i) => i).filter((i) => i > begin && i <= good
   && (rows[i][13].endsWith(zones[zone]) || rows[i][4][zone] !== rows[i - 1][4][zone]));
-const ofMachine = (m) => rows.map((_, i) => i).filter((i) => i > 0 && i <= good
+const ofMachine = (m) => rows.map((_, i) => i).filter((i) => i > begin && i <= good
   && (rows[i][11] === m || rows[i][5][m] !== rows[i - 1][5][m] || rows[i][6][m] !== rows[i - 1][6][m]));
 const walk = async (what, letter, list) => {
   await ask("location.hash = '#entry=0'");
@@ -343,8 +351,8 @@ const walk = async (what, letter, list) => {
   }
 };
 const checkFollowing = async () => {
-  const first = rows.findIndex(([plates]) => plates.some((plate) => plate !== 0));
-  const failures = rows.map((_, i) => i).filter((i) => i > 0 && (i > good || rows[i][12].startsWith("declared,")));
+  const first = rows.findIndex((row) => row !== undefined && row[0].some((plate) => plate !== 0));
+  const failures = rows.map((_, i) => i).filter((i) => i > begin && (i > good || rows[i][12].startsWith("declared,")));
   await open("#entry=0");
   if (first > 0) {
     await ask(slide(first));
@@ -368,7 +376,7 @@ const checkFollowing = async () => {
   await key("/", 191);
   check("a key goes to the search", await ask("document.activeElement.id"), "search");
   await tell("Input.insertText", { text: "claims" });
-  const hits = rows.map((_, i) => i).filter((i) => i > 0 && `${rows[i][13]}\n${rows[i][12]}`.toLowerCase().includes("claims"));
+  const hits = rows.map((_, i) => i).filter((i) => i > begin && `${rows[i][13]}\n${rows[i][12]}`.toLowerCase().includes("claims"));
   check("what is found", await ask("document.getElementById('found').textContent"), hits.length + " found");
   await key("n", 78);
   check("a letter in the search is no key", (await ask("document.getElementById('search').value")).startsWith("claims"), true);
@@ -400,6 +408,7 @@ const checkFocus = async () => {
   const inDrawing = await ask("[...document.querySelectorAll('#cell .part:not(.off)')].map((node) => node.id)");
   check("parts of the drawing that Tab doesn't reach", inDrawing.filter((id) => !reached.some(([found]) => found === id)), []);
   check("parts of the drawing without a name", reached.filter(([id, label]) => inDrawing.includes(id) && !label), []);
+  check("the strip is reached by Tab, and tells its place", await ask("(() => { const strip = document.getElementById('strip'); strip.focus(); return [document.activeElement.id, strip.getAttribute('role'), Number(strip.getAttribute('aria-valuenow'))]; })()"), ["strip", "slider", await entry()]);
   check("a row is reached by Tab", await ask("(() => { document.querySelector('#names button[tabindex=\"0\"]').focus(); return document.activeElement.parentNode.id; })()"), "names");
   const first = await ask("document.activeElement.textContent");
   await key("ArrowDown", 40);
@@ -407,8 +416,8 @@ const checkFocus = async () => {
   check("its name tells what is in it", (await ask("document.activeElement.getAttribute('aria-label')")).includes(": "), true);
   check("the focus was lost", lost <= 1, true);
   const leaves = (i, s) => rows[i - 1][0][s] !== 0 && rows[i][0][s] !== rows[i - 1][0][s] && rows[i][0].includes(rows[i - 1][0][s]);
-  const moved = rows.findIndex((_, i) => i > 0 && stations.some((_, s) => leaves(i, s)));
-  if (moved > 0) {
+  const moved = rows.findIndex((_, i) => i > begin && stations.some((_, s) => leaves(i, s)));
+  if (moved > begin) {
     const from = stations.findIndex((_, s) => leaves(moved, s));
     await ask(slide(moved - 1) + `document.getElementById("plate-${from}").focus();` + slide(moved));
     check("the focus goes with a plate", await ask("document.activeElement.id"), "plate-" + rows[moved][0].indexOf(rows[moved - 1][0][from]));
@@ -419,7 +428,7 @@ const checkFocus = async () => {
 const checkMotion = async () => {
   const place = () => ask(`[...document.querySelectorAll("#cell .plate:not(.off), #arm-0, #arm-1, #cell .bead, #pointer, #cell .bed")]
     .map((node) => ["transform", "x2", "y2", "cy", "r", "width"].map((name) => node.getAttribute(name)).join(" ")).join("; ")`);
-  const steps = Array.from({ length: Math.min(last, 40) }, (_, k) => k + 1);
+  const steps = Array.from({ length: Math.min(last - begin, 40) }, (_, k) => begin + k + 1);
   for (const reduce of [true, false]) {
     await media({ "prefers-reduced-motion": reduce ? "reduce" : "no-preference" });
     await open("#entry=0");
@@ -429,11 +438,11 @@ const checkMotion = async () => {
       const first = await place();
       if (!reduce) await sleep(480);
       const end = await place();
-      await ask(slide(i > 1 ? 0 : last) + slide(i));
+      await ask(slide(i > begin + 1 ? begin : last) + slide(i));
       check(`entry ${i} is drawn as after a jump`, end, await place());
       if (first !== end) moved += 1;
     }
-    check(reduce ? "no motion where less is asked for" : "steps are drawn with motion", moved > 0, !reduce && last > 6);
+    check(reduce ? "no motion where less is asked for" : "steps are drawn with motion", moved > 0, !reduce && last - begin > 6);
   }
   await media({});
   console.log(`${steps.length} steps were drawn with motion and without`);
@@ -483,7 +492,7 @@ const checkStill = async (name) => {
       .map((node) => { const box = node.getBoundingClientRect(); return [node.id, box.left, box.top, box.width, box.height].join(" "); }).join("; ");
     const first = places();
     const moved = [];
-    for (let i = 0; i <= ${last}; i += ${Math.max(1, Math.floor(last / 430))}) { ${slide("i")} if (places() !== first) moved.push(i); }
+    for (let i = ${begin}; i <= ${last}; i += ${Math.max(1, Math.floor((last - begin) / 430))}) { ${slide("i")} if (places() !== first) moved.push(i); }
     return moved;
   })()`);
   check(`${name}: entries at which a control moves`, moved, []);
@@ -504,8 +513,8 @@ const checkSizes = async () => {
     await checkContrast(name);
     await checkPicture(name);
     for (const k of [0, 0.2, 0.35, 0.5, 0.65, 0.8, 1]) {
-      await ask(slide(Math.round(last * k)));
-      await checkTexts(`${name}, entry ${Math.round(last * k)}`);
+      await ask(slide(entryAt(k)));
+      await checkTexts(`${name}, entry ${entryAt(k)}`);
     }
     const least = await ask(`Math.min(...[...document.querySelectorAll("#cell text")].filter((node) => node.textContent !== "" && node.getClientRects().length > 0
       && node.closest(".plate") === null).map((node) => parseFloat(getComputedStyle(node).fontSize) * document.getElementById("cell").getScreenCTM().a))`);
@@ -552,12 +561,12 @@ const run = async () => {
   // The median, so that what else the machine does counts little.
   const step = await ask(`(() => { const times = Array.from({ length: 401 }, () => { const start = performance.now();
       document.getElementById("forward").click(); return performance.now() - start; });
-    return times.slice(0, Math.max(1, ${last})).sort((a, b) => a - b)[Math.floor(Math.min(401, Math.max(1, ${last})) / 2)]; })()`);
+    return times.slice(0, Math.max(1, ${last - begin})).sort((a, b) => a - b)[Math.floor(Math.min(401, Math.max(1, ${last - begin})) / 2)]; })()`);
   const jump = await ask(`(async () => { const start = performance.now();
-    for (let k = 0; k < 50; k += 1) { ${slide(`Math.round((${last} * k) / 50)`)} document.body.getBoundingClientRect();
+    for (let k = 0; k < 50; k += 1) { ${slide(`${begin} + Math.round((${last - begin} * k) / 50)`)} document.body.getBoundingClientRect();
       await new Promise((next) => requestAnimationFrame(next)); }
     return (performance.now() - start) / 50; })()`);
-  console.log(`${last} entries, ${text.length} bytes: open in ${took} ms, a step in ${step.toFixed(2)} ms, a jump in ${jump.toFixed(1)} ms`);
+  console.log(`${last - begin} entries, ${text.length} bytes: open in ${took} ms, a step in ${step.toFixed(2)} ms, a jump in ${jump.toFixed(1)} ms`);
   check("a step of less than 2 milliseconds", step < 2, true);
   await checkEntries();
   await checkPlaces();

@@ -8,12 +8,12 @@ _cellctl() {
     else
         case "${COMP_WORDS[1]} $before" in
             'explore --fail') mapfile -t COMPREPLY < <(compgen -W 'feed table robot press1 press2 deposit' -- "$word"); return ;;
-            'show --times' | 'show --beside' | 'show --animate' | 'show --file' | 'show -f' | 'explain --settings' | 'explain --faults' | 'explain --operator' | 'measure --times' | 'sim --times' | 'sim --follow' | 'sim --from' | 'sweep --kinds' | 'sweep --motions' | 'explore --limit' | 'drive --times' | 'drive --from' | 'control --journal' | 'run --times') return ;;
+            'show --from' | 'show --count' | 'show --times' | 'show --beside' | 'show --animate' | 'show --file' | 'show -f' | 'explain --settings' | 'explain --faults' | 'explain --operator' | 'measure --times' | 'sim --times' | 'sim --follow' | 'sim --from' | 'sweep --kinds' | 'sweep --motions' | 'explore --limit' | 'drive --times' | 'drive --from' | 'control --journal' | 'run --times') return ;;
         esac
         case ${COMP_WORDS[1]} in
             audit) words='--help' ;;
             migrate) words='--help' ;;
-            show) words='--svg --html --unicode --times --beside --animate --file --help' ;;
+            show) words='--svg --html --unicode --from --count --times --beside --animate --file --help' ;;
             explain) words='--settings --faults --operator --help' ;;
             measure) words='--times --csv --help' ;;
             check) words='--help' ;;

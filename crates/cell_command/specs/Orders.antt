@@ -73,12 +73,14 @@ IsControlled rows c = HasValue rows (codes "journal") c.journal
     × HasPath rows (codes "settings") c.settings.now
     × HasPath rows (codes "operator") c.operator.now
 
--- the flags of a picture, the files of durations, of the journal beside, of the one that plays and of the journal, and
--- how many entries it takes
+-- the flags of a picture, after how many entries a page begins and how many it shows, the files of durations, of the
+-- journal beside, of the one that plays and of the journal, and how many entries it takes
 abbrev pub IsShown : List Row → Showing → Type 0
 IsShown rows s = HasFlag rows (codes "svg") s.svg
     × HasFlag rows (codes "html") s.html
     × HasFlag rows (codes "unicode") s.unicode
+    × HasValue rows (codes "from") s.from
+    × HasValue rows (codes "count") s.count
     × HasValue rows (codes "times") s.times
     × HasValue rows (codes "beside") s.beside
     × HasValue rows (codes "animate") s.animate

@@ -63,11 +63,14 @@ journal_rule = record (file_rule (codes "file")) { short = Some 102 }
 unfoldable pub pictured : App
 pictured = with_rules (new_app (codes "show")) (flag_rule (codes "svg") ∷ flag_rule (codes "html") ∷ [])
 
--- the same with the flag for other signs and the options for durations, for another journal, which is shown beside, and
--- for one that plays
+-- the same with the flag for other signs and the options for the states of a page
+unfoldable pub windowed : App
+windowed = with_rules pictured (flag_rule (codes "unicode") ∷ file_rule (codes "from") ∷ file_rule (codes "count") ∷ [])
+
+-- the same with the options for durations, for another journal, which is shown beside, and for one that plays
 unfoldable pub accompanied : App
-accompanied = with_rules pictured
-    (flag_rule (codes "unicode") ∷ times_rule ∷ file_rule (codes "beside") ∷ file_rule (codes "animate") ∷ [])
+accompanied = with_rules windowed
+    (times_rule ∷ file_rule (codes "beside") ∷ file_rule (codes "animate") ∷ [])
 
 -- the same with the option for a file, and how many entries are shown, which may be given
 unfoldable pub show : App

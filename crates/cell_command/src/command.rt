@@ -8,16 +8,16 @@ ghost use Rattle.cell_command.specs.Shape.{control, drive, explain, explore, fil
 ghost use Rattle.cell_command.specs.Shape.{flagged, for_people, in_rounds, journal_rule, measure, migrate};
 ghost use Rattle.cell_command.specs.Shape.{optional_rule, path_rule, pictured, repeated_rule, run, scripted};
 ghost use Rattle.cell_command.specs.Shape.{program, several_rule, show, sim, sweep, times_rule};
-ghost use Rattle.cell_command.specs.Shape.{with_input, with_rules};
+ghost use Rattle.cell_command.specs.Shape.{windowed, with_input, with_rules};
 
 use crate::help::{
     ABOUT, AFTER, AHEAD_HELP, ANIMATE_HELP, AUDIT, BESIDE_HELP, CHECK, CONTROL, CONTROL_USAGE,
-    CSV_HELP, CommandTexts, DRIVE, ENTRY_HELP, EXPLAIN, EXPLAIN_USAGE, EXPLORE, FAIL_HELP,
-    FAULTS_HELP, FILE_HELP, FOLLOW_HELP, FROM_HELP, HTML_HELP, JOURNAL_HELP, JOURNALS_HELP,
-    KINDS_HELP, LEAST_HELP, LIMIT_HELP, MEASURE, MEASURES_HELP, MIGRATE, MOTIONS_HELP,
-    OPERATOR_HELP, PLATES_HELP, RAW_HELP, REPAIR_HELP, RESUME_HELP, RUN, RUNS_HELP, SERVICE_HELP,
-    SETTINGS_HELP, SHOW, SHOW_USAGE, SIM, SVG_HELP, SWEEP, SYNC_HELP, TIMES_HELP, UNICODE_HELP,
-    VERSION, WAIT_HELP, WAY_HELP, WHY_HELP,
+    COUNT_HELP, CSV_HELP, CommandTexts, DRIVE, ENTRY_HELP, EXPLAIN, EXPLAIN_USAGE, EXPLORE,
+    FAIL_HELP, FAULTS_HELP, FILE_HELP, FOLLOW_HELP, FROM_HELP, HTML_HELP, JOURNAL_HELP,
+    JOURNALS_HELP, KINDS_HELP, LEAST_HELP, LIMIT_HELP, MEASURE, MEASURES_HELP, MIGRATE,
+    MOTIONS_HELP, OPERATOR_HELP, PLATES_HELP, RAW_HELP, REPAIR_HELP, RESUME_HELP, RUN, RUNS_HELP,
+    SERVICE_HELP, SETTINGS_HELP, SHOW, SHOW_USAGE, SIM, STATES_HELP, SVG_HELP, SWEEP, SYNC_HELP,
+    TIMES_HELP, UNICODE_HELP, VERSION, WAIT_HELP, WAY_HELP, WHY_HELP,
 };
 use clap::{Arg, ArgAction, Command};
 use std::alloc::{AllocError, Global};
@@ -161,15 +161,24 @@ fn pictured_command<'a>(alloc: Global) -> Result<Command<'a>, AllocError>
     with_flag(alloc, svg, "html", HTML_HELP)
 }
 
-// The same with the flag for other signs and the options for durations, for a journal that is shown beside and for one
-// that plays.
+// The same with the flag for other signs and the options for the states of a page.
+#[tactic(auto, unfolding(crate::specs::Shape::windowed))]
+fn windowed_command<'a>(alloc: Global) -> Result<Command<'a>, AllocError>
+    ensures { IfOk result (IsCommand windowed) }
+{
+    let pictured = pictured_command(alloc)?;
+    let unicode = with_flag(alloc, pictured, "unicode", UNICODE_HELP)?;
+    let from = with_file(alloc, unicode, "from", "N", STATES_HELP)?;
+    with_file(alloc, from, "count", "M", COUNT_HELP)
+}
+
+// The same with the options for durations, for a journal that is shown beside and for one that plays.
 #[tactic(auto, unfolding(crate::specs::Shape::accompanied))]
 fn accompanied_command<'a>(alloc: Global) -> Result<Command<'a>, AllocError>
     ensures { IfOk result (IsCommand accompanied) }
 {
-    let pictured = pictured_command(alloc)?;
-    let unicode = with_flag(alloc, pictured, "unicode", UNICODE_HELP)?;
-    let timed = with_times(alloc, unicode)?;
+    let windowed = windowed_command(alloc)?;
+    let timed = with_times(alloc, windowed)?;
     let beside = with_file(alloc, timed, "beside", "OTHER", BESIDE_HELP)?;
     with_file(alloc, beside, "animate", "JOURNAL", ANIMATE_HELP)
 }

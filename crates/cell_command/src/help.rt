@@ -377,30 +377,34 @@ by --file alone.
 
 Prints at most 24 lines of 78 characters, plain ASCII or with --unicode also
 other signs; with --svg one picture file; with --html one page for a browser,
-which has the states after all entries, of which it shows at most 20000. With
---svg --times FILE the picture has at most 20000 entries on an axis of time,
-where motions take what FILE says (see the command measure), and with --html
---times FILE the page can show all entries on such an axis. With --html
---beside OTHER two such pages stand side by side in one, that of the journal
-and that of the journal in the file OTHER, and are stepped together.
-With --svg --animate JOURNAL the picture moves: the first ENTRY entries of the
-journal in the file JOURNAL, which has at most 20000, play in a loop.
+which has the states after all entries, or as many as it shows: that after the
+first N entries, or at the opening without --from, and those after each of the
+next M, or as many as there are. M is 0 to 20000, and 20000 without --count. A
+line on the page tells which states it shows, where they aren't all. With --svg
+--times FILE the picture has at most 20000 entries on an axis of time, where
+motions take what FILE says (see the command measure), and with --html --times
+FILE the page can show its entries on such an axis. With --html --beside OTHER
+two such pages stand side by side in one, that of the journal and that of the
+journal in the file OTHER, and are stepped together. With --svg --animate
+JOURNAL the picture moves: the first ENTRY entries of the journal in the file
+JOURNAL, which has at most 20000, play in a loop.
 
 A journal that is refused or can't be read is shown up to its last good entry,
 and below stands the line of the command audit. The page has the entry that is
 refused as a last step.
 
 Exit status: 0 legal, 1 refused or unreadable, 2 wrong arguments, no such entry
-or too many entries for a page, 3 a read or a write failed, 4 out of memory.
+or too many for a picture, 3 a read or a write failed, 4 out of memory.
 The status is that of the journal, and not of OTHER.",
     example: "Example: cellctl show --file examples/whole.journal 20",
 };
 
 pub(crate) const SHOW_USAGE: &str = "\
-cellctl show [--svg | --html | --unicode] [--file FILE] [ENTRY]
-       cellctl show (--svg | --html) --times FILE [--file FILE] [ENTRY]
-       cellctl show --html --beside OTHER [--times FILE] [--file FILE] [ENTRY]
-       cellctl show --svg --animate JOURNAL [ENTRY]";
+cellctl show [--svg | --unicode] [--file FILE] [ENTRY]
+       cellctl show --svg --times FILE [--file FILE] [ENTRY]
+       cellctl show --svg --animate JOURNAL [ENTRY]
+       cellctl show --html [--from N] [--count M] [--times FILE]
+           [--beside OTHER] [--file FILE] [ENTRY]";
 
 pub(crate) const EXPLAIN: CommandTexts = CommandTexts {
     about: "Say why a journal, settings or a script is refused",
@@ -443,6 +447,10 @@ pub(crate) const WHY_HELP: &str = "Say on standard error why the run ended so";
 pub(crate) const SVG_HELP: &str = "Print one picture file in SVG";
 
 pub(crate) const HTML_HELP: &str = "Print one page in HTML with all states";
+
+pub(crate) const STATES_HELP: &str = "After how many entries the page begins";
+
+pub(crate) const COUNT_HELP: &str = "How many entries the page shows from there on";
 
 pub(crate) const BESIDE_HELP: &str = "The file with a journal to be shown beside it";
 

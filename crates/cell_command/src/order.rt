@@ -64,14 +64,17 @@ pub struct Controlling<'a> {
     pub operator: &'a str,
 }
 
-/// How a journal is to be shown: which flags are given, the file with the durations of motions, if there is one, that
-/// of another journal, which is shown beside it, if there is one, that of the journal, if it is to play, the file that
-/// has the journal, if it isn't on standard input, and the number of entries as it is written.
+/// How a journal is to be shown: which flags are given, after how many entries a page begins and how many it shows, as
+/// they are written, the file with the durations of motions, if there is one, that of another journal, which is shown
+/// beside it, if there is one, that of the journal, if it is to play, the file that has the journal, if it isn't on
+/// standard input, and the number of entries as it is written.
 #[derive(Clone, Copy, Debug, PartialEq, Eq)]
 pub struct Showing<'a> {
     pub svg: bool,
     pub html: bool,
     pub unicode: bool,
+    pub from: Option<&'a str>,
+    pub count: Option<&'a str>,
     pub times: Option<&'a str>,
     pub beside: Option<&'a str>,
     pub animate: Option<&'a str>,
@@ -247,10 +250,14 @@ fn control_words<'a>(matches: &ArgMatches<'a>) -> Option<Controlling<'a>>
 fn show_words<'a>(matches: &ArgMatches<'a>) -> Showing<'a>
     ensures { IsShown (rows_of (found_of matches.now)) result }
 {
+    let from = value(matches, "from");
+    let count = value(matches, "count");
     Showing {
         svg: flag(matches, "svg"),
         html: flag(matches, "html"),
         unicode: flag(matches, "unicode"),
+        from,
+        count,
         times: value(matches, "times"),
         beside: value(matches, "beside"),
         animate: value(matches, "animate"),

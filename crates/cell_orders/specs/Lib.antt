@@ -4,5 +4,6 @@ pub mod Explores
 pub mod Measured
 pub mod Shows
 pub mod Texts
+pub mod Windows
 pub mod Parts
 pub mod Ends

@@ -1,5 +1,6 @@
 //! The command that says why a text is refused.
 ghost use Rattle.std.specs.Prelude.{◌≡◌, IfOk};
+ghost use Rattle.cell_output.specs.Watched.{bytes_held};
 ghost use Rattle.cell_orders.specs.Explains.{Explains, ExplainsSettings, ExplainsText, text_of};
 
 use crate::failure::Failure;
@@ -52,15 +53,13 @@ fn text_of<'a>(explaining: Explaining<'a>) -> Option<Text<'a>>
 fn explain_settings_in<'a, R: AllocGlobal + Files, W: Write>(
     rt: &R,
     path: &'a str,
-    output: &mut W,
+    output: &mut WatchedWriter<'_, W>,
 ) -> Result<Result<u8, WriteFault>, Failure<'a>>
-    ensures { IfOk result (λ written. IfOk written (ExplainsSettings (W.contents output.old) (W.contents output.new))) }
+    ensures { IfOk result (λ written. IfOk written (ExplainsSettings (bytes_held W.contents output.old)
+        (bytes_held W.contents output.new))) }
 {
     match settings_in(rt, path)? {
-        Some(text) => {
-            let mut writer = WatchedWriter::new(output);
-            Ok(explain_settings(rt.alloc(), text.as_slice(), &mut writer))
-        }
+        Some(text) => Ok(explain_settings(rt.alloc(), text.as_slice(), output)),
         None => Ok(tell_too_long(output)),
     }
 }
@@ -69,11 +68,12 @@ fn explain_settings_in<'a, R: AllocGlobal + Files, W: Write>(
 fn explain_text<'a, R: AllocGlobal + Files, I: Read + Drop, W: Write>(
     rt: &R,
     input: I,
-    output: &mut W,
+    output: &mut WatchedWriter<'_, W>,
     text: Text<'a>,
 ) -> Result<Result<u8, WriteFault>, Failure<'a>>
-    ensures { IfOk result (λ written. IfOk written (ExplainsText text.entry (I.remaining input) (W.contents output.old)
-        (W.contents output.new))) }
+    ensures { IfOk result (λ written. IfOk written (ExplainsText text.entry (I.remaining input)
+        (bytes_held W.contents output.old)
+        (bytes_held W.contents output.new))) }
 {
     match text {
         Text::Input => about_input(explain_input(rt.alloc(), input, output)),
@@ -88,12 +88,13 @@ fn explain_text<'a, R: AllocGlobal + Files, I: Read + Drop, W: Write>(
 pub fn explain_words<'a, R: AllocGlobal + Files, I: Read + Drop, W: Write, E: Write>(
     rt: &R,
     input: I,
-    output: &mut W,
+    output: &mut WatchedWriter<'_, W>,
     errors: &mut E,
     explaining: Explaining<'a>,
 ) -> Result<Result<u8, WriteFault>, Failure<'a>>
     ensures { IfOk result (λ written. IfOk written
-        (Explains explaining.entry (I.remaining input) (W.contents output.old) (W.contents output.new)
+        (Explains explaining.entry (I.remaining input) (bytes_held W.contents output.old)
+        (bytes_held W.contents output.new)
         (E.contents errors.old) (E.contents errors.new))) }
 {
     match text_of(explaining) {

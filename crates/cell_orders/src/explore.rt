@@ -1,5 +1,6 @@
 //! The command that looks at every order of events of the cell.
 ghost use Rattle.std.specs.Prelude.{IfOk};
+ghost use Rattle.cell_output.specs.Watched.{bytes_held};
 ghost use Rattle.cell_orders.specs.Explores.{ExploresWords};
 
 use crate::asked::{limit_of, named, number_in, stranger};
@@ -15,12 +16,13 @@ use std::io::Write;
 /// states were looked at.
 pub fn explore_words<'a, W: Write, E: Write>(
     alloc: Global,
-    output: &mut W,
+    output: &mut WatchedWriter<'_, W>,
     errors: &mut E,
     exploring: &Exploring<'a>,
     progress: bool,
 ) -> Result<Result<u8, WriteFault>, Failure<'a>>
-    ensures { IfOk result (ExploresWords exploring.now (W.contents output.old) (W.contents output.new)
+    ensures { IfOk result (ExploresWords exploring.now (bytes_held W.contents output.old)
+        (bytes_held W.contents output.new)
         (E.contents errors.old) (E.contents errors.new)) }
 {
     let Some(plan) = number_in(exploring.plates, 0, MOST_PLATES) else {
@@ -48,7 +50,7 @@ pub fn explore_words<'a, W: Write, E: Write>(
         &question,
         limit,
         exploring.journal,
-        &mut WatchedWriter::new(output),
+        output,
         &mut line,
     ))
 }

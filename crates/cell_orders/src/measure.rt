@@ -161,14 +161,13 @@ fn written(answer: Result<(), WriteFault>, status: u8) -> Result<u8, WriteFault>
 // Writes what was found of all journals: the lines of those that are refused to the errors, where there are several.
 fn tell<W: Write, E: Write>(
     alloc: Global,
-    output: &mut W,
+    output: &mut WatchedWriter<'_, W>,
     errors: &mut E,
     measuring: &Measuring<'_>,
     sorted: &Sorted,
 ) -> io::Result<Result<u8, WriteFault>>
     ensures { IfOk result (λ written. IfOk written (λ status. status ≡ 0 → sorted.now.refused ≡ false)) }
 {
-    let mut output = WatchedWriter::new(output);
     if measuring.journals.len() > 1 {
         errors.write_all(sorted.lines.as_slice())?;
     } else if sorted.refused {
@@ -183,7 +182,7 @@ fn tell<W: Write, E: Write>(
 /// Measures the journals that the words of the command line name. All are read before anything is written.
 pub fn measure_words<'a, R: AllocGlobal + Files, W: Write, E: Write>(
     rt: &R,
-    output: &mut W,
+    output: &mut WatchedWriter<'_, W>,
     errors: &mut E,
     measuring: &Measuring<'a>,
 ) -> Result<Result<u8, WriteFault>, Failure<'a>>

@@ -2,21 +2,26 @@
 ghost use Rattle.std.specs.Prelude.{◌≡◌, ◌≢◌, ◌<◌, ◌≤◌, ◌^◌, ℕ, IfErr, IfOk, IfSome, List, Option, Some, true, ⊤};
 ghost use Rattle.cell_rows.specs.Rows.{rows_of};
 ghost use Rattle.cell_audit.specs.Migrated.{rows_in};
-ghost use Rattle.cell_show.specs.Shown.{AsksPast, HasEntry, ShownOf, TellsEntries, TellsStatus};
-ghost use Rattle.cell_orders.specs.Shows.{IsAlone, IsAsked, IsMixed, IsTimed, Plays, Shows, ShowsEntry, ShowsSome};
-ghost use Rattle.cell_orders.specs.Shows.{ShowsStill, ShowsWords, form_of};
+ghost use Rattle.cell_output.specs.Watched.{bytes_held};
+ghost use Rattle.cell_show.specs.Shown.{AsksPast, HasEntry, ShownOf, TellsEntries, TellsStatus, start_of};
+ghost use Rattle.cell_orders.specs.Shows.{HasTimes, IsAlone, IsAsked, IsMixed, IsTimed, Plays, Shows, ShowsEntry};
+ghost use Rattle.cell_orders.specs.Shows.{ShowsSome, ShowsStill, ShowsWindow, ShowsWords, form_of, takes_times};
 ghost use Rattle.cell_orders.specs.Texts.{OfText};
 
 use crate::failure::Failure;
 use crate::mistaken::wrong;
-use crate::texts::{open_noted, unless_noted, unless_wanting};
+use crate::texts::{open_watched, unless_failed, unless_wanting};
 use crate::times::{durations_in, tell_times};
+use crate::windows::windowed;
 use cell_command::{Count, Escaped, Showing, read_count};
-use cell_output::{WriteFault, status};
-use cell_show::{Form, ShowError, show_beside, show_journal};
+use cell_measures::Durations;
+use cell_output::{WatchedWriter, WriteFault, status};
+use cell_rows::TellsFault;
+use cell_show::page::Window;
+use cell_show::{Beside, Form, ShowError, show_beside, show_journal};
 use std::alloc::Global;
 use std::io;
-use std::io::{Read, Write};
+use std::io::Write;
 use std::rt::Files;
 
 // What is shown of a journal: in which form, how many entries, or all where there is no count, and what beside it.
@@ -35,49 +40,50 @@ fn form_of(showing: &Showing<'_>) -> Option<Form>
         (false, false, false) => Some(Form::Text),
         (false, false, true) => Some(Form::Unicode),
         (true, false, false) => Some(Form::Picture),
-        (false, true, false) => Some(Form::Page),
+        (false, true, false) => Some(Form::Page(Window::FIRST)),
         _ => None,
     }
 }
 
 // Shows so many entries of a journal's text, or all of them, beside those of another text where its reader is given.
-fn show_with<I: Read + Drop, O: Read + Drop, W: Write>(
+fn show_with<I: TellsFault + Drop, O: TellsFault + Drop, W: Write>(
     alloc: Global,
     input: I,
     output: &mut W,
     form: Form,
     entry: Option<u32>,
-    other: Option<O>,
+    other: Option<Beside<'_, O>>,
 ) -> Result<u8, ShowError>
     ensures status { IfOk result (TellsStatus (rows_in (I.remaining input))) }
     ensures unread { IfOk result (λ status. 1 < status → output.new ≡ output.old) }
-    ensures there { IfOk result (λ status. status ≤ 1 → IfSome (rows_in (I.remaining input)) (HasEntry entry)) }
-    ensures past { IfErr result (AsksPast entry) }
+    ensures there { IfOk result (λ status. status ≤ 1
+        → IfSome (rows_in (I.remaining input)) (HasEntry entry (start_of form))) }
+    ensures past { IfErr result (AsksPast entry (start_of form)) }
     ensures entries { IfErr result (λ why. IfSome (rows_in (I.remaining input)) (TellsEntries why)) }
     ensures nothing { IfErr result (λ why. why ≢ ShowError.WriteFault → output.new ≡ output.old) }
-    ensures some { (text : List ℕ) × ShownOf (rows_of text) entry (λ _. ⊤) result }
+    ensures some { (text : List ℕ) × ShownOf (rows_of text) entry (start_of form) (λ _. ⊤) result }
 {
     match other {
         None => show_journal(alloc, input, form, entry, output),
-        Some(reader) => show_beside(alloc, input, reader, form, entry, output),
+        Some(beside) => show_beside(alloc, input, beside, form, entry, output),
     }
 }
 
-// Shows so many entries of a journal's text, or all of them. An entry that isn't there, or a page of too many, is told
-// among the errors.
-fn show_entries<I: Read + Drop, O: Read + Drop, W: Write, E: Write>(
+// Shows so many entries of a journal's text, or all of them. An entry that isn't there, or a picture of too many, is
+// told among the errors.
+fn show_entries<I: TellsFault + Drop, O: TellsFault + Drop, W: Write, E: Write>(
     alloc: Global,
     input: I,
     output: &mut W,
     errors: &mut E,
-    show: Show<u32, O>,
+    show: Show<u32, Beside<'_, O>>,
 ) -> io::Result<Result<u8, WriteFault>>
     ensures shown { IfOk result (λ written. IfOk written
-        (Shows show.count (I.remaining input) (W.contents output.old) (W.contents output.new) (E.contents errors.old)
-        (E.contents errors.new))) }
+        (Shows show.entry.count (start_of show.entry.form) (I.remaining input) (W.contents output.old)
+        (W.contents output.new) (E.contents errors.old) (E.contents errors.new))) }
     ensures some { IfOk result (λ written. IfOk written
-        (ShowsSome show.count (W.contents output.old) (W.contents output.new) (E.contents errors.old)
-        (E.contents errors.new))) }
+        (ShowsSome show.entry.count (start_of show.entry.form) (W.contents output.old) (W.contents output.new)
+        (E.contents errors.old) (E.contents errors.new))) }
 {
     match show_with(alloc, input, output, show.form, show.count, show.beside) {
         Ok(status) => Ok(Ok(status)),
@@ -90,22 +96,22 @@ fn show_entries<I: Read + Drop, O: Read + Drop, W: Write, E: Write>(
 }
 
 // Tells among the errors that a journal's text hasn't so many entries as no journal has. Nothing is shown.
-fn show_beyond<I: Read + Drop, E: Write>(
+fn show_beyond<I: TellsFault + Drop, E: Write>(
     alloc: Global,
     input: I,
     errors: &mut E,
     form: Form,
 ) -> io::Result<Result<u8, WriteFault>>
     ensures shown { (n : ℕ) (old : Option (List ℕ)) → 2 ^ 32 ≤ n
-        → IfOk result (λ written. IfOk written (Shows (Some n) (I.remaining input) old old (E.contents errors.old)
-        (E.contents errors.new))) }
+        → IfOk result (λ written. IfOk written (Shows (Some n) (start_of form) (I.remaining input) old old
+        (E.contents errors.old) (E.contents errors.new))) }
     ensures some { (n : ℕ) (old : Option (List ℕ)) → 2 ^ 32 ≤ n
-        → IfOk result (λ written. IfOk written (ShowsSome (Some n) old old (E.contents errors.old)
+        → IfOk result (λ written. IfOk written (ShowsSome (Some n) (start_of form) old old (E.contents errors.old)
         (E.contents errors.new))) }
 {
     let error = match show_journal(alloc, input, form, Some(u32::MAX), &mut io::sink()) {
         Ok(status) if status > status::REFUSED => return Ok(Ok(status)),
-        // More entries than a page shows.
+        // More entries than a picture shows.
         Ok(_) => ShowError::TooManyEntries,
         Err(ShowError::WriteFault) => return Ok(Err(WriteFault)),
         Err(error) => error,
@@ -115,21 +121,21 @@ fn show_beyond<I: Read + Drop, E: Write>(
 }
 
 // Shows so many entries of a journal's text, or all of them where there is no count.
-fn show_count<I: Read + Drop, O: Read + Drop, W: Write, E: Write>(
+fn show_count<I: TellsFault + Drop, O: TellsFault + Drop, W: Write, E: Write>(
     alloc: Global,
     input: I,
     output: &mut W,
     errors: &mut E,
-    show: Show<Count, O>,
+    show: Show<Count, Beside<'_, O>>,
 ) -> io::Result<Result<u8, WriteFault>>
-    ensures shown { (entry : Option ℕ) → IsAsked show.count entry
+    ensures shown { (entry : Option ℕ) → IsAsked show.entry.count entry
         → IfOk result (λ written. IfOk written
-        (Shows entry (I.remaining input) (W.contents output.old) (W.contents output.new) (E.contents errors.old)
-        (E.contents errors.new))) }
-    ensures some { (entry : Option ℕ) → IsAsked show.count entry
+        (Shows entry (start_of show.entry.form) (I.remaining input) (W.contents output.old) (W.contents output.new)
+        (E.contents errors.old) (E.contents errors.new))) }
+    ensures some { (entry : Option ℕ) → IsAsked show.entry.count entry
         → IfOk result (λ written. IfOk written
-        (ShowsSome entry (W.contents output.old) (W.contents output.new) (E.contents errors.old)
-        (E.contents errors.new))) }
+        (ShowsSome entry (start_of show.entry.form) (W.contents output.old) (W.contents output.new)
+        (E.contents errors.old) (E.contents errors.new))) }
 {
     let Show {
         form,
@@ -158,40 +164,47 @@ fn show_count<I: Read + Drop, O: Read + Drop, W: Write, E: Write>(
 }
 
 // Shows so many entries of the journal in a file, which is read once.
-fn show_in<'a, R: AllocGlobal + Files, O: Read + Drop, W: Write, E: Write>(
+fn show_in<'a, R: AllocGlobal + Files, O: TellsFault + Drop, W: Write, E: Write>(
     rt: &R,
     path: &'a str,
     output: &mut W,
     errors: &mut E,
-    show: Show<Count, O>,
+    show: Show<Count, Beside<'_, O>>,
 ) -> Result<Result<u8, WriteFault>, Failure<'a>>
-    ensures { (entry : Option ℕ) → IsAsked show.count entry
+    ensures { (entry : Option ℕ) → IsAsked show.entry.count entry
         → IfOk result (λ written. IfOk written
-        (ShowsSome entry (W.contents output.old) (W.contents output.new) (E.contents errors.old)
-        (E.contents errors.new))) }
+        (ShowsSome entry (start_of show.entry.form) (W.contents output.old) (W.contents output.new)
+        (E.contents errors.old) (E.contents errors.new))) }
 {
-    let mut reader = open_noted(rt, path)?;
+    let mut reader = open_watched(rt, path)?;
     let shown = match show_count(rt.alloc(), &mut reader, output, errors, show) {
         Ok(told) => unless_wanting(told),
         Err(error) => Err(error),
     };
-    unless_noted(path, shown, reader.error)
+    unless_failed(path, shown, reader.error())
 }
 
 // Shows so many entries of the journal in a file, or of that on the input where no file is named, beside that of
 // another reader where there is one.
-fn show_text<'a, R: AllocGlobal + Files, I: Read + Drop, O: Read + Drop, W: Write, E: Write>(
+fn show_text<
+    'a,
+    R: AllocGlobal + Files,
+    I: TellsFault + Drop,
+    O: TellsFault + Drop,
+    W: Write,
+    E: Write,
+>(
     rt: &R,
     input: I,
     output: &mut W,
     errors: &mut E,
     file: Option<&'a str>,
-    show: Show<Count, O>,
+    show: Show<Count, Beside<'_, O>>,
 ) -> Result<Result<u8, WriteFault>, Failure<'a>>
-    ensures { (entry : Option ℕ) → IsAsked show.count entry
+    ensures { (entry : Option ℕ) → IsAsked show.entry.count entry
         → IfOk result (λ written. IfOk written (λ status. OfText file.entry (I.remaining input)
-        (λ text. Shows entry text (W.contents output.old) (W.contents output.new) (E.contents errors.old)
-        (E.contents errors.new) status))) }
+        (λ text. Shows entry (start_of show.entry.form) text (W.contents output.old) (W.contents output.new)
+        (E.contents errors.old) (E.contents errors.new) status))) }
 {
     match file {
         None => Ok(show_count(rt.alloc(), input, output, errors, show)?),
@@ -200,7 +213,7 @@ fn show_text<'a, R: AllocGlobal + Files, I: Read + Drop, O: Read + Drop, W: Writ
 }
 
 // Shows so many entries of a journal, beside that in another file where such a one is named.
-fn show_files<'a, R: AllocGlobal + Files, I: Read + Drop, W: Write, E: Write>(
+fn show_files<'a, R: AllocGlobal + Files, I: TellsFault + Drop, W: Write, E: Write>(
     rt: &R,
     input: I,
     output: &mut W,
@@ -210,8 +223,8 @@ fn show_files<'a, R: AllocGlobal + Files, I: Read + Drop, W: Write, E: Write>(
 ) -> Result<Result<u8, WriteFault>, Failure<'a>>
     ensures { (entry : Option ℕ) → IsAsked show.entry.count entry
         → IfOk result (λ written. IfOk written (λ status. OfText file.entry (I.remaining input)
-        (λ text. Shows entry text (W.contents output.old) (W.contents output.new) (E.contents errors.old)
-        (E.contents errors.new) status))) }
+        (λ text. Shows entry (start_of show.entry.form) text (W.contents output.old) (W.contents output.new)
+        (E.contents errors.old) (E.contents errors.new) status))) }
 {
     let Show {
         form,
@@ -219,21 +232,25 @@ fn show_files<'a, R: AllocGlobal + Files, I: Read + Drop, W: Write, E: Write>(
         beside,
     } = show;
     let Some(path) = beside else {
-        let alone: Show<Count, &[u8]> = Show {
+        let alone: Show<Count, Beside<'_, &[u8]>> = Show {
             form,
             count,
             beside: None,
         };
         return show_text(rt, input, output, errors, file, alone);
     };
-    let mut other = open_noted(rt, path)?;
+    let mut other = open_watched(rt, path)?;
     let both = Show {
         form,
         count,
-        beside: Some(&mut other),
+        beside: Some(Beside {
+            reader: &mut other,
+            name: path,
+            first_name: file.unwrap_or("standard input"),
+        }),
     };
     let shown = show_text(rt, input, output, errors, file, both)?;
-    unless_noted(path, Ok(shown), other.error)
+    unless_failed(path, Ok(shown), other.error())
 }
 
 // The form that is shown, and whether durations go with it.
@@ -245,8 +262,25 @@ enum Timed {
     Loose,
 }
 
-// The form with the durations of a file, where one is named: a picture is then a chart, and a page has one. They go
-// with no other form.
+// Whether durations go with a form: with a picture, which is then a chart, and with a page, which has one.
+fn takes_times(form: &Form) -> bool
+    ensures { result ≡ takes_times form.now }
+{
+    matches!(form, Form::Picture | Form::Page(_))
+}
+
+// A form with durations, where they go with it.
+fn with_times(form: Form, durations: Durations) -> Form
+    requires { takes_times form ≡ true }
+    ensures { HasTimes form result }
+{
+    match form {
+        Form::Page(window) => Form::TimedPage(durations, window),
+        _ => Form::Chart(durations),
+    }
+}
+
+// The form with the durations of a file, where one is named.
 fn timed_form<'a, R: AllocGlobal + Files>(
     rt: &R,
     form: Form,
@@ -257,20 +291,17 @@ fn timed_form<'a, R: AllocGlobal + Files>(
     if times.is_none() {
         return Ok(Timed::Form(form));
     }
-    let is_page = match form {
-        Form::Picture => false,
-        Form::Page => true,
-        _ => return Ok(Timed::Loose),
-    };
+    if !takes_times(&form) {
+        return Ok(Timed::Loose);
+    }
     match durations_in(rt, times)? {
-        Ok(durations) if is_page => Ok(Timed::Form(Form::TimedPage(durations))),
-        Ok(durations) => Ok(Timed::Form(Form::Chart(durations))),
+        Ok(durations) => Ok(Timed::Form(with_times(form, durations))),
         Err(line) => Ok(Timed::Refused(line)),
     }
 }
 
 // Shows as many entries as a word says, or all of them where there is none.
-fn show_entry<'a, R: AllocGlobal + Files, I: Read + Drop, W: Write, E: Write>(
+fn show_entry<'a, R: AllocGlobal + Files, I: TellsFault + Drop, W: Write, E: Write>(
     rt: &R,
     input: I,
     output: &mut W,
@@ -278,8 +309,8 @@ fn show_entry<'a, R: AllocGlobal + Files, I: Read + Drop, W: Write, E: Write>(
     form: Form,
     showing: Showing<'a>,
 ) -> Result<Result<u8, WriteFault>, Failure<'a>>
-    ensures { IfOk result (λ written. IfOk written (ShowsEntry showing.entry (I.remaining input) (W.contents output.old)
-        (W.contents output.new) (E.contents errors.old) (E.contents errors.new))) }
+    ensures { IfOk result (λ written. IfOk written (ShowsEntry showing.entry (start_of form) (I.remaining input)
+        (W.contents output.old) (W.contents output.new) (E.contents errors.old) (E.contents errors.new))) }
 {
     let Some(word) = showing.entry else {
         let all = Show {
@@ -307,21 +338,42 @@ fn is_alone(beside: Option<&str>, form: Form) -> bool
     ensures { result ≡ true → IsAlone beside.entry (Some form) }
 {
     match form {
-        Form::Page => false,
-        _ => beside.is_some(),
+        Form::Page(_) | Form::TimedPage(..) => false,
+        Form::Text | Form::Unicode | Form::Picture | Form::Chart(_) | Form::Moving => {
+            beside.is_some()
+        }
     }
 }
 
-// Shows a journal that doesn't play, as the words of the command line ask.
-fn show_still<'a, R: AllocGlobal + Files, I: Read + Drop, W: Write, E: Write>(
+// Shows a journal in a form, of a page with the states that the words ask for.
+fn show_windowed<'a, R: AllocGlobal + Files, I: TellsFault + Drop, W: Write, E: Write>(
     rt: &R,
     input: I,
     output: &mut W,
     errors: &mut E,
+    form: Form,
     showing: Showing<'a>,
 ) -> Result<Result<u8, WriteFault>, Failure<'a>>
-    ensures { IfOk result (λ written. IfOk written (ShowsStill showing.entry (I.remaining input) (W.contents output.old)
-        (W.contents output.new) (E.contents errors.old) (E.contents errors.new))) }
+    ensures { IfOk result (λ written. IfOk written (ShowsWindow showing.entry form (I.remaining input)
+        (W.contents output.old) (W.contents output.new) (E.contents errors.old) (E.contents errors.new))) }
+{
+    match windowed(form, showing.from, showing.count) {
+        Ok(form) => show_entry(rt, input, output, errors, form, showing),
+        Err(why) => Ok(wrong(errors, why)?),
+    }
+}
+
+// Shows a journal that doesn't play, as the words of the command line ask.
+fn show_still<'a, R: AllocGlobal + Files, I: TellsFault + Drop, W: Write, E: Write>(
+    rt: &R,
+    input: I,
+    output: &mut WatchedWriter<'_, W>,
+    errors: &mut E,
+    showing: Showing<'a>,
+) -> Result<Result<u8, WriteFault>, Failure<'a>>
+    ensures { IfOk result (λ written. IfOk written (ShowsStill showing.entry (I.remaining input)
+        (bytes_held W.contents output.old)
+        (bytes_held W.contents output.new) (E.contents errors.old) (E.contents errors.new))) }
 {
     let Some(form) = form_of(&showing) else {
         return Ok(wrong(
@@ -333,7 +385,7 @@ fn show_still<'a, R: AllocGlobal + Files, I: Read + Drop, W: Write, E: Write>(
         return Ok(wrong(errors, "--beside goes with --html")?);
     }
     match timed_form(rt, form, showing.times)? {
-        Timed::Form(form) => show_entry(rt, input, output, errors, form, showing),
+        Timed::Form(form) => show_windowed(rt, input, output, errors, form, showing),
         Timed::Refused(line) => Ok(tell_times(output, line.as_str())),
         Timed::Loose => Ok(wrong(errors, "--times goes with --svg or --html")?),
     }
@@ -346,29 +398,45 @@ fn is_mixed(
     times: Option<&str>,
     beside: Option<&str>,
     file: Option<&str>,
+    from: Option<&str>,
+    count: Option<&str>,
 ) -> bool
-    ensures { result ≡ true → IsMixed form times.entry beside.entry file.entry }
+    ensures { result ≡ true → IsMixed form times.entry beside.entry file.entry from.entry count.entry }
 {
     match form {
-        Some(Form::Picture) => times.is_some() || beside.is_some() || file.is_some(),
+        Some(Form::Picture) => {
+            times.is_some()
+                || beside.is_some()
+                || file.is_some()
+                || from.is_some()
+                || count.is_some()
+        }
         _ => true,
     }
 }
 
 // Shows the journal in a file as it plays, as the words of the command line ask.
-fn show_moving<'a, R: AllocGlobal + Files, I: Read + Drop, W: Write, E: Write>(
+fn show_moving<'a, R: AllocGlobal + Files, I: TellsFault + Drop, W: Write, E: Write>(
     rt: &R,
     input: I,
-    output: &mut W,
+    output: &mut WatchedWriter<'_, W>,
     errors: &mut E,
     showing: Showing<'a>,
     path: &'a str,
 ) -> Result<Result<u8, WriteFault>, Failure<'a>>
     ensures { IfOk result (λ written. IfOk written (Plays path.entry showing.entry (I.remaining input)
-        (W.contents output.old) (W.contents output.new) (E.contents errors.old) (E.contents errors.new))) }
+        (bytes_held W.contents output.old) (bytes_held W.contents output.new) (E.contents errors.old)
+        (E.contents errors.new))) }
 {
     let form = form_of(&showing);
-    if is_mixed(form, showing.times, showing.beside, showing.file) {
+    if is_mixed(
+        form,
+        showing.times,
+        showing.beside,
+        showing.file,
+        showing.from,
+        showing.count,
+    ) {
         return Ok(wrong(errors, "--animate goes with --svg alone")?);
     }
     let played = Showing {
@@ -379,15 +447,16 @@ fn show_moving<'a, R: AllocGlobal + Files, I: Read + Drop, W: Write, E: Write>(
 }
 
 /// Shows a journal, as the words of the command line ask.
-pub fn show_words<'a, R: AllocGlobal + Files, I: Read + Drop, W: Write, E: Write>(
+pub fn show_words<'a, R: AllocGlobal + Files, I: TellsFault + Drop, W: Write, E: Write>(
     rt: &R,
     input: I,
-    output: &mut W,
+    output: &mut WatchedWriter<'_, W>,
     errors: &mut E,
     showing: Showing<'a>,
 ) -> Result<Result<u8, WriteFault>, Failure<'a>>
-    ensures { IfOk result (λ written. IfOk written (ShowsWords showing.entry (I.remaining input) (W.contents output.old)
-        (W.contents output.new) (E.contents errors.old) (E.contents errors.new))) }
+    ensures { IfOk result (λ written. IfOk written (ShowsWords showing.entry (I.remaining input)
+        (bytes_held W.contents output.old)
+        (bytes_held W.contents output.new) (E.contents errors.old) (E.contents errors.new))) }
 {
     match showing.animate {
         None => show_still(rt, input, output, errors, showing),

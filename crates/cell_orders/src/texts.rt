@@ -3,14 +3,15 @@ ghost use Rattle.std.specs.Prelude.{◌≡◌, ◌⊎◌, ℕ, List, Ok, Some, I
 ghost use Rattle.cell_explain.specs.Explained.{EndsAsAudit, EndsAsFaults, EndsAsScript};
 ghost use Rattle.cell_audit.specs.Lines.{status_of};
 ghost use Rattle.cell_audit.specs.Reading.{IsBefore, IsSomeReading};
+ghost use Rattle.cell_output.specs.Watched.{bytes_held};
 ghost use Rattle.cell_orders.specs.Texts.{TellsTooLong};
 
 use crate::failure::Failure;
-use crate::noted::Noted;
 use crate::reading::{JournalText, ScriptText, journal_text, script_text, settings_text};
-use cell_audit::{AuditError, Audited, read_journal};
+use cell_audit::{AuditError, Audited, read_rows};
 use cell_explain::{explain_faults, explain_journal, explain_operator};
 use cell_output::{WatchedWriter, WriteFault, status};
+use cell_rows::{RowReader, TellsFault, Watched};
 use cell_sim::PlannedFault;
 use operator_desk::Line;
 use std::alloc::{AllocError, Global};
@@ -71,17 +72,17 @@ pub fn script_in<'a, R: AllocGlobal + Files>(
 }
 
 /// A reader of the file of a path, which notes its errors. An error names that file.
-pub(crate) fn open_noted<'a, R: AllocGlobal + Files>(
+pub(crate) fn open_watched<'a, R: AllocGlobal + Files>(
     rt: &R,
     path: &'a str,
-) -> Result<Noted<R::File>, Failure<'a>>
+) -> Result<Watched<R::File>, Failure<'a>>
     ensures { IfErr result (λ failure. failure.file ≡ Some path.entry) }
 {
-    Ok(Noted::new(about(path, File::open(rt, path))?))
+    Ok(Watched::new(about(path, File::open(rt, path))?))
 }
 
 /// What was made of the text in a file, unless a read of it failed. An error names that file.
-pub(crate) fn unless_noted<'a, T: Drop>(
+pub(crate) fn unless_failed<'a, T: Drop>(
     path: &'a str,
     made: io::Result<T>,
     noted: Option<io::Error>,
@@ -108,11 +109,12 @@ pub(crate) fn unless_wanting(told: Result<u8, WriteFault>) -> io::Result<Result<
 
 // The journal of a reader, in a book as far as it is judged. Where the reader fails or memory was refused, that is an
 // error.
-fn booked<R: Read + Drop>(alloc: Global, reader: R) -> io::Result<Audited>
+fn booked<R: TellsFault + Drop>(alloc: Global, reader: R) -> io::Result<Audited>
     ensures some { IfOk result (λ read. IsSomeReading read.answer read.book.entries) }
     ensures before { IfOk result (λ read. IsBefore read.answer read.book.entries) }
 {
-    let read = read_journal(alloc, reader)?;
+    let mut rows = RowReader::new(alloc, reader);
+    let read = read_rows(alloc, &mut rows)?;
     match read.answer {
         Err(AuditError::OutOfMemory) => Err(io::Error::from(ErrorKind::OutOfMemory)),
         Err(AuditError::ReadFault) => Err(io::Error::from(ErrorKind::Interrupted)),
@@ -127,9 +129,9 @@ pub fn book_in<'a, R: AllocGlobal + Files>(rt: &R, path: &'a str) -> Result<Audi
     ensures before { IfOk result (λ read. IsBefore read.answer read.book.entries) }
     ensures named { IfErr result (λ failure. failure.file ≡ Some path.entry) }
 {
-    let mut noted = open_noted(rt, path)?;
-    let read = booked(rt.alloc(), &mut noted);
-    unless_noted(path, read, noted.error)
+    let mut reader = open_watched(rt, path)?;
+    let read = booked(rt.alloc(), &mut reader);
+    unless_failed(path, read, reader.error())
 }
 
 // The journal of a reader, as far as it is judged. Where memory was refused, that is an error.
@@ -148,23 +150,23 @@ pub fn journal_in<'a, R: AllocGlobal + Files>(
 ) -> Result<JournalText, Failure<'a>>
     ensures { IfErr result (λ failure. failure.file ≡ Some path.entry) }
 {
-    let mut noted = open_noted(rt, path)?;
-    let read = judged(rt.alloc(), &mut noted);
-    unless_noted(path, read, noted.error)
+    let mut reader = open_watched(rt, path)?;
+    let read = judged(rt.alloc(), &mut reader);
+    unless_failed(path, read, reader.error())
 }
 
 /// Writes that settings are longer than they may be, and gives the status.
-pub fn tell_too_long<W: Write>(output: &mut W) -> Result<u8, WriteFault>
-    ensures { TellsTooLong (W.contents output.old) (W.contents output.new) result }
+pub fn tell_too_long<W: Write>(output: &mut WatchedWriter<'_, W>) -> Result<u8, WriteFault>
+    ensures { TellsTooLong (bytes_held W.contents output.old) (bytes_held W.contents output.new) result }
 {
-    WatchedWriter::new(output).write_bytes(b"settings TooLong\n")?;
+    output.write_bytes(b"settings TooLong\n")?;
     Ok(status::REFUSED)
 }
 
 // Writes the line of an explanation of a record that is longer than was read, of which it says that in place of all
 // else.
 fn tell_cut<W: Write>(
-    output: &mut W,
+    output: &mut WatchedWriter<'_, W>,
     said: &[u8],
     explained: Result<u8, WriteFault>,
 ) -> Result<u8, WriteFault>
@@ -178,7 +180,7 @@ fn tell_cut<W: Write>(
         None => said,
     };
     let rest = b": a record of more than 65536 bytes\n".as_slice();
-    WatchedWriter::new(output).write_pieces(&[begin, rest])?;
+    output.write_pieces(&[begin, rest])?;
     Ok(status::REFUSED)
 }
 
@@ -186,7 +188,7 @@ fn tell_cut<W: Write>(
 pub(crate) fn explain_faults_in<'a, R: AllocGlobal + Files, W: Write>(
     rt: &R,
     path: &'a str,
-    output: &mut W,
+    output: &mut WatchedWriter<'_, W>,
 ) -> Result<Result<u8, WriteFault>, Failure<'a>>
     ensures { IfOk result (λ written. IfOk written (λ status. (faults : List ℕ) × EndsAsFaults faults status)) }
 {
@@ -194,7 +196,7 @@ pub(crate) fn explain_faults_in<'a, R: AllocGlobal + Files, W: Write>(
     let script = script_in(rt, path)?;
     let bytes = script.bytes.as_slice();
     if !script.cuts_record::<PlannedFault>(alloc)? {
-        return Ok(explain_faults(alloc, bytes, &mut WatchedWriter::new(output)));
+        return Ok(explain_faults(alloc, bytes, output));
     }
     let mut said = Vec::new(alloc);
     let explained = explain_faults(alloc, bytes, &mut WatchedWriter::new(&mut said));
@@ -205,7 +207,7 @@ pub(crate) fn explain_faults_in<'a, R: AllocGlobal + Files, W: Write>(
 pub(crate) fn explain_operator_in<'a, R: AllocGlobal + Files, W: Write>(
     rt: &R,
     path: &'a str,
-    output: &mut W,
+    output: &mut WatchedWriter<'_, W>,
 ) -> Result<Result<u8, WriteFault>, Failure<'a>>
     ensures { IfOk result (λ written. IfOk written (λ status. (operator : List ℕ) × EndsAsScript operator status)) }
 {
@@ -213,7 +215,7 @@ pub(crate) fn explain_operator_in<'a, R: AllocGlobal + Files, W: Write>(
     let script = script_in(rt, path)?;
     let bytes = script.bytes.as_slice();
     if !script.cuts_record::<Line>(alloc)? {
-        return Ok(explain_operator(alloc, bytes, &mut WatchedWriter::new(output)));
+        return Ok(explain_operator(alloc, bytes, output));
     }
     let mut said = Vec::new(alloc);
     let explained = explain_operator(alloc, bytes, &mut WatchedWriter::new(&mut said));
@@ -224,13 +226,13 @@ pub(crate) fn explain_operator_in<'a, R: AllocGlobal + Files, W: Write>(
 fn explain_read<W: Write>(
     alloc: Global,
     read: &JournalText,
-    output: &mut W,
+    output: &mut WatchedWriter<'_, W>,
 ) -> Result<Result<u8, WriteFault>, AllocError>
     ensures { IfOk result (λ written. IfOk written (EndsAsAudit read.now.bytes.items)) }
 {
     let bytes = read.bytes.as_slice();
     if !read.cuts_record(alloc)? {
-        return Ok(explain_journal(alloc, bytes, &mut WatchedWriter::new(output)));
+        return Ok(explain_journal(alloc, bytes, output));
     }
     let mut said = Vec::new(alloc);
     let explained = explain_journal(alloc, bytes, &mut WatchedWriter::new(&mut said));
@@ -241,7 +243,7 @@ fn explain_read<W: Write>(
 pub(crate) fn explain_journal_in<'a, R: AllocGlobal + Files, W: Write>(
     rt: &R,
     path: &'a str,
-    output: &mut W,
+    output: &mut WatchedWriter<'_, W>,
 ) -> Result<Result<u8, WriteFault>, Failure<'a>>
     ensures { IfOk result (λ written. IfOk written (λ status. (journal : List ℕ) × EndsAsAudit journal status)) }
 {
@@ -277,7 +279,7 @@ fn as_audited(due: u8, explained: Result<u8, WriteFault>) -> Result<u8, WriteFau
 pub(crate) fn explain_input<I: Read + Drop, W: Write>(
     alloc: Global,
     input: I,
-    output: &mut W,
+    output: &mut WatchedWriter<'_, W>,
 ) -> io::Result<Result<u8, WriteFault>>
     ensures { IfOk result (λ written. IfOk written
         (λ status. IfSome (I.remaining input) (λ text. EndsAsAudit text status))) }

@@ -1,5 +1,6 @@
 //! The durations of motions in a file.
 ghost use Rattle.std.specs.Prelude.{IfErr, IfOk};
+ghost use Rattle.cell_output.specs.Watched.{bytes_held};
 ghost use Rattle.cell_orders.specs.Texts.{IsGiven, TellsTimes};
 
 use crate::failure::Failure;
@@ -39,9 +40,9 @@ pub fn durations_in<'a, R: AllocGlobal + Files>(
 }
 
 /// Writes the line that tells why durations are refused, and gives the status.
-pub fn tell_times<W: Write>(output: &mut W, line: &str) -> Result<u8, WriteFault>
-    ensures { TellsTimes (W.contents output.old) (W.contents output.new) result }
+pub fn tell_times<W: Write>(output: &mut WatchedWriter<'_, W>, line: &str) -> Result<u8, WriteFault>
+    ensures { TellsTimes (bytes_held W.contents output.old) (bytes_held W.contents output.new) result }
 {
-    WatchedWriter::new(output).write_pieces(&[line.as_bytes(), b"\n".as_slice()])?;
+    output.write_pieces(&[line.as_bytes(), b"\n".as_slice()])?;
     Ok(status::REFUSED)
 }

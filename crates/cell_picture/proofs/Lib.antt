@@ -1,3 +1,4 @@
 mod Showing
 mod Listed
 mod Telling
+mod Stepping

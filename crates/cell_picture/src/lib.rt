@@ -12,4 +12,4 @@ pub use facts::{Facts, ShownPlate, facts_of};
 pub use parts::{axis_at, holder_at, is_asked, is_failed, lamp_at, plate_at};
 pub use scene::{AnswerLine, Scene};
 pub use text::draw_text;
-pub use views::facts_after;
+pub use views::{facts_after, facts_left, step_on};

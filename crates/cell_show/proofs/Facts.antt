@@ -1,8 +1,9 @@
 -- An answer on memory, and the good entries of a text.
 use Rattle.std.proofs.Common.{◌≡◌, ◌≢◌, ◌<◌, ◌≤◌, ℕ, List, [], length, Option, Some, None, Result, Ok, Err, inl, inr}
 use Rattle.std.proofs.Common.{refl, ap, arith, ◌⊎◌}
-use Rattle.std.specs.Prelude.{IfOk, IfSome, unwrap_or}
+use Rattle.std.specs.Prelude.{IfOk, IfSome, max, unwrap_or}
 use Rattle.std.specs.Result.{result_err}
+use Rattle.std.proofs.lemmas.Bool.{cases_lt}
 use Rattle.cell_rows.specs.Rows.{Row, rows_of}
 use Rattle.cell_types.specs.declared.words.Entry.{Entry}
 use Rattle.cell_types.specs.declared.words.Totals.{Totals}
@@ -13,8 +14,8 @@ use Rattle.cell_audit.specs.declared.error.AuditError.{AuditError}
 use Rattle.cell_audit.specs.declared.error.AuditError.TheVariants as error
 use Rattle.cell_audit.specs.Lines.{status_of}
 use Rattle.cell_show.specs.Beside.{WritesBeside}
-use Rattle.cell_show.specs.Shown.{AreGood, AsksPast, HasEntry, IsOther, IsPage, OfReader, ShowsBeside, ShowsPage}
-use Rattle.cell_show.specs.Shown.{ShownOf, ShowsSome, ShowsSomeBeside, TellsEntries, TellsStatus}
+use Rattle.cell_show.specs.Shown.{AreGood, AsksPast, HasBound, HasEntry, IsOther, IsPage, OfReader, ShowsBeside}
+use Rattle.cell_show.specs.Shown.{ShownOf, ShowsPage, ShowsSome, ShowsSomeBeside, TellsEntries, TellsStatus, start_of}
 use Rattle.cell_show.specs.declared.error.ShowError.{ShowError}
 use Rattle.cell_show.specs.declared.error.ShowError.TheVariants as shown
 use Rattle.cell_show.specs.declared.show.Form.{Form}
@@ -53,19 +54,20 @@ within : (entry : Option ℕ) (n : ℕ) → unwrap_or entry n ≤ n → IfSome e
 within None n most = tt
 within (Some k) n most = most
 
-pub has : (rows : Option (List Row)) (entry : Option ℕ) (n : ℕ) (J : List Entry)
-    → IfSome rows (AreGood J) → length J ≡ n → unwrap_or entry n ≤ n → IfSome rows (HasEntry entry)
-has None entry n J are size most = tt
-has (Some known) entry n J are size most = (J, are, rw size (within entry n most))
+pub has : (rows : Option (List Row)) (entry : Option ℕ) (start n : ℕ) (J : List Entry)
+    → IfSome rows (AreGood J) → length J ≡ n → unwrap_or entry n ≤ n → start ≤ n → IfSome rows (HasEntry entry start)
+has None entry start n J are size most begun = tt
+has (Some known) entry start n J are size most begun =
+    (J, are, rw size (within entry n most), omega (arith, size, begun))
 
 -- the page of a text's good entries and that of another text stand in one
-pub both_shown : (rows : Option (List Row)) (form : Form) (others : List Row) (old new : Option (List ℕ))
-    (first second : List ℕ)
-    → IfSome rows (ShowsPage form (Some []) (Some first)) → WritesBeside old new first second
+pub both_shown : (rows : Option (List Row)) (form : Form) (one two : List ℕ) (others : List Row)
+    (old new : Option (List ℕ)) (first second : List ℕ)
+    → IfSome rows (ShowsPage form (Some []) (Some first)) → WritesBeside old new one two first second
     → IsOther form second others
-    → IfSome rows (ShowsBeside form others old new)
-both_shown None form others old new first second page both other = tt
-both_shown (Some known) form others old new first second page both other = (first, second, both, page, other)
+    → IfSome rows (ShowsBeside form one two others old new)
+both_shown None form one two others old new first second page both other = tt
+both_shown (Some known) form one two others old new first second page both other = (first, second, both, page, other)
 
 -- what is told of an entry that isn't there
 pub none_there : (rows : Option (List Row)) (J : List Entry) (n : ℕ) → IfSome rows (AreGood J) → length J ≡ n
@@ -99,15 +101,15 @@ unread-some entry form answer J status old new (text, (due, first)) is high =
 -- a text's good entries are shown
 pub shown-some : (entry : Option ℕ) (form : Form) (answer : Result (ℕ × Totals) AuditError) (J : List Entry)
     (status n : ℕ) (old new : Option (List ℕ)) → IsSomeReading answer J → IsBefore answer J
-    → status ≡ status_of answer → status_of answer ≤ 1 → length J ≡ n → unwrap_or entry n ≤ n
+    → status ≡ status_of answer → status_of answer ≤ 1 → length J ≡ n → unwrap_or entry n ≤ n → start_of form ≤ n
     → IsPage form J (result_err answer) old new → ShowsSome form entry old new (Ok status)
-shown-some entry form answer J status n old new (text, (due, first)) before is low size most page =
+shown-some entry form answer J status n old new (text, (due, first)) before is low size most begun page =
     let are : AreGood J (rows_of text) = good (Some (rows_of text)) answer J due before first low in (
       text,
       (
         (answer, due, is),
         λ _. (
-          has (Some (rows_of text)) entry n J are size most,
+          has (Some (rows_of text)) entry (start_of form) n J are size most begun,
           paged (Some (rows_of text)) form answer J old new due before first low page,
         ),
       ),
@@ -144,12 +146,14 @@ pub other-shown : (known : Option (List ℕ)) (form : Form) (status : ℕ) (page
 other-shown None form status page here (text, (due, there)) low = (text, tt, inl (there low).1)
 other-shown (Some told) form status page here some low = (told, refl, inl here)
 
-pub other-long : (known : Option (List ℕ)) (form : Form) (page : List ℕ) (old new : Option (List ℕ))
-    → IfSome (rows_in known) (TellsEntries shown.TooManyEntries)
-    → ShowsSome form None old new (Err shown.TooManyEntries)
+pub other-absent : (known : Option (List ℕ)) (form : Form) (page : List ℕ) (old new : Option (List ℕ)) (why : ShowError)
+    → why ≢ shown.WriteFault → AsksPast None (start_of form) why → (why ≡ shown.TooManyEntries → HasBound form)
+    → IfSome (rows_in known) (TellsEntries why) → ShowsSome form None old new (Err why)
     → OfReader known (λ text. IsOther form page (rows_of text))
-other-long None form page old new here (text, is) = (text, tt, inr is)
-other-long (Some told) form page old new here some = (told, refl, inr here)
+other-absent None form page old new why other past bound here (text, is) =
+    (text, tt, inr (why, other, past, bound, is))
+other-absent (Some told) form page old new why other past bound here some =
+    (told, refl, inr (why, other, past, bound, here))
 
 -- what holds of all texts
 any-reader : (known : Option (List ℕ)) (P : List ℕ → Type 0) → ((text : List ℕ) → P text) → OfReader known P
@@ -163,11 +167,12 @@ faults-told None status (inr is) = (Err error.OutOfMemory, tt, is)
 faults-told (Some known) status (inl is) = (Err error.ReadFault, inl (inl refl), is)
 faults-told (Some known) status (inr is) = (Err error.OutOfMemory, inl (inr refl), is)
 
-pub beside-fault : (entry : Option ℕ) (form : Form) (known old new : Option (List ℕ)) (status : ℕ)
-    → (status ≡ 3) ⊎ (status ≡ 4) → ShowsSomeBeside form entry known old new (Ok status)
-beside-fault entry form known old new status is = (
+pub beside-fault : (entry : Option ℕ) (form : Form) (one two : List ℕ) (known old new : Option (List ℕ)) (status : ℕ)
+    → (status ≡ 3) ⊎ (status ≡ 4) → ShowsSomeBeside form entry one two known old new (Ok status)
+beside-fault entry form one two known old new status is = (
   [],
-  any-reader known (λ others. ShownOf (rows_of []) entry (ShowsBeside form (rows_of others) old new) (Ok status))
+  any-reader known (λ others. ShownOf (rows_of []) entry (start_of form)
+      (ShowsBeside form one two (rows_of others) old new) (Ok status))
       (λ others. (faults-told (Some (rows_of [])) status is, λ low. absurd (high is low))),
 )
   where
@@ -176,38 +181,43 @@ beside-fault entry form known old new status is = (
     high (inr is) low = omega (arith, is, low)
 
 -- the first text isn't shown
-pub beside-unread : (entry : Option ℕ) (form : Form) (known old new first : Option (List ℕ)) (status : ℕ)
+pub beside-unread : (entry : Option ℕ) (form : Form) (one two : List ℕ)
+    (known old new first : Option (List ℕ)) (status : ℕ)
     → ShowsSome form entry (Some []) first (Ok status) → 1 < status
-    → ShowsSomeBeside form entry known old new (Ok status)
-beside-unread entry form known old new first status (text, (due, there)) high = (
+    → ShowsSomeBeside form entry one two known old new (Ok status)
+beside-unread entry form one two known old new first status (text, (due, there)) high = (
   text,
-  any-reader known (λ others. ShownOf (rows_of text) entry (ShowsBeside form (rows_of others) old new) (Ok status))
+  any-reader known (λ others. ShownOf (rows_of text) entry (start_of form)
+      (ShowsBeside form one two (rows_of others) old new) (Ok status))
       (λ others. (due, λ low. absurd (omega (arith, low, high)))),
 )
 
-pub beside-none : (entry : Option ℕ) (form : Form) (known old new first : Option (List ℕ)) (why : ShowError)
-    → ShowsSome form entry (Some []) first (Err why) → ShowsSomeBeside form entry known old new (Err why)
-beside-none entry form known old new first why (text, is) = (
+pub beside-none : (entry : Option ℕ) (form : Form) (one two : List ℕ)
+    (known old new first : Option (List ℕ)) (why : ShowError)
+    → ShowsSome form entry (Some []) first (Err why) → ShowsSomeBeside form entry one two known old new (Err why)
+beside-none entry form one two known old new first why (text, is) = (
   text,
-  any-reader known (λ others. ShownOf (rows_of text) entry (ShowsBeside form (rows_of others) old new) (Err why))
+  any-reader known (λ others. ShownOf (rows_of text) entry (start_of form)
+      (ShowsBeside form one two (rows_of others) old new) (Err why))
       (λ others. is),
 )
 
 -- a write failed
-pub beside-unwritten : (entry : Option ℕ) (form : Form) (known old new : Option (List ℕ))
-    → ShowsSomeBeside form entry known old new (Err shown.WriteFault)
-beside-unwritten entry form known old new = (
+pub beside-unwritten : (entry : Option ℕ) (form : Form) (one two : List ℕ) (known old new : Option (List ℕ))
+    → ShowsSomeBeside form entry one two known old new (Err shown.WriteFault)
+beside-unwritten entry form one two known old new = (
   [],
-  any-reader known (λ others. ShownOf (rows_of []) entry (ShowsBeside form (rows_of others) old new)
-      (Err shown.WriteFault)) (λ others. tt),
+  any-reader known (λ others. ShownOf (rows_of []) entry (start_of form)
+      (ShowsBeside form one two (rows_of others) old new) (Err shown.WriteFault)) (λ others. tt),
 )
 
 -- both are shown
-pub beside-some : (entry : Option ℕ) (form : Form) (known old new : Option (List ℕ)) (first second : List ℕ)
-    (status : ℕ) → ShowsSome form entry (Some []) (Some first) (Ok status) → WritesBeside old new first second
+pub beside-some : (entry : Option ℕ) (form : Form) (one two : List ℕ)
+    (known old new : Option (List ℕ)) (first second : List ℕ)
+    (status : ℕ) → ShowsSome form entry (Some []) (Some first) (Ok status) → WritesBeside old new one two first second
     → OfReader known (λ text. IsOther form second (rows_of text))
-    → ShowsSomeBeside form entry known old new (Ok status)
-beside-some entry form known old new first second status (text, (due, there)) both (others, same, other) = (
+    → ShowsSomeBeside form entry one two known old new (Ok status)
+beside-some entry form one two known old new first second status (text, (due, there)) both (others, same, other) = (
   text,
   (
     others,
@@ -216,16 +226,21 @@ beside-some entry form known old new first second status (text, (due, there)) bo
       due,
       λ low. (
         (there low).0,
-        both_shown (Some (rows_of text)) form (rows_of others) old new first second (there low).1 both other,
+        both_shown (Some (rows_of text)) form one two (rows_of others) old new first second (there low).1 both other,
       ),
     ),
   ),
 )
 
--- where there is no such entry, more were asked for
-pub asks_past : (entry : Option ℕ) (n : ℕ) → n < unwrap_or entry n → AsksPast entry (shown.NoSuchEntry n)
-asks_past None n less = absurd (omega (arith, less))
-asks_past (Some k) n less = (k, refl, less)
+-- where there is no such entry, more were asked for, or a page begins after more
+pub asks_past : (entry : Option ℕ) (start n : ℕ) → n < max (unwrap_or entry n) start
+    → AsksPast entry start (shown.NoSuchEntry n)
+asks_past None start n less = inr (omega (arith, less))
+asks_past (Some k) start n less = go (cases_lt n k)
+  where
+    go : (n < k) ⊎ (k ≤ n) → AsksPast (Some k) start (shown.NoSuchEntry n)
+    go (inl more) = inl (k, refl, more)
+    go (inr most) = inr (omega (arith, less, most))
 
 -- what holds of all values holds of one that is given
 pub all-ok : {X Y : Type 0} (r : Result X Y) (P : X → Type 0) → ((x : X) → P x) → IfOk r P

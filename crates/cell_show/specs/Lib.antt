@@ -3,5 +3,6 @@ pub mod Shown
 pub mod Rows
 pub mod Refused
 pub mod Waits
+pub mod Window
 pub mod Page
 pub mod Beside

@@ -1,5 +1,5 @@
 -- What a page says of a journal
-use Rattle.std.specs.Prelude.{ℕ, zero, suc, Option, Some, None, List, [], ◌++◌, codes, decimal, length, take, ⊤}
+use Rattle.std.specs.Prelude.{ℕ, zero, suc, ◌+◌, Option, Some, None, List, [], ◌++◌, codes, decimal, length, take, ⊤}
 use Rattle.std.specs.Borrow.{Bor}
 use Rattle.std.specs.Io.KnownBytes.{Appends}
 use Rattle.cell_types.specs.declared.words.Entry.{Entry}
@@ -10,7 +10,9 @@ use Rattle.cell_picture.specs.Told.{facts_told, last_of}
 use Rattle.cell_show.specs.Refused.{refused_line}
 use Rattle.cell_show.specs.Rows.{row_text}
 use Rattle.cell_show.specs.Waits.{TellsWaits, waits_text}
+use Rattle.cell_show.specs.Window.{answer_at, end_of, shown_of, window_data, window_line}
 use Rattle.cell_show.specs.declared.page.error.PageError.{PageError}
+use Rattle.cell_show.specs.declared.page.window.Window.{Window}
 use Rattle.cell_show.specs.declared.page.error.PageError.TheVariants as error
 
 -- an error as it is told
@@ -22,21 +24,21 @@ error_text error.WriteFault = codes "WriteFault"
 abbrev pub row_of : List Entry → List ℕ
 row_of J = row_text (facts_told J) (last_of J)
 
--- the rows after none, one and so on up to i of a journal's entries, each on a line of its own
-unfoldable pub rows_upto : List Entry → ℕ → List ℕ
-rows_upto J zero = row_of []
-rows_upto J (suc i) = rows_upto J i ++ (codes ",\n" ++ row_of (take (suc i) J))
+-- the rows after so many of a journal's entries and after each of some more, each on a line of its own
+unfoldable pub rows_on : List Entry → ℕ → ℕ → List ℕ
+rows_on J from zero = row_of (take from J)
+rows_on J from (suc more) = rows_on J from more ++ (codes ",\n" ++ row_of (take (from + suc more) J))
 
--- the rows after each number of a journal's entries
-abbrev pub rows_text : List Entry → List ℕ
-rows_text J = rows_upto J (length J)
+-- the rows of the states that are shown of a journal
+abbrev pub rows_text : Window → List Entry → List ℕ
+rows_text w J = rows_on J w.from (shown_of w (length J))
 
 -- the last entry as it is told where no scripts run
 abbrev pub last_text : Option Entry → List ℕ
 last_text None = codes "Nothing is booked."
 last_text (Some e) = codes "The last entry: " ++ entry_sentence e
 
--- what is shown where no scripts run
+-- what is shown where no scripts run, of the entries up to the last state
 abbrev pub no_scripts_text : List Entry → List ℕ
 no_scripts_text J =
     codes "<noscript><p class=\"answer\">This page needs scripts to show the states after "
@@ -59,33 +61,47 @@ abbrev pub chart_section : Option (Bor (List ℕ)) → List ℕ
 chart_section None = []
 chart_section (Some chart) = chart_start ++ (chart.now ++ codes "</div>\n</section>\n")
 
+-- the data of a page behind its words: its numbers, its last step, where it shows the last good entry, for what
+-- machines wait, and its rows
+abbrev pub data_text : List ℕ → Window → List Entry → Option AuditError → Option Entry → List ℕ
+data_text waits w J answer refused =
+    window_data w (length J) ++ (refused_line (answer_at w (length J) answer) refused
+    ++ (waits_text waits ++ (codes "\"rows\":[\n" ++ rows_text w J)))
+
+-- the data were written: with what machines wait for in each of the states
+pub record WritesData (old new : Option (List ℕ)) (w : Window) (J : List Entry) (answer : Option AuditError)
+    (refused : Option Entry) : Type 0 where
+  pub waits : List ℕ
+  pub waiting : TellsWaits J w.from (shown_of w (length J)) waits
+  pub whole : Appends old new (data_text waits w J answer refused)
+
 -- the text of a page, whose other parts are its head, its drawing, its lists, its middle, its words, what is waited for
 -- and its scripts
-abbrev pub page_text : List ℕ → List ℕ → List ℕ → List ℕ → List ℕ → List ℕ → List ℕ → List Entry → Option AuditError
-    → Option Entry → Option (Bor (List ℕ)) → List ℕ
-page_text head drawing lists middle words waits scripts J answer refused chart =
-    head ++ (no_scripts_text J ++ (drawing ++ (answer_line answer ++ (lists ++ (chart_section chart
-    ++ (middle ++ (words ++ (refused_line answer refused ++ (waits_text waits
-    ++ (codes "\"rows\":[\n" ++ (rows_text J ++ scripts)))))))))))
+abbrev pub page_text : List ℕ → List ℕ → List ℕ → List ℕ → List ℕ → List ℕ → List ℕ → Window → List Entry
+    → Option AuditError → Option Entry → Option (Bor (List ℕ)) → List ℕ
+page_text head drawing lists middle words waits scripts w J answer refused chart =
+    head ++ (no_scripts_text (take (end_of w (length J)) J) ++ (drawing ++ (answer_line answer
+    ++ (window_line w (length J) ++ (lists ++ (chart_section chart ++ (middle ++ (words
+    ++ (data_text waits w J answer refused ++ scripts)))))))))
 
 -- some text was written
 pub record AppendsSome (old new : Option (List ℕ)) : Type 0 where
   pub text : List ℕ
   pub whole : Appends old new text
 
--- a page was written: the text of one with this journal's rows, with what machines wait for after each number of its
--- entries, and with the last step of this answer and refused entry
-pub record WritesPage (old new : Option (List ℕ)) (J : List Entry) (answer : Option AuditError) (refused : Option Entry)
-    (chart : Option (Bor (List ℕ))) : Type 0 where
+-- a page was written: the text of one with the rows of these states of a journal, with what machines wait for in each
+-- of them, and with the last step of this answer and refused entry
+pub record WritesPage (old new : Option (List ℕ)) (w : Window) (J : List Entry) (answer : Option AuditError)
+    (refused : Option Entry) (chart : Option (Bor (List ℕ))) : Type 0 where
   pub head : List ℕ
   pub drawing : List ℕ
   pub lists : List ℕ
   pub middle : List ℕ
   pub words : List ℕ
   pub waits : List ℕ
-  pub waiting : TellsWaits J 0 (length J) waits
+  pub waiting : TellsWaits J w.from (shown_of w (length J)) waits
   pub scripts : List ℕ
-  pub whole : Appends old new (page_text head drawing lists middle words waits scripts J answer refused chart)
+  pub whole : Appends old new (page_text head drawing lists middle words waits scripts w J answer refused chart)
 
 -- in what was written a text stands as it is
 pub record HasText (old new : Option (List ℕ)) (text : List ℕ) : Type 0 where

@@ -1,6 +1,6 @@
 //! A journal on an axis of time, as one SVG file: who moves when, who holds which zone, which plate stands where, and
 //! which machine is failed.
-ghost use Rattle.std.specs.Prelude.{◌≡◌, ◌≢◌, ◌<◌, ◌↔◌, Err, IfErr, length};
+ghost use Rattle.std.specs.Prelude.{◌≡◌, ◌≢◌, ◌<◌, ◌≤◌, ◌↔◌, Err, IfErr, length};
 
 mod bar;
 mod error;
@@ -11,6 +11,7 @@ mod scale;
 use crate::chart::follow::{Drawing, end, follow};
 use crate::chart::lanes::{Lane, Lanes, bottom};
 use crate::chart::scale::Scale;
+use crate::page::Window;
 use cell_audit::AuditError;
 use cell_journal::Journal;
 use cell_measures::{Durations, times_of};
@@ -20,8 +21,8 @@ use cell_types::{AXES, MACHINES, STATIONS, ZONES, owner, visitor};
 pub use error::ChartError;
 use std::alloc::Global;
 use std::fmt::Display;
-use std::io;
 use std::io::Write;
+use std::{fmt, io};
 
 /// The most entries of a journal of which a chart is drawn.
 pub const MAX_CHART_ENTRIES: u32 = 20_000;
@@ -33,6 +34,60 @@ fn latest(times: &[u64]) -> u64 {
         latest = *time.max(&latest);
     }
     latest
+}
+
+// The earliest of some times, of which none is later than this one.
+fn earliest(times: &[u64], latest: u64) -> u64 {
+    let mut earliest = latest;
+    for time in times {
+        earliest = *time.min(&earliest);
+    }
+    earliest
+}
+
+// The entries that are drawn: when they end, and when those before them do.
+#[derive(Clone, Copy)]
+struct Part<'a> {
+    before: &'a [u64],
+    ends: &'a [u64],
+}
+
+impl<'a> Part<'a> {
+    // The entries from one to another, of which these are the times.
+    fn new(times: &'a [u64], from: u32, until: u32) -> Part<'a> {
+        let until = times.len().min(until as usize);
+        let (before, ends) = times[..until].split_at(until.min(from as usize));
+        Part { before, ends }
+    }
+
+    // Its axis of time: from the opening on, if it begins there, or else from the first time at which an entry ends.
+    fn scale(&self) -> Scale {
+        let end = latest(self.ends);
+        if self.before.is_empty() {
+            Scale::new(0, end)
+        } else {
+            Scale::new(earliest(self.ends, end), end)
+        }
+    }
+}
+
+// Which entries are drawn: how many and how much time they take, or from which one on and from when to when they end.
+#[derive(Clone, Copy)]
+struct Heading<'a>(Part<'a>, Scale);
+
+impl<'a> Display for Heading<'a> {
+    fn fmt<W: fmt::Write>(&self, f: &mut fmt::Formatter<W>) -> fmt::Result {
+        let Heading(part, scale) = self;
+        let (from, count) = (part.before.len(), part.ends.len());
+        let end = scale.end();
+        if from > 0 {
+            let (first, until) = (from.saturating_add(1), from.saturating_add(count));
+            let begin = scale.begin();
+            return write!(f, "entries {first} to {until}, times {begin} to {end}");
+        }
+        let word = if count == 1 { "entry" } else { "entries" };
+        write!(f, "{count} {word}, least time {end}")
+    }
 }
 
 // Writes what stands before a lane.
@@ -85,21 +140,21 @@ fn draw_mark<W: Write>(out: &mut W, scale: Scale, time: u64) -> io::Result<()> {
 // Draws the marks of the axis of time.
 fn draw_marks<W: Write>(out: &mut W, scale: Scale) -> io::Result<()> {
     let step = scale.step();
-    let mut time = 0;
+    let mut time = scale.first_mark();
     for _ in 0..1000 {
         draw_mark(out, scale, time)?;
         time = step.saturating_add(time);
-        if time > scale.total() {
+        if time > scale.end() {
             break;
         }
     }
     Ok(())
 }
 
-// Writes how many entries there are, how much time they take, and why there are no more.
+// Writes which entries are drawn, how much time they take or from when to when they end, and why there are no more.
 fn draw_heading<W: Write>(
     out: &mut W,
-    entries: usize,
+    part: &Part<'_>,
     scale: Scale,
     answer: Option<AuditError>,
 ) -> io::Result<()> {
@@ -111,11 +166,10 @@ fn draw_heading<W: Write>(
          font-family=\"Helvetica, Arial, sans-serif\" font-size=\"11\" fill=\"#111111\">\n\
          <rect width=\"{right}\" height=\"{height}\" fill=\"#ffffff\"/>"
     )?;
-    let word = if entries == 1 { "entry" } else { "entries" };
-    let time = scale.total();
     writeln!(
         out,
-        "<text x=\"10\" y=\"20\" font-size=\"14\" font-weight=\"bold\">{entries} {word}, least time {time}</text>"
+        "<text x=\"10\" y=\"20\" font-size=\"14\" font-weight=\"bold\">{}</text>",
+        Heading(*part, scale)
     )?;
     match answer {
         Some(why) => {
@@ -140,7 +194,7 @@ fn write_ends<W: Write>(out: &mut W, ends: &[u64]) -> io::Result<()> {
 
 // Draws what goes on at the end in the lanes of axes and of failures.
 fn end_machines<W: Write>(out: &mut W, drawing: &mut Drawing) -> io::Result<()> {
-    let time = drawing.scale.total();
+    let time = drawing.scale.end();
     for axis in AXES {
         end(out, drawing, Lane::Axis(axis), time)?;
     }
@@ -152,7 +206,7 @@ fn end_machines<W: Write>(out: &mut W, drawing: &mut Drawing) -> io::Result<()> 
 
 // Draws what goes on at the end in the lanes of zones and of stations.
 fn end_places<W: Write>(out: &mut W, drawing: &mut Drawing) -> io::Result<()> {
-    let time = drawing.scale.total();
+    let time = drawing.scale.end();
     for zone in ZONES {
         end(out, drawing, Lane::Zone(zone), time)?;
     }
@@ -162,16 +216,18 @@ fn end_places<W: Write>(out: &mut W, drawing: &mut Drawing) -> io::Result<()> {
     Ok(())
 }
 
-// Draws what each entry ends.
+// Draws what each entry from one to another ends, at the times at which the entries end.
 fn draw_entries<W: Write>(
     out: &mut W,
     drawing: &mut Drawing,
     journal: &Journal,
+    from: usize,
     ends: &[u64],
 ) -> io::Result<()> {
-    for place in 0..journal.len() {
-        if let Some(time) = ends.get(place as usize) {
-            follow(out, drawing, &journal.at(place), *time)?;
+    for (place, time) in ends.iter().enumerate() {
+        let place = u32::try_from(from.saturating_add(place)).unwrap_or(u32::MAX);
+        if let Some(entry) = journal.get(place) {
+            follow(out, drawing, &entry, *time)?;
         }
     }
     Ok(())
@@ -180,12 +236,12 @@ fn draw_entries<W: Write>(
 fn draw<W: Write>(
     out: &mut W,
     journal: &Journal,
-    ends: &[u64],
+    part: &Part<'_>,
     answer: Option<AuditError>,
 ) -> io::Result<()> {
-    let scale = Scale::new(latest(ends));
-    draw_heading(out, ends.len(), scale, answer)?;
-    write_ends(out, ends)?;
+    let scale = part.scale();
+    draw_heading(out, part, scale, answer)?;
+    write_ends(out, part.ends)?;
     draw_marks(out, scale)?;
     draw_axis_labels(out)?;
     draw_zone_labels(out)?;
@@ -194,7 +250,9 @@ fn draw<W: Write>(
         scale,
         lanes: Lanes::EMPTY,
     };
-    draw_entries(out, &mut drawing, journal, ends)?;
+    // What begins before the part and ends in it is drawn too.
+    draw_entries(&mut io::sink(), &mut drawing, journal, 0, part.before)?;
+    draw_entries(out, &mut drawing, journal, part.before.len(), part.ends)?;
     end_machines(out, &mut drawing)?;
     end_places(out, &mut drawing)?;
     writeln!(out, "</svg>")
@@ -221,10 +279,49 @@ pub fn draw_chart<W: Write>(
     if journal.len() > MAX_CHART_ENTRIES {
         return Err(ChartError::TooManyEntries);
     }
-    let ends = times_of(alloc, journal, durations)?;
-    let taken = ends.len().min(entries as usize);
-    match draw(writer, journal, &ends[..taken], answer) {
+    draw_part(alloc, writer, journal, (0, entries), durations, answer)
+}
+
+// Draws the entries of a journal from one to another, at their times in the whole run.
+fn draw_part<W: Write>(
+    alloc: Global,
+    writer: &mut W,
+    journal: &Journal,
+    entries: (u32, u32),
+    durations: &Durations,
+    answer: Option<AuditError>,
+) -> Result<(), ChartError>
+    ensures long { result ≢ Err ChartError.TooManyEntries }
+    ensures nothing { IfErr result (λ e. e ≢ ChartError.WriteFault → writer.new ≡ writer.old) }
+{
+    let times = times_of(alloc, journal, durations)?;
+    let (from, until) = entries;
+    let part = Part::new(times.as_slice(), from, until);
+    match draw(writer, journal, &part, answer) {
         Ok(()) => Ok(()),
         Err(_) => Err(ChartError::WriteFault),
     }
+}
+
+/// Draws the entries of a journal that a page's window shows, at their times in the whole run, as `draw_chart` does. No
+/// journal is too long for it.
+pub(crate) fn draw_window<W: Write>(
+    alloc: Global,
+    writer: &mut W,
+    journal: &Journal,
+    window: Window,
+    durations: &Durations,
+    answer: Option<AuditError>,
+) -> Result<(), ChartError>
+    requires { window.from ≤ length journal.now.entries }
+{
+    let until = window.end(journal.len());
+    draw_part(
+        alloc,
+        writer,
+        journal,
+        (window.from, until),
+        durations,
+        answer,
+    )
 }

@@ -12,7 +12,7 @@ use std::fmt;
 pub enum ShowError {
     /// The journal has only so many entries before the first that can't be read or isn't allowed. Nothing was written.
     NoSuchEntry(u32),
-    /// The journal has more entries than a page, a chart or a picture in which they play shows. Nothing was written.
+    /// The journal has more entries than a chart or a picture in which they play shows. Nothing was written.
     TooManyEntries,
     /// The writer failed. A first part may be written.
     WriteFault,
@@ -40,7 +40,8 @@ impl fmt::Display for ShowError {
             ShowError::TooManyEntries => {
                 write!(
                     f,
-                    "TooManyEntries: a page or a chart shows at most {MAX_PAGE_ENTRIES} entries"
+                    "TooManyEntries: such a picture shows at most {MAX_PAGE_ENTRIES} entries; of a longer journal \
+                        --html --from N --count M shows a part"
                 )
             }
             ShowError::WriteFault => write!(f, "WriteFault"),

@@ -8,6 +8,6 @@ pub mod moving;
 pub mod page;
 mod show;
 
-pub use beside::show_beside;
+pub use beside::{Beside, show_beside};
 pub use error::ShowError;
 pub use show::{Form, show_journal, show_rows};

@@ -10,7 +10,7 @@ use std::io::Write;
 /// Writes the first `entries` entries of a journal as one SVG file in which they play in a loop, as `draw_moving` of
 /// cell_drawing draws them, with the line of an answer where the journal's text isn't legal.
 ///
-/// `TooManyEntries` comes where the journal has more than 20,000 entries, as of a page, and then nothing was written.
+/// `TooManyEntries` comes where the journal has more than 20,000 entries, and then nothing was written.
 /// `WriteFault` is meant for a writer that failed; no clause says so. It takes no memory.
 pub fn write_moving<W: Write>(
     writer: &mut W,

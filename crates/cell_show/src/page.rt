@@ -7,8 +7,10 @@ mod rows;
 mod still;
 mod waits;
 mod whole;
+mod window;
 mod words;
 
 pub use beside::write_beside;
 pub use error::PageError;
-pub use whole::{MAX_PAGE_ENTRIES, write_page};
+pub use whole::write_page;
+pub use window::{MAX_PAGE_ENTRIES, Window};

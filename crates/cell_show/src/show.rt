@@ -5,22 +5,22 @@ ghost use Rattle.cell_types.specs.Records.{read_row};
 ghost use Rattle.cell_audit.specs.Migrated.{rows_in};
 ghost use Rattle.cell_audit.specs.Lines.{status_of};
 ghost use Rattle.cell_show.specs.Shown.{TellsStatus, AsksPast, TellsEntries, HasBound, HasEntry, IsPage, IsBarred};
-ghost use Rattle.cell_show.specs.Shown.{IsRefused, ShowsPage, ShowsSome};
+ghost use Rattle.cell_show.specs.Shown.{IsRefused, ShowsPage, ShowsSome, start_of};
 
 use crate::ShowError;
-use crate::chart::{ChartError, draw_chart};
+use crate::chart::{ChartError, draw_chart, draw_window};
 use crate::moving::write_moving;
-use crate::page::write_page;
+use crate::page::{Window, write_page};
 use cell_audit::{AuditError, read_rows};
 use cell_drawing::draw_picture;
 use cell_measures::Durations;
 use cell_output::{WatchedWriter, status};
 use cell_picture::{Scene, draw_text, facts_after};
-use cell_rows::{RowReader, TellsFault, Watched};
+use cell_rows::{RowReader, TellsFault};
 use cell_types::{Entry, Totals, read_fields};
 use plate_book::Book;
 use std::alloc::Global;
-use std::io::{Read, Write};
+use std::io::Write;
 
 /// How the cell is shown.
 #[derive(Clone, Copy, Debug, PartialEq, Eq)]
@@ -31,12 +31,12 @@ pub enum Form {
     Unicode,
     /// As one picture file, in SVG.
     Picture,
-    /// As one page with all states, in HTML.
-    Page,
+    /// As one page with the states that the window names, in HTML.
+    Page(Window),
     /// As one picture file with an axis of time, in SVG, in which motions take so long.
     Chart(Durations),
-    /// As one page with all states, in HTML, and in it all entries on an axis of time, in which motions take so long.
-    TimedPage(Durations),
+    /// As such a page, and in it the entries that it shows on an axis of time, in which motions take so long.
+    TimedPage(Durations, Window),
     /// As one picture file in which the entries play, in SVG.
     Moving,
 }
@@ -84,24 +84,21 @@ fn draw_times<W: Write>(
     }
 }
 
-// The chart of all entries of a book, if there was memory for it.
+// The chart of the entries that a page shows of a book, if there was memory for it.
 fn chart_of(
     alloc: Global,
     durations: &Durations,
+    window: Window,
     book: &Book,
     answer: Option<AuditError>,
-) -> Result<Option<Vec<u8>>, ShowError>
-    ensures entry { (n : ℕ) → result ≢ Err (ShowError.NoSuchEntry n) }
-    ensures long { result ≡ Err ShowError.TooManyEntries → 20000 < length book.now.entries }
-    ensures fault { result ≢ Err ShowError.WriteFault }
+) -> Option<Vec<u8>>
+    requires { window.from ≤ length book.now.entries }
 {
     let mut chart = Vec::new(alloc);
-    let journal = book.journal();
-    match draw_chart(alloc, &mut chart, journal, journal.len(), durations, answer) {
-        Ok(()) => Ok(Some(chart)),
-        // A chart that is written to memory fails only where that is wanting.
-        Err(ChartError::OutOfMemory) | Err(ChartError::WriteFault) => Ok(None),
-        Err(ChartError::TooManyEntries) => Err(ShowError::TooManyEntries),
+    // A chart that is written to memory fails only where that is wanting.
+    match draw_window(alloc, &mut chart, book.journal(), window, durations, answer) {
+        Ok(()) => Some(chart),
+        Err(_) => None,
     }
 }
 
@@ -139,17 +136,21 @@ fn refused_entry(book: &Book, stop: Stop) -> Option<Entry>
 }
 
 // Writes the page of a book.
-fn draw_page<W: Write>(writer: &mut W, book: &Book, stop: Stop) -> Result<bool, ShowError>
-    ensures entry { (n : ℕ) → result ≢ Err (ShowError.NoSuchEntry n) }
-    ensures long { result ≡ Err ShowError.TooManyEntries → 20000 < length book.now.entries }
-    ensures page { result ≡ Ok true → IsPage Form.Page book.now.entries stop.answer (W.contents writer.old)
+fn draw_page<W: Write>(
+    writer: &mut W,
+    window: Window,
+    book: &Book,
+    stop: Stop,
+) -> Result<bool, ShowError>
+    requires { window.from ≤ length book.now.entries }
+    ensures fault { IfErr result (λ e. e ≡ ShowError.WriteFault) }
+    ensures page { result ≡ Ok true → IsPage (Form.Page window) book.now.entries stop.answer (W.contents writer.old)
         (W.contents writer.new) }
-    ensures nothing { IfErr result (λ e. e ≢ ShowError.WriteFault → writer.new ≡ writer.old) }
     ensures memory { result ≢ Ok false }
 {
     let answer = stop.answer;
     let refused = refused_entry(book, stop);
-    write_page(writer, book, answer, refused, None)?;
+    write_page(writer, book, window, answer, refused, None)?;
     Ok(true)
 }
 
@@ -158,22 +159,29 @@ fn draw_timed_page<W: Write>(
     alloc: Global,
     writer: &mut W,
     durations: Durations,
+    window: Window,
     book: &Book,
     stop: Stop,
 ) -> Result<bool, ShowError>
-    ensures entry { (n : ℕ) → result ≢ Err (ShowError.NoSuchEntry n) }
-    ensures long { result ≡ Err ShowError.TooManyEntries → 20000 < length book.now.entries }
-    ensures page { result ≡ Ok true → IsPage (Form.TimedPage durations) book.now.entries stop.answer
+    requires { window.from ≤ length book.now.entries }
+    ensures fault { IfErr result (λ e. e ≡ ShowError.WriteFault) }
+    ensures page { result ≡ Ok true → IsPage (Form.TimedPage durations window) book.now.entries stop.answer
         (W.contents writer.old) (W.contents writer.new) }
-    ensures nothing { IfErr result (λ e. e ≢ ShowError.WriteFault → writer.new ≡ writer.old) }
     ensures memory { result ≡ Ok false → writer.new ≡ writer.old }
 {
     let answer = stop.answer;
-    let Some(chart) = chart_of(alloc, &durations, book, answer)? else {
+    let Some(chart) = chart_of(alloc, &durations, window, book, answer) else {
         return Ok(false);
     };
     let refused = refused_entry(book, stop);
-    write_page(writer, book, answer, refused, Some(chart.as_slice()))?;
+    write_page(
+        writer,
+        book,
+        window,
+        answer,
+        refused,
+        Some(chart.as_slice()),
+    )?;
     Ok(true)
 }
 
@@ -193,6 +201,16 @@ fn draw_entries<W: Write>(
     Ok(true)
 }
 
+// After how many entries a page begins. Of another form nothing is asked.
+fn start_of(form: &Form) -> u32
+    ensures { result ≡ start_of form.now }
+{
+    match form {
+        Form::Page(window) | Form::TimedPage(_, window) => window.from,
+        _ => 0,
+    }
+}
+
 // Writes what the first entries of a book left, and says whether there was memory for it.
 fn draw<W: Write>(
     alloc: Global,
@@ -202,7 +220,8 @@ fn draw<W: Write>(
     entries: u32,
     stop: Stop,
 ) -> Result<bool, ShowError>
-    requires { entries ≤ length book.now.entries }
+    requires within { entries ≤ length book.now.entries }
+    requires start { start_of form ≤ length book.now.entries }
     ensures entry { (n : ℕ) → result ≢ Err (ShowError.NoSuchEntry n) }
     ensures bound { result ≡ Err ShowError.TooManyEntries → HasBound form }
     ensures long { result ≡ Err ShowError.TooManyEntries → 20000 < length book.now.entries }
@@ -223,12 +242,12 @@ fn draw<W: Write>(
         Form::Text => draw_text(&mut WatchedWriter::new(writer), &scene, false)?,
         Form::Unicode => draw_text(&mut WatchedWriter::new(writer), &scene, true)?,
         Form::Picture => draw_picture(writer, &scene)?,
-        Form::Page => return draw_page(writer, book, stop),
+        Form::Page(window) => return draw_page(writer, window, book, stop),
         Form::Chart(durations) => {
             return draw_times(alloc, writer, &durations, book, entries, answer);
         }
-        Form::TimedPage(durations) => {
-            return draw_timed_page(alloc, writer, durations, book, stop);
+        Form::TimedPage(durations, window) => {
+            return draw_timed_page(alloc, writer, durations, window, book, stop);
         }
         Form::Moving => return draw_entries(writer, book, entries, answer),
     }
@@ -247,10 +266,11 @@ pub fn show_rows<R: TellsFault, W: Write>(
     requires { IsOpen rows.old }
     ensures status { IfOk result (TellsStatus (rows_left R.remaining rows.old)) }
     ensures unread { IfOk result (λ status. 1 < status → writer.new ≡ writer.old) }
-    ensures there { IfOk result (λ status. status ≤ 1 → IfSome (rows_left R.remaining rows.old) (HasEntry entry)) }
+    ensures there { IfOk result (λ status. status ≤ 1
+        → IfSome (rows_left R.remaining rows.old) (HasEntry entry (start_of form))) }
     ensures page { IfOk result (λ status. status ≤ 1
         → IfSome (rows_left R.remaining rows.old) (ShowsPage form (W.contents writer.old) (W.contents writer.new))) }
-    ensures past { IfErr result (AsksPast entry) }
+    ensures past { IfErr result (AsksPast entry (start_of form)) }
     ensures entries { IfErr result (λ why. IfSome (rows_left R.remaining rows.old) (TellsEntries why)) }
     ensures bound { result ≡ Err ShowError.TooManyEntries → HasBound form }
     ensures nothing { IfErr result (λ e. e ≢ ShowError.WriteFault → writer.new ≡ writer.old) }
@@ -268,7 +288,8 @@ pub fn show_rows<R: TellsFault, W: Write>(
     }
     let entries = reading.book.journal().len();
     let shown = entry.unwrap_or(entries);
-    if shown > entries {
+    let needed = shown.max(start_of(&form));
+    if needed > entries {
         return Err(ShowError::NoSuchEntry(entries));
     }
     let answer = reading.answer.err();
@@ -284,13 +305,14 @@ pub fn show_rows<R: TellsFault, W: Write>(
 }
 
 /// Shows the cell as the first `entry` entries of the journal on the reader left it, or all of them where `entry` is
-/// `None`, and gives the exit status. A page has all states; where the entries play those do.
+/// `None`, and gives the exit status. A page has the states that its window names; where the entries play those do.
 ///
 /// A journal that is refused or can't be read is shown up to its last good entry, with the audit's line below, status
 /// 1. Where the reader fails (status 3) or memory is refused (status 4) nothing is written; nor where the journal has
-/// fewer entries than that, or too many for a page, a chart or a picture in which they play. That status 3 comes only
-/// where a failed read was noted is a clause of `show_rows`, of which this is the case of a new reader of rows.
-pub fn show_journal<R: Read + Drop, W: Write>(
+/// fewer entries than that, or than a page begins after, or too many for a chart or a picture in which they play. That
+/// status 3 comes only where a failed read was noted is a clause of `show_rows`, of which this is the case of a new
+/// reader of rows.
+pub fn show_journal<R: TellsFault + Drop, W: Write>(
     alloc: Global,
     reader: R,
     form: Form,
@@ -300,21 +322,23 @@ pub fn show_journal<R: Read + Drop, W: Write>(
     // The status is that of the audit's answer.
     ensures status { IfOk result (TellsStatus (rows_in (R.remaining reader))) }
     ensures unread { IfOk result (λ status. 1 < status → writer.new ≡ writer.old) }
-    // Where the cell is shown, the text has at least as many good entries as were asked for.
-    ensures there { IfOk result (λ status. status ≤ 1 → IfSome (rows_in (R.remaining reader)) (HasEntry entry)) }
-    // A page is that of the text's good entries, and has a chart where it was asked for.
+    // Where the cell is shown, the text has at least as many good entries as were asked for, or as a page begins after.
+    ensures there { IfOk result (λ status. status ≤ 1
+        → IfSome (rows_in (R.remaining reader)) (HasEntry entry (start_of form))) }
+    // A page is that of the states of the text's good entries that its window names, and has a chart where it was asked
+    // for.
     ensures page { IfOk result (λ status. status ≤ 1
         → IfSome (rows_in (R.remaining reader)) (ShowsPage form (W.contents writer.old) (W.contents writer.new))) }
     // Where there is no such entry, more were asked for than are told.
-    ensures past { IfErr result (AsksPast entry) }
-    // There are as many good entries as are told, or too many for a page.
+    ensures past { IfErr result (AsksPast entry (start_of form)) }
+    // There are as many good entries as are told, or too many for a chart.
     ensures entries { IfErr result (λ why. IfSome (rows_in (R.remaining reader)) (TellsEntries why)) }
-    // Only a page, a chart or a picture in which entries play has too many entries.
+    // Only a chart or a picture in which entries play has too many entries, and never a page.
     ensures bound { result ≡ Err ShowError.TooManyEntries → HasBound form }
     ensures nothing { IfErr result (λ e. e ≢ ShowError.WriteFault → writer.new ≡ writer.old) }
     // Where the reader doesn't tell its bytes, all this is so of some text.
     ensures some { ShowsSome form entry (W.contents writer.old) (W.contents writer.new) result }
 {
-    let mut rows = RowReader::new(alloc, Watched::new(reader));
+    let mut rows = RowReader::new(alloc, reader);
     show_rows(alloc, &mut rows, form, entry, writer)
 }

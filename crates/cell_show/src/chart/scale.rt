@@ -17,43 +17,65 @@ const STEPS: [u64; 18] = [
     500_000,
 ];
 
-/// An axis of time, from 0 on.
+/// An axis of time, from its begin to its end.
 #[derive(Clone, Copy, Debug)]
 pub(crate) struct Scale {
+    begin: u64,
     total: u64,
     width: u64,
 }
 
 impl Scale {
-    /// The axis of so much time.
-    pub(crate) fn new(total: u64) -> Scale {
+    /// The axis from one time to another.
+    pub(crate) fn new(begin: u64, end: u64) -> Scale {
+        let total = end.saturating_sub(begin);
         Scale {
+            begin,
             total,
             width: total.saturating_mul(WIDEST_UNIT).min(WIDEST),
         }
     }
 
-    /// How much time it has.
-    pub(crate) fn total(self) -> u64 {
-        self.total
+    /// Where it begins.
+    pub(crate) fn begin(self) -> u64 {
+        self.begin
     }
 
-    /// How wide so much time is.
-    pub(crate) fn span(self, time: u64) -> u64 {
+    /// Where it ends.
+    pub(crate) fn end(self) -> u64 {
+        self.begin.saturating_add(self.total)
+    }
+
+    // How wide so much time is.
+    fn span(self, time: u64) -> u64 {
         if self.total == 0 {
             return 0;
         }
         time.saturating_mul(self.width) / self.total
     }
 
-    /// Where a time stands, from the drawing's left edge.
+    /// Where a time stands, from the drawing's left edge. What was before the begin stands there.
     pub(crate) fn x(self, time: u64) -> u64 {
-        LEFT.saturating_add(self.span(time))
+        LEFT.saturating_add(self.span(time.saturating_sub(self.begin)))
     }
 
     /// How wide the drawing is.
     pub(crate) fn right(self) -> u64 {
-        self.x(self.total).saturating_add(30)
+        self.x(self.end()).saturating_add(30)
+    }
+
+    /// The first mark that isn't before the begin.
+    pub(crate) fn first_mark(self) -> u64 {
+        let step = self.step();
+        if step == 0 {
+            return self.begin;
+        }
+        let past = self.begin % step;
+        if past == 0 {
+            self.begin
+        } else {
+            self.begin.saturating_sub(past).saturating_add(step)
+        }
     }
 
     /// How much time lies between two marks.

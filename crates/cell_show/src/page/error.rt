@@ -5,7 +5,7 @@ use std::{fmt, io};
 /// Why a page isn't written whole.
 #[derive(Clone, Copy, Debug, PartialEq, Eq)]
 pub enum PageError {
-    /// The journal has more entries than a page shows. Nothing was written.
+    /// The journal has more entries than a picture in which they play shows. Nothing was written.
     TooManyEntries,
     /// The writer failed. A first part of the page may be written.
     WriteFault,

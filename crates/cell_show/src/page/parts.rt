@@ -9,7 +9,7 @@ mod lists;
 mod middle;
 mod spans_script;
 
-pub(crate) use beside::{BESIDE_END, BESIDE_HEAD, BESIDE_MIDDLE};
+pub(crate) use beside::{BESIDE_END, BESIDE_FRAME, BESIDE_HEAD, BESIDE_MIDDLE, BESIDE_OTHER};
 pub(crate) use control_script::CONTROL_SCRIPT;
 pub(crate) use drawing::DRAWING;
 pub(crate) use drawing_script::DRAWING_SCRIPT;

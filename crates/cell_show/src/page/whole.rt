@@ -1,9 +1,12 @@
 //! Writing the page.
-ghost use Rattle.std.specs.Prelude.{◌≡◌, ◌<◌, ◌≤◌, ◌↔◌, Err, OnOk, length, take};
+ghost use Rattle.std.specs.Prelude.{◌≡◌, ◌≢◌, ◌≤◌, Err, OnOk, length, take};
 ghost use Rattle.std.specs.Io.KnownBytes.{Appends};
+ghost use Rattle.cell_types.specs.After.{after};
+ghost use Rattle.cell_journal.specs.Snapshots.{seen, state_of};
 ghost use Rattle.cell_picture.specs.Told.{facts_told, last_of};
-ghost use Rattle.cell_show.specs.Page.{AppendsSome, ShowsChart, WritesPage, answer_line, chart_section};
+ghost use Rattle.cell_show.specs.Page.{AppendsSome, ShowsChart, WritesPage, WritesData, answer_line, chart_section};
 ghost use Rattle.cell_show.specs.Page.{no_scripts_text, rows_text};
+ghost use Rattle.cell_show.specs.Window.{end_of};
 
 use crate::page::PageError;
 use crate::page::parts::{
@@ -13,17 +16,16 @@ use crate::page::refused::write_refused;
 use crate::page::rows::Row;
 use crate::page::still::write_still;
 use crate::page::waits::write_waits;
+use crate::page::window::{Window, answer_at, write_numbers, write_window};
 use crate::page::words::write_words;
 use cell_audit::AuditError;
-use cell_picture::{AnswerLine, facts_after};
+use cell_journal::Snapshot;
+use cell_picture::{AnswerLine, facts_left, step_on};
 use cell_sentences::EntrySentence;
 use cell_types::Entry;
 use plate_book::Book;
 use std::fmt;
 use std::io::Write;
-
-/// The most entries of a journal that a page shows.
-pub const MAX_PAGE_ENTRIES: u32 = 20_000;
 
 // The last entry as it is told where no scripts run.
 #[derive(Clone, Copy)]
@@ -43,35 +45,57 @@ impl fmt::Display for LastText {
     }
 }
 
-// What the first `i` entries leave, and the last of them.
+// What the first `i` entries leave, and the last of them, where what they leave is at hand.
+fn row_left(book: &Book, snapshot: &Snapshot, i: u32) -> Row
+    requires within { i ≤ length book.now.entries }
+    requires left { state_of snapshot.now ≡ seen (after (take i book.now.entries)) }
+    ensures facts { result.facts ≡ facts_told (take i book.now.entries) }
+    ensures last { result.last ≡ last_of (take i book.now.entries) }
+{
+    let (facts, last) = facts_left(book, snapshot, i);
+    Row { facts, last }
+}
+
+// The same, where it isn't.
 fn row_after(book: &Book, i: u32) -> Row
     requires { i ≤ length book.now.entries }
     ensures facts { result.facts ≡ facts_told (take i book.now.entries) }
     ensures last { result.last ≡ last_of (take i book.now.entries) }
 {
-    let (facts, last) = facts_after(book, i);
-    Row { facts, last }
+    let (snapshot, _) = book.state_at(i);
+    row_left(book, &snapshot, i)
 }
 
-// Writes the rows of the states, from the opening on.
-fn write_rows<W: Write>(writer: &mut W, book: &Book) -> Result<(), PageError>
+// Writes the rows of the states that are shown.
+fn write_rows<W: Write>(writer: &mut W, book: &Book, window: Window) -> Result<(), PageError>
+    requires { window.from ≤ length book.now.entries }
     ensures fault { result ≡ Err PageError.TooManyEntries → ⊥ }
-    ensures rows { OnOk result (Appends (W.contents writer.old) (W.contents writer.new) (rows_text book.now.entries)) }
+    ensures rows { OnOk result (Appends (W.contents writer.old) (W.contents writer.new)
+        (rows_text window book.now.entries)) }
 {
-    write!(writer, "{}", row_after(book, 0))?;
-    for taken in 0..book.journal().len() {
-        write!(writer, ",\n{}", row_after(book, taken + 1))?;
+    let from = window.from;
+    let until = window.end(book.journal().len());
+    let (mut snapshot, _) = book.state_at(from);
+    write!(writer, "{}", row_left(book, &snapshot, from))?;
+    for taken in from..until {
+        step_on(book, &mut snapshot, taken);
+        write!(writer, ",\n{}", row_left(book, &snapshot, taken + 1))?;
     }
     Ok(())
 }
 
-// Writes what is shown where no scripts run: that the page needs them, and the last entry.
-fn write_for_no_scripts<W: Write>(writer: &mut W, book: &Book) -> Result<(), PageError>
+// Writes what is shown where no scripts run: that the page needs them, and the last entry that is shown.
+fn write_for_no_scripts<W: Write>(
+    writer: &mut W,
+    book: &Book,
+    window: Window,
+) -> Result<(), PageError>
+    requires { window.from ≤ length book.now.entries }
     ensures fault { result ≡ Err PageError.TooManyEntries → ⊥ }
     ensures text { OnOk result (Appends (W.contents writer.old) (W.contents writer.new)
-        (no_scripts_text book.now.entries)) }
+        (no_scripts_text (take (end_of window (length book.now.entries)) book.now.entries))) }
 {
-    let entries = book.journal().len();
+    let entries = window.end(book.journal().len());
     let Row { last, .. } = row_after(book, entries);
     write!(
         writer,
@@ -120,60 +144,65 @@ fn write_scripts<W: Write>(writer: &mut W) -> Result<(), PageError>
     Ok(())
 }
 
-// Writes the page of a journal that isn't too long.
-fn write_parts<W: Write>(
+// Writes the data of a page behind its words.
+fn write_data<W: Write>(
     writer: &mut W,
     book: &Book,
+    window: Window,
+    answer: Option<AuditError>,
+    refused: Option<Entry>,
+) -> Result<(), PageError>
+    requires { window.from ≤ length book.now.entries }
+    ensures fault { result ≡ Err PageError.TooManyEntries → ⊥ }
+    ensures text { OnOk result (WritesData (W.contents writer.old) (W.contents writer.new) window book.now.entries
+        answer refused) }
+{
+    let more = window.shown(book.journal().len());
+    write_numbers(writer, book, window)?;
+    write_refused(writer, answer_at(book, window, answer), refused)?;
+    write_waits(writer, book, window.from, more)?;
+    writer.write_all(b"\"rows\":[\n")?;
+    write_rows(writer, book, window)?;
+    Ok(())
+}
+
+/// Writes one page with the states of a book's journal that a window names, with the line of an answer where its text
+/// isn't legal, one that says which states are shown where not all are, and below the states with a chart, an SVG text,
+/// where one is given. An answer that names a record gives a page that shows the last entry a last step, with the
+/// refused entry where one is given and the part of the cell that the refusal names.
+///
+/// `WriteFault` is meant for a writer that failed; no clause says so. It takes no memory.
+pub fn write_page<W: Write>(
+    writer: &mut W,
+    book: &Book,
+    window: Window,
     answer: Option<AuditError>,
     refused: Option<Entry>,
     chart: Option<&[u8]>,
 ) -> Result<(), PageError>
-    ensures fault { result ≡ Err PageError.TooManyEntries → ⊥ }
-    ensures page { OnOk result (WritesPage (W.contents writer.old) (W.contents writer.new) book.now.entries answer
-        refused chart.entry) }
+    requires { window.from ≤ length book.now.entries }
+    // No journal is too long.
+    ensures fault { result ≢ Err PageError.TooManyEntries }
+    // Its rows are those of the states after so many of the journal's entries as the window says, and after each number
+    // of them from there on, in order, up to as many more, of which it shows at most 20,000. Its last step is the
+    // answer's, where it shows the last entry.
+    ensures page { OnOk result (WritesPage (W.contents writer.old) (W.contents writer.new) window book.now.entries
+        answer refused chart.entry) }
+    // The chart's text stands in the page as it was given.
+    ensures chart { OnOk result (ShowsChart (W.contents writer.old) (W.contents writer.new) chart.entry) }
 {
     writer.write_all(HEAD.as_bytes())?;
-    write_for_no_scripts(writer, book)?;
-    write_still(writer, book)?;
+    write_for_no_scripts(writer, book, window)?;
+    write_still(writer, book, window)?;
     writer.write_all(DRAWING.as_bytes())?;
     write_answer(writer, answer)?;
+    write_window(writer, book, window)?;
     writer.write_all(LISTS.as_bytes())?;
     write_chart(writer, chart)?;
     writer.write_all(MIDDLE.as_bytes())?;
     write_words(writer)?;
-    write_refused(writer, answer, refused)?;
-    write_waits(writer, book, 0, book.journal().len())?;
-    writer.write_all(b"\"rows\":[\n")?;
-    write_rows(writer, book)?;
+    write_data(writer, book, window, answer, refused)?;
     writer.write_all(DRAWING_SCRIPT.as_bytes())?;
     write_scripts(writer)?;
     Ok(())
-}
-
-/// Writes one page with all states of a book's journal, with the line of an answer where its text isn't legal, and
-/// below the states with a chart, an SVG text, where one is given. An answer that names a record gives the page a last
-/// step, with the refused entry where one is given and the part of the cell that the refusal names.
-///
-/// `TooManyEntries` comes where the journal has more than 20,000 entries, and then nothing was written. `WriteFault` is
-/// meant for a writer that failed; no clause says so. It takes no memory.
-pub fn write_page<W: Write>(
-    writer: &mut W,
-    book: &Book,
-    answer: Option<AuditError>,
-    refused: Option<Entry>,
-    chart: Option<&[u8]>,
-) -> Result<(), PageError>
-    ensures refused { (result ≡ Err PageError.TooManyEntries) ↔ (20000 < length book.now.entries) }
-    // Its rows are those of the states after each number of the journal's entries, in order, and its last step is the
-    // answer's.
-    ensures page { OnOk result (WritesPage (W.contents writer.old) (W.contents writer.new) book.now.entries answer
-        refused chart.entry) }
-    // The chart's text stands in the page as it was given.
-    ensures chart { OnOk result (ShowsChart (W.contents writer.old) (W.contents writer.new) chart.entry) }
-    ensures nothing { result ≡ Err PageError.TooManyEntries → writer.new ≡ writer.old }
-{
-    if book.journal().len() > MAX_PAGE_ENTRIES {
-        return Err(PageError::TooManyEntries);
-    }
-    write_parts(writer, book, answer, refused, chart)
 }

@@ -2,6 +2,7 @@
 use Rattle.std.proofs.Common.{refl, inl, inr, rules}
 use Rattle.std.specs.Prelude.{codes}
 use Rattle.cell_orders.proofs.Arguments.{wrong-told}
+use Rattle.cell_orders.proofs.Showing.{shown-of}
 use Rattle.cell_orders.proofs.show.show_still.Goals as goal
 
 pub returns-in_default : goal.returns-in_default
@@ -27,3 +28,8 @@ returns-then-is_alone g c =
       (refl, refl, codes "--beside goes with --html", c.in_ok-wrong-2.ensures.line),
       inr (inr (search rules)),
     )))
+
+pub returns-in-Form : goal.returns-in-Form
+returns-in-Form g c =
+    shown-of c.show_windowed.result _ _
+    (λ s shows. inl (c.in-Form.form, (c.in-Some.form, search rules, search rules), shows)) c.show_windowed.ensures

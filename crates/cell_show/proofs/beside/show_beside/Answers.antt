@@ -26,12 +26,14 @@ returns-clause-pages g c = λ low.
     subst (λ (start : List ℕ). IfSome (rows_in (g.R.Read.remaining c.args.reader))
     (ShowsPage c.args.form (Some start) (Some first))) c.new-first.ensures.items
     (c.in-Ok.ensures.page low) in
-    let left = subst (λ (a : List ℕ). WritesBeside old new a c.as_slice-2.result.now) c.as_slice.ensures.value
+    let one = c.args.other.first_name.now in
+    let two = c.args.other.name.now in
+    let left = subst (λ (a : List ℕ). WritesBeside old new one two a c.as_slice-2.result.now) c.as_slice.ensures.value
     c.in_ok-write_beside.ensures.pages in
-    let both = subst (λ (b : List ℕ). WritesBeside old new first b) c.as_slice-2.ensures.value left in
+    let both = subst (λ (b : List ℕ). WritesBeside old new one two first b) c.as_slice-2.ensures.value left in
     let (others, same, other) = c.in-Ok-other_page.ensures.page in
     let second = c.in-Ok-other_page.page.items in
-    (others, same, both_shown _ c.args.form (rows_of others) old new first second page both other)
+    (others, same, both_shown _ c.args.form one two (rows_of others) old new first second page both other)
 
 pub returns-clause-some : goal.returns-clause-some
 returns-clause-some g c =
@@ -41,10 +43,12 @@ returns-clause-some g c =
     let shown =
     subst (λ (start : List ℕ). ShowsSome c.args.form c.args.entry (Some start) (Some first) (Ok c.in-Ok.status))
     c.new-first.ensures.items c.in-Ok.ensures.some in
-    let left = subst (λ (a : List ℕ). WritesBeside old new a c.as_slice-2.result.now) c.as_slice.ensures.value
+    let one = c.args.other.first_name.now in
+    let two = c.args.other.name.now in
+    let left = subst (λ (a : List ℕ). WritesBeside old new one two a c.as_slice-2.result.now) c.as_slice.ensures.value
     c.in_ok-write_beside.ensures.pages in
-    let both = subst (λ (b : List ℕ). WritesBeside old new first b) c.as_slice-2.ensures.value left in
-    beside-some c.args.entry c.args.form _ old new first c.in-Ok-other_page.page.items c.in-Ok.status shown both
+    let both = subst (λ (b : List ℕ). WritesBeside old new one two first b) c.as_slice-2.ensures.value left in
+    beside-some c.args.entry c.args.form one two _ old new first c.in-Ok-other_page.page.items c.in-Ok.status shown both
     c.in-Ok-other_page.ensures.page
 
 pub returns-in-Ok-clause-some : goal.returns-in-Ok-clause-some
@@ -54,13 +58,13 @@ returns-in-Ok-clause-some g c =
     let shown =
     subst (λ (start : List ℕ). ShowsSome c.args.form c.args.entry (Some start) first (Ok c.in-Ok.status))
     c.new-first.ensures.items c.in-Ok.ensures.some in
-    beside-unread c.args.entry c.args.form (g.O.Read.remaining c.args.other) old old first c.in-Ok.status shown
-    c.if-status-gt-REFUSED.true
+    beside-unread c.args.entry c.args.form _ _ (g.O.Read.remaining c.args.other.reader) old old first c.in-Ok.status
+    shown c.if-status-gt-REFUSED.true
 
 pub returns-in-Err-WriteFault-clause-some : goal.returns-in-Err-WriteFault-clause-some
 returns-in-Err-WriteFault-clause-some g c =
     let old = g.W.Write.contents c.args.writer.now in
-    beside-fault c.args.entry c.args.form (g.O.Read.remaining c.args.other) old old 4 (inr refl)
+    beside-fault c.args.entry c.args.form _ _ (g.O.Read.remaining c.args.other.reader) old old 4 (inr refl)
 
 pub returns-in-Err-clause-some : goal.returns-in-Err-clause-some
 returns-in-Err-clause-some g c =
@@ -69,10 +73,11 @@ returns-in-Err-clause-some g c =
     let shown =
     subst (λ (start : List ℕ). ShowsSome c.args.form c.args.entry (Some start) first (Err c.in-Err.why))
     c.new-first.ensures.items c.in-Err.ensures.some in
-    beside-none c.args.entry c.args.form (g.O.Read.remaining c.args.other) old old first c.in-Err.why shown
+    beside-none c.args.entry c.args.form c.args.other.first_name.now c.args.other.name.now
+    (g.O.Read.remaining c.args.other.reader) old old first c.in-Err.why shown
 
 pub returns-in-Err-other_page-clause-some : goal.returns-in-Err-other_page-clause-some
 returns-in-Err-other_page-clause-some g c =
     let old = g.W.Write.contents c.args.writer.now in
-    beside-fault c.args.entry c.args.form (g.O.Read.remaining c.args.other) old old c.in-Err-other_page.status
-    c.in-Err-other_page.ensures.status
+    beside-fault c.args.entry c.args.form _ _ (g.O.Read.remaining c.args.other.reader) old old
+    c.in-Err-other_page.status c.in-Err-other_page.ensures.status

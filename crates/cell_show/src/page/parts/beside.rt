@@ -1,7 +1,7 @@
 //! What stands around two pages in one.
 
-/// From the first line of the page to the first page, which stands in an attribute. The script stands before the
-/// frames, since these tell at once where they are.
+/// From the first line of the page to the first journal's name. The script stands before the frames, since these tell
+/// at once where they are.
 pub(crate) const BESIDE_HEAD: &str = r##"<!DOCTYPE html>
 <html lang="en">
 <head>
@@ -54,7 +54,7 @@ h2 ~ h2, h2 ~ h2 + iframe { border-left: 2px solid var(--line); }
 <script>
 "use strict";
 (() => {
-  // Where each of the two pages is: its entry and its last one, as it tells.
+  // Where each of the two pages is: its entry, its first and its last one, as it tells.
   const places = new Map();
   const el = (id) => document.getElementById(id);
   const all = () => [...document.querySelectorAll("iframe")];
@@ -62,11 +62,12 @@ h2 ~ h2, h2 ~ h2 + iframe { border-left: 2px solid var(--line); }
   const send = (frame, entry) => frame.postMessage({ entry }, "*");
   const sendAll = (entry) => frames().forEach((frame) => send(frame, Math.max(0, entry)));
   const farthest = () => Math.max(...[...places.values()].map(({ entry }) => entry));
+  const starts = () => Math.min(...[...places.values()].map(({ first }) => first));
   const ends = () => Math.max(...[...places.values()].map(({ last }) => last));
   const keep = (entry) => history.replaceState(null, "", "#entry=" + entry);
   const go = (entry) => {
     if (places.size < 2) return;
-    const bounded = Math.min(ends(), Math.max(0, entry));
+    const bounded = Math.min(ends(), Math.max(starts(), entry));
     sendAll(bounded);
     keep(bounded);
   };
@@ -76,14 +77,18 @@ h2 ~ h2, h2 ~ h2 + iframe { border-left: 2px solid var(--line); }
   let rows = [];
   let differing = [];
   const readRows = () => {
+    let within = "";
     rows = all().map((frame) => {
       const data = frame.contentDocument?.getElementById("journal")?.textContent;
-      return data === undefined ? [] : JSON.parse(data).rows;
+      const journal = data === undefined ? { first: 0, entries: 0, rows: [] } : JSON.parse(data);
+      const list = Array(journal.first).concat(journal.rows);
+      if (journal.first > 0 || list.length <= journal.entries) within = " that are shown";
+      return list;
     });
     const longest = Math.max(...rows.map((list) => list.length));
-    for (let i = 1; i < longest; i += 1)
+    for (let i = Math.max(1, starts()); i < longest; i += 1)
       if (rows[0][i]?.[12] !== rows[1][i]?.[12]) differing.push(i);
-    el("difference").textContent = differing.length === 0 ? "No difference in their good entries"
+    el("difference").textContent = differing.length === 0 ? `No difference in their good entries${within}`
       : "First difference: entry " + differing[0];
     el("to-difference").setAttribute("aria-disabled", String(differing.length === 0));
     frames().forEach((frame) => frame.postMessage({ differing }, "*"));
@@ -174,12 +179,18 @@ h2 ~ h2, h2 ~ h2 + iframe { border-left: 2px solid var(--line); }
 <label><input type="checkbox" id="together" checked> A step in one is a step in both</label>
 </header>
 <main>
-<h2>The journal</h2>
+<h2>The journal: "##;
+
+/// From the first journal's name to its page, which stands in an attribute.
+pub(crate) const BESIDE_FRAME: &str = r##"</h2>
 <iframe title="The journal" srcdoc=""##;
 
-/// From the first page to the second.
+/// From the first page to the other journal's name.
 pub(crate) const BESIDE_MIDDLE: &str = r##""></iframe>
-<h2>The other one, of --beside</h2>
+<h2>The other one, of --beside: "##;
+
+/// From the other journal's name to its page.
+pub(crate) const BESIDE_OTHER: &str = r##"</h2>
 <iframe title="The other journal" srcdoc=""##;
 
 /// From the second page to the end.

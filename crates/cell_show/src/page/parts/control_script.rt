@@ -3,7 +3,7 @@
 /// To the end of the page.
 pub(crate) const CONTROL_SCRIPT: &str = r##"  let current = -1;
   const show = (wanted, isAsked = false) => {
-    const i = Math.min(last, Math.max(0, Math.trunc(Number(wanted)) || 0));
+    const i = Math.min(last, Math.max(first, Math.trunc(Number(wanted)) || 0));
     el("number").value = el("slider").value = i;
     if (i === current) return;
     const before = current;
@@ -11,7 +11,7 @@ pub(crate) const CONTROL_SCRIPT: &str = r##"  let current = -1;
     const state = read(i);
     drawPlates(state);
     drawAims(state);
-    moveTo(read(Math.max(0, before)), state, Math.abs(i - before) === 1 && before !== -1 ? smoothly() : 0);
+    moveTo(read(Math.max(first, before)), state, Math.abs(i - before) === 1 && before !== -1 ? smoothly() : 0);
     drawAxes(state);
     drawMachines(state);
     drawRefusal(i);
@@ -24,11 +24,13 @@ pub(crate) const CONTROL_SCRIPT: &str = r##"  let current = -1;
     showInSpans(i);
     setText("sentence", sentenceOf(i));
     setText("count", placeOf(i));
-    el("slider").setAttribute("aria-valuetext", i === 0 ? "0, the opening" : `${i}, ${sentenceOf(i)}`);
-    ["first", "back"].forEach((id) => enable(id, i !== 0));
+    el("strip").setAttribute("aria-valuenow", i);
+    const told = i === 0 ? "0, the opening" : `${i}, ${sentenceOf(i)}`;
+    ["slider", "strip"].forEach((id) => el(id).setAttribute("aria-valuetext", told));
+    ["first", "back"].forEach((id) => enable(id, i !== first));
     ["end", "forward"].forEach((id) => enable(id, i !== last));
     if (timer === null) keepAddress();
-    around?.postMessage({ entry: i, last, isAsked }, "*");
+    around?.postMessage({ entry: i, first, last, isAsked }, "*");
   };
   // How many milliseconds a step may take to be drawn.
   const smoothly = () => {
@@ -163,7 +165,10 @@ pub(crate) const CONTROL_SCRIPT: &str = r##"  let current = -1;
     drawSpans();
   };
 
+  el("slider").min = el("number").min = first;
   el("slider").max = el("number").max = last;
+  el("strip").setAttribute("aria-valuemin", first);
+  el("strip").setAttribute("aria-valuemax", last);
   zones.forEach((zone, z) => el("zone").add(new Option(zone, z)));
   machines.forEach((machine, m) => el("machine").add(new Option(machine, m)));
   const clicks = {

@@ -8,8 +8,10 @@ pub(crate) const DRAWING_SCRIPT: &str = r##"
 "use strict";
 (() => {
   const journal = JSON.parse(document.getElementById("journal").textContent);
-  const { machines, stations, axes, parts, movers, places, owners, visitors, poses, ways, zones, lights, geometry, rows,
-    waits, refused } = journal;
+  const { machines, stations, axes, parts, movers, places, owners, visitors, poses, ways, zones, lights, geometry,
+    first, entries, waits, refused } = journal;
+  // The row after each number of entries, from the first one that is shown on.
+  const rows = Array(first).concat(journal.rows);
   // The entries are good up to this one. After it comes a step for the record that is refused or can't be read, if
   // there is one: it leaves what the last good entry left.
   const good = rows.length - 1;
@@ -17,12 +19,12 @@ pub(crate) const DRAWING_SCRIPT: &str = r##"
   const last = rows.length - 1;
   // What each machine waits for in each state: what it wants, why that is refused, and the part of the drawing; or
   // nothing. The data have 0 where that is as in the state before.
-  const waiting = [];
-  rows.forEach((_, i) => {
-    const before = i === 0 ? machines.map(() => []) : waiting[i - 1];
-    const cells = i > good || waits[i].every((cell) => cell === 0) ? null : waits[i];
+  const waiting = Array(first);
+  for (let i = first; i <= last; i += 1) {
+    const before = i === first ? machines.map(() => []) : waiting[i - 1];
+    const cells = i > good || waits[i - first].every((cell) => cell === 0) ? null : waits[i - first];
     waiting.push(cells === null ? before : cells.map((cell, m) => (cell === 0 ? before[m] : cell)));
-  });
+  }
   const actors = [...machines, "operator"];
   const known = new Map();
   const el = (id) => {
@@ -52,8 +54,8 @@ pub(crate) const DRAWING_SCRIPT: &str = r##"
   };
   const placeOf = (i) => {
     const record = rows[i][12] === "" ? "" : ` \u00B7 ${rows[i][12]}`;
-    const time = hasTimes && i > 0 && i <= good ? ` \u00B7 ends at ${timeOf(i)}` : "";
-    return (i <= good ? `Entry ${i} of ${good}` : `Record ${refused[0]}; the good entries end at ${good}`) + record
+    const time = hasTimes && i > first && i <= good ? ` \u00B7 ends at ${timeOf(i)}` : "";
+    return (i <= good ? `Entry ${i} of ${entries}` : `Record ${refused[0]}; the good entries end at ${good}`) + record
       + time;
   };
   const listed = (texts) => (texts.length === 0 ? "none" : texts.join(", "));

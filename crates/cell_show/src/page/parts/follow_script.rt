@@ -4,7 +4,7 @@
 pub(crate) const FOLLOW_SCRIPT: &str =
     r##"  // What is followed: a plate's number, a zone's and a machine's place, and the entries of each and of all.
   const followed = { plate: 0, zone: -1, machine: -1, ofPlate: [], ofZone: [], ofMachine: [], all: [] };
-  const numbered = Array.from({ length: good }, (_, i) => i + 1);
+  const numbered = Array.from({ length: good - first }, (_, i) => first + i + 1);
   const isOfPlate = (i, plate) =>
     rows[i][13].split(/[ ,]/).some((word, place, all) => word === String(plate) && all[place - 1] === "plate")
     || rows[i][0].indexOf(plate) !== rows[i - 1][0].indexOf(plate);
@@ -81,7 +81,7 @@ pub(crate) const FOLLOW_SCRIPT: &str =
   };
   const search = () => {
     found.text = el("search").value.trim().toLowerCase();
-    found.list = found.text === "" ? [] : Array.from({ length: last }, (_, i) => i + 1)
+    found.list = found.text === "" ? [] : Array.from({ length: last - first }, (_, i) => first + i + 1)
       .filter((i) => (rows[i][13] + "\n" + rows[i][12]).toLowerCase().includes(found.text));
     setText("found", found.text === "" ? "" : found.list.length + " found");
     drawStrip();
@@ -119,7 +119,7 @@ pub(crate) const FOLLOW_SCRIPT: &str =
     [...el("names").children].forEach((button, r) => button.classList.toggle("acting",
       i > 0 && lanes[r].kind === "axis" && lanes[r].machine === rows[i][11]));
     marked = [];
-    if (i === 0 || i > good) return;
+    if (i === first || i > good) return;
     const failing = machines.map((_, m) => m).filter((m) => rows[i][5][m] !== rows[i - 1][5][m]);
     const acting = rows[i][11] < 6 ? [rows[i][11]] : [];
     [...new Set([...acting, ...failing])].forEach((m) => marked.push(["machine-" + m, "acting"]));

@@ -41,6 +41,7 @@ p { margin: 0; }
 .soft { color: var(--soft); font-size: 0.9rem; margin: 0; }
 #why { color: var(--red); font-weight: 600; }
 .answer { border: 2px solid var(--red); padding: 0.2rem 0.6rem; font-weight: 600; }
+.shown { border: 2px solid var(--mark); padding: 0.1rem 0.6rem; font-size: 0.9rem; }
 figure { margin: 0; }
 button, select, input[type=number], input[type=search] {
   font: inherit; color: inherit; background: var(--panel); border: 1px solid var(--line); border-radius: 4px;
@@ -88,7 +89,7 @@ kbd { border: 1px solid var(--line); border-radius: 3px; padding: 0 0.3em; font:
   #spans { grid-area: 1 / 2 / 3 / 3; }
   #cell { max-height: calc(100vh - var(--top) - var(--foot) - var(--waits) - 6rem); }
   #picture figcaption { display: block; margin-top: 0.3rem; }
-  .answer { grid-column: 1 / -1; }
+  .answer, .shown { grid-column: 1 / -1; }
 }
 @media (min-width: 1400px) { #stage { grid-template-columns: minmax(0, 1fr) minmax(0, 1fr); } }
 @media (max-width: 68rem) {

@@ -7,7 +7,8 @@ pub(crate) const LISTS: &str = r##"<div id="spans" role="group" aria-labelledby=
 <button type="button" id="zoom-out" aria-label="Zoom out" title="Zoom out (-)">&minus;</button>
 <button type="button" id="zoom-in" aria-label="Zoom in" title="Zoom in (+)">+</button>
 <button type="button" id="zoom-all" title="All entries (0)">All</button></div>
-<div id="strip"><canvas id="whole"></canvas><div id="window"></div><div id="here"></div></div>
+<div id="strip" tabindex="0" role="slider" aria-label="Entry among all">
+<canvas id="whole"></canvas><div id="window"></div><div id="here"></div></div>
 <div id="lanes"><canvas id="ruler"></canvas>
 <div id="rows"><div id="names" role="group" aria-label="Rows"></div><canvas id="bars"></canvas></div>
 <div id="now"></div></div>

@@ -6,9 +6,9 @@ pub(crate) const SPANS_SCRIPT: &str =
   // All are found once. A bar is [from, to, what], and what is told by a letter or a number.
   const spansOf = (whatAt) => {
     const spans = [];
-    let since = 0;
-    let what = whatAt(rows[0], 0);
-    for (let i = 1; i <= good; i += 1) {
+    let since = first;
+    let what = whatAt(rows[first], first);
+    for (let i = first + 1; i <= good; i += 1) {
       const now = whatAt(rows[i], i);
       if (now !== what) {
         if (what !== "") spans.push([since, i, what]);
@@ -59,22 +59,24 @@ pub(crate) const SPANS_SCRIPT: &str =
 
   // Where entries stand: each one further than the one before, or at the time at which it ends.
   const ends = document.querySelector(".chart metadata")?.textContent.trim().split(/\s+/).map(Number) ?? [];
-  const hasTimes = ends.length === good && good > 0;
-  const view = { byTime: false, start: 0, span: last + 1, width: 1, row: 16, chosen: 0 };
+  const hasTimes = ends.length === good - first && good > first;
   const latest = ends.reduce((most, end) => Math.max(most, end), 1);
-  const total = () => (view.byTime ? latest : last + 1);
-  let whole = last + 1;
-  const timeOf = (i) => (i <= 0 ? 0 : i > good ? latest : ends[i - 1]);
+  const earliest = first === 0 ? 0 : ends.reduce((least, end) => Math.min(least, end), latest);
+  const view = { byTime: false, start: first, span: last + 1 - first, width: 1, row: 16, chosen: 0 };
+  // Where all that is shown begins, and how long it is.
+  let origin = first;
+  let whole = last + 1 - first;
+  const timeOf = (i) => (i <= first ? earliest : i > good ? latest : ends[i - 1 - first]);
   const at = (i) => (view.byTime ? timeOf(i) : i);
   const xOf = (i) => ((at(i) - view.start) * view.width) / view.span;
   // The entries by the times at which they end.
-  const byEnd = Array.from({ length: last + 1 }, (_, i) => i);
+  const byEnd = Array.from({ length: last + 1 - first }, (_, i) => first + i);
   const endOf = (i) => (i > good ? Infinity : timeOf(i));
   if (hasTimes) byEnd.sort((a, b) => endOf(a) - endOf(b) || a - b);
   const entryAt = (value) => {
-    if (!view.byTime) return Math.min(last, Math.max(0, Math.floor(value)));
+    if (!view.byTime) return Math.min(last, Math.max(first, Math.floor(value)));
     let low = 0;
-    let high = last;
+    let high = last - first;
     while (low < high) {
       const middle = Math.ceil((low + high) / 2);
       if (timeOf(byEnd[middle]) <= value) low = middle;
@@ -124,7 +126,11 @@ pub(crate) const SPANS_SCRIPT: &str =
     const width = Math.max(1.5, right - left);
     pen.fillStyle = fill === "fault" ? words.red : fill === "#ffffff" && width < 3 ? words.line : fill;
     pen.fillRect(left, topOf[r] + 1, width, view.row - 3);
-    if (width < 3) return;
+    if (width < 3) {
+      pen.fillStyle = "#555555";
+      [1, view.row - 3].forEach((down) => pen.fillRect(left, topOf[r] + down, width, 1));
+      return;
+    }
     pen.strokeStyle = words.follows(lane, what) ? words.follow : "#555555";
     pen.lineWidth = words.follows(lane, what) ? 3 : 1;
     pen.strokeRect(left + 0.5, topOf[r] + 1.5, width - 1, view.row - 4);
@@ -183,7 +189,7 @@ pub(crate) const SPANS_SCRIPT: &str =
     const offset = view.byTime ? 0 : 0.5;
     for (let k = Math.ceil(view.start / step); k * step < view.start + view.span; k += 1) {
       const x = ((k * step + offset - view.start) * view.width) / view.span;
-      if (k * step <= whole) {
+      if (k * step <= origin + whole) {
         pen.fillText(k * step, Math.max(x, 4), 11);
         pen.fillRect(x - 0.5, 14, 1, 4);
       }
@@ -204,7 +210,7 @@ pub(crate) const SPANS_SCRIPT: &str =
   const drawStrip = () => {
     const width = el("strip").clientWidth;
     const pen = penOf(el("whole"), width, 30);
-    const x = (i) => (at(i) * width) / whole;
+    const x = (i) => ((at(i) - origin) * width) / whole;
     pen.fillStyle = colour("--red");
     motionRows.forEach((lane) => lane.spans.filter(([, , what]) => what === "F").forEach(([from, to]) =>
       pen.fillRect(x(from), 2 + lane.machine * 3, Math.max(2, x(to) - x(from)), 3)));
@@ -225,14 +231,14 @@ pub(crate) const SPANS_SCRIPT: &str =
     showInSpans(current, true);
   };
   const placeWindow = () => {
-    el("window").style.left = `${(100 * Math.max(0, view.start)) / whole}%`;
+    el("window").style.left = `${(100 * Math.max(0, view.start - origin)) / whole}%`;
     el("window").style.width = `${Math.min(100, (100 * view.span) / whole)}%`;
   };
   // Looks at another part: from so far on, and so wide.
   const look = (start, span) => {
-    const least = Math.min(whole, view.byTime ? whole / Math.max(1, last) : 8);
+    const least = Math.min(whole, view.byTime ? whole / Math.max(1, last - first) : 8);
     view.span = Math.min(whole, Math.max(least, span));
-    view.start = Math.min(whole - view.span, Math.max(0, start));
+    view.start = origin + Math.min(whole - view.span, Math.max(0, start - origin));
     drawBars();
     placeWindow();
     placeCursor(current);
@@ -246,13 +252,13 @@ pub(crate) const SPANS_SCRIPT: &str =
   const placeCursor = (i) => {
     const width = Math.max(3, view.byTime ? 3 : xOf(i + 1) - xOf(i));
     // What ends last by time stands at the very end, and its cursor before that.
-    const x = at(i) < whole ? xOf(i) : Math.min(xOf(i), xOf(last + 1) - width);
+    const x = at(i) < origin + whole ? xOf(i) : Math.min(xOf(i), xOf(last + 1) - width);
     const shown = x > -width && x < view.width;
     el("now").classList.toggle("off", !shown);
     el("now").classList.toggle("fault", i > good || (i > 0 && kindOf(i) === "declared"));
     el("now").style.transform = `translateX(${x.toFixed(1)}px)`;
     el("now").style.width = width + "px";
-    el("here").style.left = `${(100 * at(i)) / whole}%`;
+    el("here").style.left = `${(100 * (at(i) - origin)) / whole}%`;
   };
   // What a row has at a place, which is an entry, or a time: a bar, else where its machine waits, else the gap.
   const spanAt = (lane, value, where) => {
@@ -264,21 +270,25 @@ pub(crate) const SPANS_SCRIPT: &str =
     if (waits !== undefined) return [...waits, "waits"];
     const before = lane.spans.findLast(([, to]) => where(to) <= value);
     const after = lane.spans.find(([from]) => where(from) > value);
-    return [before?.[1] ?? 0, after?.[0] ?? last + 1, "", "nothing"];
+    return [before?.[1] ?? first, after?.[0] ?? last + 1, "", "nothing"];
   };
   const tellLane = (r, i, value = i, where = (entry) => entry) => {
     const lane = lanes[r];
     const [from, to, what, words] = spanAt(lane, value, where);
     const until = to > good ? "on" : "to " + to;
-    const times = hasTimes ? `; time ${timeOf(from)} to ${timeOf(to)}, ${timeOf(to) - timeOf(from)} long` : "";
+    const since = from === first && first > 0 ? `${from} or before` : from;
+    const isPart = (from === first && first > 0) || (to > good && good < entries);
+    const times = hasTimes ? `; time ${timeOf(from)} to ${timeOf(to)}, ${timeOf(to) - timeOf(from)} long`
+      + (isPart ? ", as far as shown" : "") : "";
     const k = Math.min(to - 1, Math.max(from, i));
     const why = what === "waits" ? "; " + waitText(waiting[k][lane.machine], k) : "";
-    return `${lane.name}: ${words}, from entry ${from} ${until}${times}${why}`;
+    return `${lane.name}: ${words}, from entry ${since} ${until}${times}${why}`;
   };
   const showInSpans = (i, stays = false) => {
     const value = at(i);
     const wide = view.byTime ? 0 : 1;
-    const ahead = value < whole ? value >= view.start + view.span : view.start + view.span < whole;
+    const end = origin + whole;
+    const ahead = value < end ? value >= view.start + view.span : view.start + view.span < end;
     if (!stays && (value + wide <= view.start || ahead)) {
       look(value - view.span * (ahead ? 0.15 : 0.85), view.span);
     }
@@ -348,7 +358,7 @@ pub(crate) const SPANS_SCRIPT: &str =
   const onStrip = (event) => {
     if (event.type === "pointermove" && event.buttons === 0) return;
     const bounds = el("strip").getBoundingClientRect();
-    goTo(entryAt(((event.clientX - bounds.left) / bounds.width) * whole));
+    goTo(entryAt(origin + ((event.clientX - bounds.left) / bounds.width) * whole));
   };
   // Rows: one of them can be reached by Tab, and others from it.
   const choose = (r) => {
@@ -361,9 +371,10 @@ pub(crate) const SPANS_SCRIPT: &str =
   };
   const toTimes = () => {
     view.byTime = !view.byTime;
-    whole = total();
+    origin = view.byTime ? earliest : first;
+    whole = view.byTime ? Math.max(1, latest - earliest) : last + 1 - first;
     el("by-time").setAttribute("aria-pressed", String(view.byTime));
-    view.start = 0;
+    view.start = origin;
     view.span = whole;
     drawSpans();
   };
@@ -382,7 +393,7 @@ pub(crate) const SPANS_SCRIPT: &str =
       el("names").append(button);
     });
     el("by-time").hidden = !hasTimes;
-    if (last > 400) view.span = 200;
+    if (last - first > 400) view.span = 200;
   };
 
 "##;

@@ -1,21 +1,29 @@
 -- The snapshot's parts are the views of the first entries, and the marks are those of the invariant on forging
 use Rattle.std.proofs.Common.{ap, drop, length, take, take-append-drop}
+use Rattle.plate_book.specs.Seen.{SeesViews}
+use Rattle.plate_book.proofs.Seen.{viewed_when_legal}
 use Rattle.cell_picture.specs.declared.facts.Facts.{Facts}
 use Rattle.cell_picture.specs.Parts.{IsWhole}
 use Rattle.cell_picture.proofs.Showing.{shows_views, marks_forged}
 use Rattle.cell_picture.proofs.Telling.{facts_are_told}
-use Rattle.cell_picture.proofs.views.facts_after.Goals as goal
+use Rattle.cell_picture.proofs.views.facts_left.Goals as goal
 
 pub returns-clause-views : goal.returns-clause-views
-returns-clause-views c = rw c.facts_of-facts.ensures
-    (shows_views c.state_at-snapshot.result.0 (take c.args.i c.args.book.now.entries) c.state_at-snapshot.ensures.views)
+returns-clause-views c =
+    let first = take c.args.i c.args.book.now.entries in
+    let seen : SeesViews c.args.snapshot.now first =
+    viewed_when_legal c.args.book.now.limits c.args.book.now.entries c.args.i _ c.is_lawful.ensures.legal
+    c.requires.left in
+    rw c.facts_of-facts.ensures (shows_views c.args.snapshot.now first seen)
 
 pub returns-clause-forged : goal.returns-clause-forged
 returns-clause-forged c =
     let J = c.args.book.now.entries in
-    let kept = c.is_lawful.ensures.kept.states (take c.args.i J) (drop c.args.i J) (take-append-drop c.args.i J) in
-    rw c.facts_of-facts.ensures (marks_forged c.state_at-snapshot.result.0 (take c.args.i J)
-    c.state_at-snapshot.ensures.views kept)
+    let first = take c.args.i J in
+    let seen : SeesViews c.args.snapshot.now first =
+    viewed_when_legal c.args.book.now.limits J c.args.i _ c.is_lawful.ensures.legal c.requires.left in
+    let kept = c.is_lawful.ensures.kept.states first (drop c.args.i J) (take-append-drop c.args.i J) in
+    rw c.facts_of-facts.ensures (marks_forged c.args.snapshot.now first seen kept)
 
 pub returns-clause-told : goal.returns-clause-told
 returns-clause-told c =
