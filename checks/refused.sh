@@ -330,6 +330,7 @@ text_lines() {
     $line answer_is_right 1 whole.journal show --svg
     $line answer_is_right 1 whole.journal show --html --beside "$examples/refused.journal"
     $line answer_is_right 1 whole.journal show --html --times "$times"
+    $line answer_is_right 1 whole.journal show --html --from 20 --count 10
     $line answer_is_right 1 nothing show --svg --animate "$whole" 30
     $line answer_is_right 1 nothing show --file "$whole" 30
     $line answer_is_right 1 nothing show -f "$whole" 99999999999999999999

@@ -25,9 +25,9 @@ as-answered (Err e) written P Q ok err whole part = subst (λ (w : Result ℕ Wr
 pub refused-read : (reading : Audited) (text : List ℕ) (why : AuditError) (old new : Option (List ℕ))
     (written : Result ℕ WriteFault)
     → reading.answer ≡ Err why → IsRead reading text
-    → MatchResult written (WritesAnswer old new (Err why)) (λ _. WritesPart old new (lines_of (Err why)))
+    → IfOk written (WritesAnswer old new (Err why)) → (IsErr written → WritesPart old new (lines_of (Err why)))
     → RefusesJournal old new written
-refused-read reading text why old new (Ok status) is read writes =
+refused-read reading text why old new (Ok status) is read writes part =
     (text, (why, answer-due text (Err why) (read-refused reading text why is read), writes))
-refused-read reading text why old new (Err e) is read part =
-    (text, (why, answer-due text (Err why) (read-refused reading text why is read), part))
+refused-read reading text why old new (Err e) is read writes part =
+    (text, (why, answer-due text (Err why) (read-refused reading text why is read), part (search rules)))

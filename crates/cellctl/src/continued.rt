@@ -1,5 +1,6 @@
 //! The command that runs the simulated cell from where a journal left it.
 ghost use Rattle.std.specs.Prelude.{ℕ, List, IfOk};
+ghost use Rattle.cell_output.specs.Watched.{bytes_held};
 ghost use Rattle.cell_runs.specs.Told.{IsRead};
 ghost use Rattle.cellctl.specs.Carried.{ContinuesFiles, GoesOnFiles, GoesOnTexts};
 
@@ -16,16 +17,16 @@ use std::sync::Wait;
 // Runs the simulated cell from a journal that was read on, by the texts of a run.
 fn continue_sources<R: AllocGlobal + Wait, W: Write>(
     rt: &R,
-    output: &mut W,
+    output: &mut WatchedWriter<'_, W>,
     before: &Audited,
     running: Running<'_>,
     sources: Sources,
 ) -> Carried
     ensures { (text : List ℕ) → IsRead before.now text
-        → GoesOnTexts running.entry.journal (W.contents output.old) (W.contents output.new) result.written }
+        → GoesOnTexts running.entry.journal (bytes_held W.contents output.old)
+        (bytes_held W.contents output.new) result.written }
 {
-    let mut writer = WatchedWriter::new(output);
-    let told = run_after(rt, before, sources.texts(), running.journal, &mut writer);
+    let told = run_after(rt, before, sources.texts(), running.journal, output);
     let entries = before.book.journal().len();
     with_ending(told, entries, running.explain, sources)
 }
@@ -33,11 +34,12 @@ fn continue_sources<R: AllocGlobal + Wait, W: Write>(
 // Runs the simulated cell from the journal in a file on, by what the run's files say.
 fn continue_files<'a, R: AllocGlobal + Files + Wait, W: Write>(
     rt: &R,
-    output: &mut W,
+    output: &mut WatchedWriter<'_, W>,
     path: &'a str,
     running: Running<'a>,
 ) -> Result<Carried, Failure<'a>>
-    ensures { IfOk result (λ c. GoesOnFiles running.entry (W.contents output.old) (W.contents output.new) c.written) }
+    ensures { IfOk result (λ c. GoesOnFiles running.entry (bytes_held W.contents output.old)
+        (bytes_held W.contents output.new) c.written) }
 {
     let sources = match sources_in(rt, output, running)? {
         Ok(sources) => sources,
@@ -51,11 +53,12 @@ fn continue_files<'a, R: AllocGlobal + Files + Wait, W: Write>(
 /// before any is judged, the journal last. Neither a journal to be followed nor measures go with it.
 pub(crate) fn continue_words<'a, R: AllocGlobal + Files + Wait, W: Write, E: Write>(
     rt: &R,
-    output: &mut W,
+    output: &mut WatchedWriter<'_, W>,
     errors: &mut E,
     continuing: Continuing<'a>,
 ) -> Result<Carried, Failure<'a>>
-    ensures { IfOk result (λ c. ContinuesFiles continuing.entry (W.contents output.old) (W.contents output.new)
+    ensures { IfOk result (λ c. ContinuesFiles continuing.entry (bytes_held W.contents output.old)
+        (bytes_held W.contents output.new)
         (E.contents errors.old) (E.contents errors.new) c.written) }
 {
     if continuing.follow.is_some() {

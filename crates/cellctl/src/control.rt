@@ -2,16 +2,17 @@
 
 use cell_audit::{AuditError, write_answer};
 use cell_command::Controlling;
-use cell_control::{ControlOptions, Orders, Streams, control_cell, read_orders, refuse_orders};
+use cell_control::{ControlOptions, Orders, Streams, control_cell, read_orders};
 use cell_journal_file::{JournalFile, Past, PastError, read_past};
 use cell_orders::{Failure, script_in, settings_in, tell_too_long, wrong};
 use cell_output::{WatchedWriter, WriteFault, status};
 use cell_plant::Unkept;
-use cell_runs::empty_book;
+use cell_rows::TellsFault;
+use cell_runs::{empty_book, refuse_input};
 use plate_book::Book;
 use std::fs::{File, OpenFile};
 use std::io;
-use std::io::{ErrorKind, Read, Write};
+use std::io::{ErrorKind, Write};
 use std::rt::Files;
 
 /// The journal's file that is to be written, and how much of it stands.
@@ -42,10 +43,13 @@ fn options_of(controlling: &Controlling<'_>) -> ControlOptions {
 }
 
 // Tells that no run can go on from a journal's file, and why, and gives the status.
-fn refuse_past<E: Write>(errors: &mut E, why: PastError) -> io::Result<Result<u8, WriteFault>> {
+fn refuse_past<E: Write>(
+    errors: &mut WatchedWriter<'_, E>,
+    why: PastError,
+) -> io::Result<Result<u8, WriteFault>> {
     match why {
         PastError::Refused(AuditError::ReadFault) => Ok(Ok(status::DEVICE_FAULT)),
-        PastError::Refused(why) => { Ok(write_answer(&mut WatchedWriter::new(errors), Err(why))) }
+        PastError::Refused(why) => Ok(write_answer(errors, Err(why))),
         PastError::OtherProfile => {
             writeln!(
                 errors,
@@ -119,7 +123,7 @@ fn started<R: AllocGlobal, F: Write + OpenFile + Drop, E: Write>(
 }
 
 // Controls a cell, and writes its journal ahead to the file of a path.
-fn control_kept<'a, R: AllocGlobal + Files, I: Read + Drop, W: Write + Drop, E: Write + Drop>(
+fn control_kept<'a, R: AllocGlobal + Files, I: TellsFault + Drop, W: Write + Drop, E: Write + Drop>(
     rt: &R,
     path: &'a str,
     opened: Opened<R::File>,
@@ -138,7 +142,7 @@ fn control_kept<'a, R: AllocGlobal + Files, I: Read + Drop, W: Write + Drop, E: 
 }
 
 // Controls a cell, and keeps no journal.
-fn control_unkept<'a, R: AllocGlobal, I: Read + Drop, W: Write + Drop, E: Write + Drop>(
+fn control_unkept<'a, R: AllocGlobal, I: TellsFault + Drop, W: Write + Drop, E: Write + Drop>(
     rt: &R,
     orders: Orders<'_>,
     controlling: &Controlling<'a>,
@@ -151,40 +155,76 @@ fn control_unkept<'a, R: AllocGlobal, I: Read + Drop, W: Write + Drop, E: Write 
     Ok(Ok(told.status?))
 }
 
+// What comes of the file of a journal that is asked for.
+#[derive(Drop)]
+enum Found<F> {
+    // The run begins with it, or goes on from it.
+    File(Opened<F>),
+    // No run can go on from it.
+    Refused(PastError),
+    // It is there already, and none is to go on from it.
+    Already,
+}
+
+// Finds the file of a journal, which is there exactly if a run is to go on from it.
+fn found_in<'a, R: AllocGlobal + Files>(
+    rt: &R,
+    path: &'a str,
+    orders: &Orders<'_>,
+    resume: bool,
+) -> Result<Found<R::File>, Failure<'a>> {
+    if resume {
+        return match past_in(rt, path, orders)? {
+            Ok(opened) => Ok(Found::File(opened)),
+            Err(why) => Ok(Found::Refused(why)),
+        };
+    }
+    match begin_in(rt, path)? {
+        Some(opened) => Ok(Found::File(opened)),
+        None => Ok(Found::Already),
+    }
+}
+
 // Controls a cell by orders that were read.
-fn control_orders<'a, R: AllocGlobal + Files, I: Read + Drop, W: Write + Drop, E: Write + Drop>(
+fn control_orders<'a, R: AllocGlobal + Files, I: TellsFault + Drop, W: Write, E: Write>(
     rt: &R,
     orders: Orders<'_>,
     controlling: &Controlling<'a>,
-    mut streams: Streams<I, W, E>,
+    input: I,
+    output: &mut WatchedWriter<'_, W>,
+    errors: &mut WatchedWriter<'_, E>,
 ) -> Result<Result<u8, WriteFault>, Failure<'a>> {
     let Some(path) = controlling.journal else {
+        let streams = Streams {
+            input,
+            output,
+            errors,
+        };
         return control_unkept(rt, orders, controlling, streams);
     };
-    let opened = if controlling.resume {
-        match past_in(rt, path, &orders)? {
-            Ok(opened) => opened,
-            Err(why) => return Ok(refuse_past(&mut streams.errors, why)?),
+    let opened = match found_in(rt, path, &orders, controlling.resume)? {
+        Found::File(opened) => opened,
+        Found::Refused(why) => return Ok(refuse_past(errors, why)?),
+        Found::Already => {
+            let why = "the file of --journal is there already, and --resume goes on from it";
+            return Ok(wrong(errors, why)?);
         }
-    } else {
-        match begin_in(rt, path)? {
-            Some(opened) => opened,
-            None => {
-                let why = "the file of --journal is there already, and --resume goes on from it";
-                return Ok(wrong(&mut streams.errors, why)?);
-            }
-        }
+    };
+    let streams = Streams {
+        input,
+        output,
+        errors,
     };
     control_kept(rt, path, opened, orders, controlling, streams)
 }
 
 /// Controls the cell whose lines are on the input, by what two files say. They are read before any is judged; all that
 /// is told is told among the errors.
-pub(crate) fn control_words<'a, R: AllocGlobal + Files, I: Read + Drop, W: Write, E: Write>(
+pub(crate) fn control_words<'a, R: AllocGlobal + Files, I: TellsFault + Drop, W: Write, E: Write>(
     rt: &R,
     input: I,
-    output: &mut W,
-    errors: &mut E,
+    output: &mut WatchedWriter<'_, W>,
+    errors: &mut WatchedWriter<'_, E>,
     controlling: Controlling<'a>,
 ) -> Result<Result<u8, WriteFault>, Failure<'a>> {
     if controlling.resume && controlling.journal.is_none() {
@@ -198,13 +238,8 @@ pub(crate) fn control_words<'a, R: AllocGlobal + Files, I: Read + Drop, W: Write
     let Some(settings) = settings else {
         return Ok(tell_too_long(errors));
     };
-    let streams = Streams {
-        input,
-        output,
-        errors,
-    };
     match read_orders(rt.alloc(), settings.as_slice(), operator.as_slice()) {
-        Ok(orders) => control_orders(rt, orders, &controlling, streams),
-        Err(error) => Ok(refuse_orders(streams.errors, error)),
+        Ok(orders) => control_orders(rt, orders, &controlling, input, output, errors),
+        Err(error) => Ok(refuse_input(errors, error)),
     }
 }

@@ -1,28 +1,20 @@
 //! The command by which a method drives the simulated cell.
-ghost use Rattle.std.specs.Prelude.{ℕ, List, Err, IfOk, MatchResult, option_map};
-ghost use Rattle.cell_audit.specs.Lines.{WritesAnswer, lines_of};
-ghost use Rattle.cell_output.specs.Watched.{WritesPart};
+ghost use Rattle.std.specs.Prelude.{ℕ, List, IfOk, option_map};
+ghost use Rattle.cell_output.specs.Watched.{bytes_held};
 ghost use Rattle.cell_runs.specs.Told.{IsRead};
 ghost use Rattle.cellctl.specs.Carried.{DrivesFiles, DrivesRead, DrivesSome};
 
 use crate::orders::{Sources, sources_in};
-use cell_audit::{AuditError, Audited, write_answer};
+use cell_audit::{Audited, write_answer};
 use cell_command::Driving;
 use cell_drive::{DriveOptions, drive_texts};
 use cell_journal::Journal;
 use cell_orders::{Failure, book_in};
 use cell_output::{WatchedWriter, WriteFault};
-use std::io::{Read, Write};
+use cell_rows::TellsFault;
+use std::io::Write;
 use std::rt::Files;
 use std::sync::Wait;
-
-// Tells that a journal is refused or can't be read, for which an audit gave this error, and gives the exit status.
-fn refuse_journal<W: Write>(output: &mut W, why: AuditError) -> Result<u8, WriteFault>
-    ensures { MatchResult result (WritesAnswer (W.contents output.old) (W.contents output.new) (Err why))
-        (λ _. WritesPart (W.contents output.old) (W.contents output.new) (lines_of (Err why))) }
-{
-    write_answer(&mut WatchedWriter::new(output), Err(why))
-}
 
 // What a method drives: a cell by the files of a run, as its order says.
 #[derive(Drop)]
@@ -32,16 +24,16 @@ struct Driven<'a> {
 }
 
 // Lets a method on the input drive the simulated cell by the texts of a run, from a journal on, if there is one.
-fn drive_sources<R: AllocGlobal + Wait, I: Read + Drop, W: Write, E: Write>(
+fn drive_sources<R: AllocGlobal + Wait, I: TellsFault + Drop, W: Write, E: Write>(
     rt: &R,
     input: I,
-    output: &mut W,
-    errors: &mut E,
+    output: &mut WatchedWriter<'_, W>,
+    errors: &mut WatchedWriter<'_, E>,
     driven: &Driven<'_>,
     from: Option<&Journal>,
 ) -> Result<u8, WriteFault>
     ensures { DrivesSome driven.now.driving.raw (option_map (λ j. j.now.entries) from.entry) (I.remaining input)
-        (W.contents output.old) (W.contents output.new) result }
+        (bytes_held W.contents output.old) (bytes_held W.contents output.new) result }
 {
     let options = DriveOptions {
         raw: driven.driving.raw,
@@ -53,37 +45,44 @@ fn drive_sources<R: AllocGlobal + Wait, I: Read + Drop, W: Write, E: Write>(
 }
 
 // The same from a journal that was read on, or it is told that the journal is refused.
-fn drive_read<R: AllocGlobal + Wait, I: Read + Drop, W: Write, E: Write>(
+fn drive_read<R: AllocGlobal + Wait, I: TellsFault + Drop, W: Write, E: Write>(
     rt: &R,
     input: I,
-    output: &mut W,
-    errors: &mut E,
+    output: &mut WatchedWriter<'_, W>,
+    errors: &mut WatchedWriter<'_, E>,
     driven: &Driven<'_>,
     before: &Audited,
 ) -> Result<u8, WriteFault>
     ensures { (text : List ℕ) → IsRead before.now text
-        → DrivesRead driven.now.driving (I.remaining input) (W.contents output.old) (W.contents output.new) result }
+        → DrivesRead driven.now.driving (I.remaining input) (bytes_held W.contents output.old)
+        (bytes_held W.contents output.new) result }
 {
     match before.answer {
         Ok(_) => {
             let from = Some(before.book.journal());
             drive_sources(rt, input, output, errors, driven, from)
         }
-        Err(why) => refuse_journal(output, why),
+        Err(why) => write_answer(output, Err(why)),
     }
 }
 
 /// Lets a method on the input drive the simulated cell by what the run's files say, from the journal on that is named,
 /// if one is. They are all read before any is judged, the journal last.
-pub(crate) fn drive_files<'a, R: AllocGlobal + Files + Wait, I: Read + Drop, W: Write, E: Write>(
+pub(crate) fn drive_files<
+    'a,
+    R: AllocGlobal + Files + Wait,
+    I: TellsFault + Drop,
+    W: Write,
+    E: Write,
+>(
     rt: &R,
     input: I,
-    output: &mut W,
-    errors: &mut E,
+    output: &mut WatchedWriter<'_, W>,
+    errors: &mut WatchedWriter<'_, E>,
     driving: Driving<'a>,
 ) -> Result<Result<u8, WriteFault>, Failure<'a>>
-    ensures { IfOk result (λ written. DrivesFiles driving.entry (I.remaining input) (W.contents output.old)
-        (W.contents output.new) written) }
+    ensures { IfOk result (λ written. DrivesFiles driving.entry (I.remaining input) (bytes_held W.contents output.old)
+        (bytes_held W.contents output.new) written) }
 {
     let sources = match sources_in(rt, output, driving.running)? {
         Ok(sources) => sources,

@@ -1,6 +1,7 @@
 //! How long the events of a run need at least.
 ghost use Rattle.std.specs.Prelude.{◌≡◌, ◌≢◌, ◌⊎◌, IfOk, List, Ok, OnOk, ℕ};
 ghost use Rattle.std.specs.Io.KnownBytes.{Appends};
+ghost use Rattle.cell_output.specs.Watched.{bytes_held};
 ghost use Rattle.cellctl.specs.Carried.{AddsLeast, MeasuresRun};
 
 use cell_journal::Journal;
@@ -20,11 +21,12 @@ fn least_of(alloc: Global, journal: &Journal, durations: &Durations) -> Result<S
 // Tells how long the events of a run need at least, if one is left.
 fn tell_least<W: Write>(
     alloc: Global,
-    output: &mut W,
+    output: &mut WatchedWriter<'_, W>,
     left: &Left,
     durations: &Durations,
 ) -> Result<u8, WriteFault>
-    ensures told { OnOk result ((told : List ℕ) × Appends (W.contents output.old) (W.contents output.new) told) }
+    ensures told { OnOk result ((told : List ℕ) × Appends (bytes_held W.contents output.old)
+        (bytes_held W.contents output.new) told) }
     ensures status { IfOk result (λ status. (status ≡ 0) ⊎ (status ≡ 4)) }
     ensures memory { result ≡ Ok 4 → output.new ≡ output.old }
 {
@@ -34,7 +36,7 @@ fn tell_least<W: Write>(
     let Ok(lines) = least_of(alloc, &run.journal, durations) else {
         return Ok(status::OUT_OF_MEMORY);
     };
-    WatchedWriter::new(output).write_bytes(lines.as_str().as_bytes())?;
+    output.write_bytes(lines.as_str().as_bytes())?;
     Ok(status::SUCCESS)
 }
 
@@ -54,12 +56,13 @@ fn status_with(run: u8, measures: u8) -> u8
 // Tells it of a run that has this status, unless memory was refused for the run, and gives the status of both.
 fn add_least<W: Write>(
     alloc: Global,
-    output: &mut W,
+    output: &mut WatchedWriter<'_, W>,
     status: u8,
     left: &Left,
     durations: &Durations,
 ) -> Result<u8, WriteFault>
-    ensures { IfOk result (λ both. AddsLeast status (W.contents output.old) (W.contents output.new) both) }
+    ensures { IfOk result (λ both. AddsLeast status (bytes_held W.contents output.old)
+        (bytes_held W.contents output.new) both) }
 {
     if status == status::OUT_OF_MEMORY {
         return Ok(status);
@@ -72,21 +75,14 @@ fn add_least<W: Write>(
 /// need at least, if one is left.
 pub(crate) fn run_least<R: AllocGlobal + Threads + Wait + Sync, W: Write>(
     rt: &R,
-    output: &mut W,
+    output: &mut WatchedWriter<'_, W>,
     journal: bool,
     texts: Texts<'_>,
 ) -> Result<(u8, Left), WriteFault>
     ensures { IfOk result (λ ran. MeasuresRun Mode.Threads texts.entry.settings.now texts.entry.faults.now
-        texts.entry.operator.now journal (W.contents output.old) (W.contents output.new) ran.0) }
+        texts.entry.operator.now journal (bytes_held W.contents output.old) (bytes_held W.contents output.new) ran.0) }
 {
-    let ran = run_kept(
-        rt,
-        texts,
-        Mode::Threads,
-        journal,
-        &mut WatchedWriter::new(output),
-    );
-    let (status, left) = ran?;
+    let (status, left) = run_kept(rt, texts, Mode::Threads, journal, output)?;
     let both = add_least(rt.alloc(), output, status, &left, &texts.durations)?;
     Ok((both, left))
 }

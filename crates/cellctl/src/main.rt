@@ -15,12 +15,14 @@ mod sweep;
 ghost use Rattle.std.specs.Prelude.{◌≡◌, ◌⊎◌, IfOk, map};
 ghost use Rattle.std.specs.Io.KnownBytes.{Keeps};
 ghost use Rattle.clap.specs.Words.{kind_of};
+ghost use Rattle.cell_output.specs.Watched.{bytes_held};
 ghost use Rattle.cellctl.specs.Carried.{IsTurnedAway, Obeys, ended, status_of_error};
 
 use cell_command::{Escaped, Resource, read_words};
 use cell_explain::endings::{EndedRun, write_ending};
-use cell_orders::{Failure, Noted};
-use cell_output::status;
+use cell_orders::Failure;
+use cell_output::{WatchedWriter, status};
+use cell_rows::{TellsFault, Watched};
 use clap::Error;
 use clap::error::ErrorKind;
 use end::{Failed, Faults, tell_end};
@@ -29,7 +31,7 @@ use named::Named;
 use orders::{Carried, carry_out};
 use std::alloc::{AllocError, Global};
 use std::env::Env;
-use std::io::{IsTerminal, Read, Write};
+use std::io::{BufReader, BufWriter, IsTerminal, Write};
 use std::process::ExitCode;
 use std::rt::Files;
 use std::sync::Wait;
@@ -118,19 +120,20 @@ fn finish<W: Write, E: Write>(
 fn main_over<
     'a,
     R: AllocGlobal + Files + Threads + Wait + Sync,
-    I: Read + Drop,
+    I: TellsFault + Drop,
     W: Write,
     E: Write,
 >(
     rt: &R,
     input: I,
-    output: &mut W,
-    errors: &mut E,
+    output: &mut WatchedWriter<'_, W>,
+    errors: &mut WatchedWriter<'_, E>,
     progress: bool,
     words: &'a [&'a str],
 ) -> Result<Obeyed, Failure<'a>>
-    ensures { IfOk result (λ obeyed. Obeys (map (λ w. w.now) words.now) (I.remaining input) (W.contents output.old)
-        (W.contents output.new) (E.contents errors.old) obeyed.status
+    ensures { IfOk result (λ obeyed. Obeys (map (λ w. w.now) words.now) (I.remaining input)
+        (bytes_held W.contents output.old) (bytes_held W.contents output.new) (bytes_held E.contents errors.old)
+        obeyed.status
         ⊎ IsTurnedAway (map (λ w. w.now) words.now) obeyed.status) }
 {
     match read_words(rt.alloc(), words) {
@@ -174,14 +177,16 @@ fn over_streams<'a, R: AllocGlobal + Files + Input + Print + Threads + Wait + Sy
     words: &'a [&'a str],
     faults: &mut Faults,
 ) -> Result<Obeyed, Failure<'a>> {
-    let mut input = Noted::new(rt.reader());
-    let mut output = Noted::new(io::BufWriter::new(rt.alloc(), io::writer(rt))?);
-    let mut errors = Noted::new(io::writer(errors));
+    let mut input = Watched::new(BufReader::new(rt.alloc(), rt.reader())?);
+    let mut output = BufWriter::new(rt.alloc(), io::writer(rt))?;
+    let mut output = WatchedWriter::new(&mut output);
+    let mut errors = io::writer(errors);
+    let mut errors = WatchedWriter::new(&mut errors);
     let obeyed = main_over(rt, &mut input, &mut output, &mut errors, progress, words);
     *faults = Faults {
-        input: input.error,
-        output: output.error,
-        errors: errors.error,
+        input: input.error(),
+        output: output.error(),
+        errors: errors.error(),
     };
     obeyed
 }

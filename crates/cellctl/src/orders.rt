@@ -1,5 +1,6 @@
 //! What is done for an order, over any reader and writers.
 ghost use Rattle.std.specs.Prelude.{◌≡◌, ℕ, List, IfErr, IfOk, Ok};
+ghost use Rattle.cell_output.specs.Watched.{bytes_held};
 ghost use Rattle.cell_runs.specs.Told.{IsRead};
 ghost use Rattle.cellctl.specs.Carried.{CarriesOut, FollowsFiles, FollowsTexts, MeasuresFiles, MeasuresRun};
 ghost use Rattle.cellctl.specs.Carried.{MeasuresTexts, RunsFiles, RunsTexts, TellsUnfit};
@@ -18,8 +19,9 @@ use cell_orders::{
     measure_words, migrate_file, script_in, settings_in, show_words, tell_times, tell_too_long,
 };
 use cell_output::{WatchedWriter, WriteFault};
+use cell_rows::TellsFault;
 use cell_runs::{KeptRun, Left, Mode, Texts, follow_after, run_kept};
-use std::io::{Read, Write};
+use std::io::Write;
 use std::rt::Files;
 use std::sync::Wait;
 use std::thread::Threads;
@@ -99,12 +101,12 @@ fn written_out(written: Result<u8, WriteFault>) -> Carried
 /// refused.
 pub(crate) fn sources_in<'a, R: AllocGlobal + Files, W: Write>(
     rt: &R,
-    output: &mut W,
+    output: &mut WatchedWriter<'_, W>,
     running: Running<'a>,
 ) -> Result<Result<Sources, Result<u8, WriteFault>>, Failure<'a>>
     ensures same { IfOk result (λ read. IfOk read (λ _. output.new ≡ output.old)) }
     ensures unfit { IfOk result (λ read. IfErr read
-        (TellsUnfit running.entry.times (W.contents output.old) (W.contents output.new))) }
+        (TellsUnfit running.entry.times (bytes_held W.contents output.old) (bytes_held W.contents output.new))) }
 {
     let settings = settings_in(rt, running.paths.settings)?;
     let faults = script_in(rt, running.paths.faults)?.bytes;
@@ -165,26 +167,27 @@ pub(crate) fn with_ending(
 // Runs the simulated cell by its texts, on threads or in rounds.
 fn run_sources<R: AllocGlobal + Threads + Wait + Sync, W: Write>(
     rt: &R,
-    output: &mut W,
+    output: &mut WatchedWriter<'_, W>,
     mode: Mode,
     running: Running<'_>,
     sources: Sources,
 ) -> Carried
-    ensures { RunsTexts mode running.entry.journal (W.contents output.old) (W.contents output.new) result.written }
+    ensures { RunsTexts mode running.entry.journal (bytes_held W.contents output.old)
+        (bytes_held W.contents output.new) result.written }
 {
-    let mut writer = WatchedWriter::new(output);
-    let ran = run_kept(rt, sources.texts(), mode, running.journal, &mut writer);
+    let ran = run_kept(rt, sources.texts(), mode, running.journal, output);
     with_ending(ran, 0, running.explain, sources)
 }
 
 // Runs the simulated cell by what its files say, on threads or in rounds. The files are all read before any is judged.
 fn run_files<'a, R: AllocGlobal + Files + Threads + Wait + Sync, W: Write>(
     rt: &R,
-    output: &mut W,
+    output: &mut WatchedWriter<'_, W>,
     mode: Mode,
     running: Running<'a>,
 ) -> Result<Carried, Failure<'a>>
-    ensures { IfOk result (λ c. RunsFiles mode running.entry (W.contents output.old) (W.contents output.new)
+    ensures { IfOk result (λ c. RunsFiles mode running.entry (bytes_held W.contents output.old)
+        (bytes_held W.contents output.new)
         c.written) }
 {
     match sources_in(rt, output, running)? {
@@ -197,16 +200,16 @@ fn run_files<'a, R: AllocGlobal + Files + Threads + Wait + Sync, W: Write>(
 // left of it, of one in rounds in a cell that is watched.
 fn run_with_measures<R: AllocGlobal + Threads + Wait + Sync, W: Write>(
     rt: &R,
-    output: &mut W,
+    output: &mut WatchedWriter<'_, W>,
     mode: Mode,
     journal: bool,
     texts: Texts<'_>,
 ) -> Result<(u8, Left), WriteFault>
     ensures { IfOk result (λ ran. MeasuresRun mode texts.entry.settings.now texts.entry.faults.now
-        texts.entry.operator.now journal (W.contents output.old) (W.contents output.new) ran.0) }
+        texts.entry.operator.now journal (bytes_held W.contents output.old) (bytes_held W.contents output.new) ran.0) }
 {
     match mode {
-        Mode::Rounds => run_measured(rt, texts, journal, &mut WatchedWriter::new(output)),
+        Mode::Rounds => run_measured(rt, texts, journal, output),
         Mode::Threads => run_least(rt, output, journal, texts),
     }
 }
@@ -214,12 +217,13 @@ fn run_with_measures<R: AllocGlobal + Threads + Wait + Sync, W: Write>(
 // Runs the simulated cell by its texts, on threads or in rounds, and tells what is measured of it.
 fn measure_sources<R: AllocGlobal + Threads + Wait + Sync, W: Write>(
     rt: &R,
-    output: &mut W,
+    output: &mut WatchedWriter<'_, W>,
     mode: Mode,
     running: Running<'_>,
     sources: Sources,
 ) -> Carried
-    ensures { MeasuresTexts mode running.entry.journal (W.contents output.old) (W.contents output.new)
+    ensures { MeasuresTexts mode running.entry.journal (bytes_held W.contents output.old)
+        (bytes_held W.contents output.new)
         result.written }
 {
     let ran = run_with_measures(rt, output, mode, running.journal, sources.texts());
@@ -230,11 +234,12 @@ fn measure_sources<R: AllocGlobal + Threads + Wait + Sync, W: Write>(
 // are all read before any is judged.
 fn measure_files<'a, R: AllocGlobal + Files + Threads + Wait + Sync, W: Write>(
     rt: &R,
-    output: &mut W,
+    output: &mut WatchedWriter<'_, W>,
     mode: Mode,
     running: Running<'a>,
 ) -> Result<Carried, Failure<'a>>
-    ensures { IfOk result (λ c. MeasuresFiles mode running.entry (W.contents output.old) (W.contents output.new)
+    ensures { IfOk result (λ c. MeasuresFiles mode running.entry (bytes_held W.contents output.old)
+        (bytes_held W.contents output.new)
         c.written) }
 {
     match sources_in(rt, output, running)? {
@@ -246,27 +251,28 @@ fn measure_files<'a, R: AllocGlobal + Files + Threads + Wait + Sync, W: Write>(
 // Follows a journal that was read by the texts of a run.
 fn follow_sources<R: AllocGlobal + Wait, W: Write>(
     rt: &R,
-    output: &mut W,
+    output: &mut WatchedWriter<'_, W>,
     followed: &Audited,
     running: Running<'_>,
     sources: Sources,
 ) -> Carried
     ensures { (text : List ℕ) → IsRead followed.now text
-        → FollowsTexts running.entry.journal (W.contents output.old) (W.contents output.new) result.written }
+        → FollowsTexts running.entry.journal (bytes_held W.contents output.old)
+        (bytes_held W.contents output.new) result.written }
 {
-    let mut writer = WatchedWriter::new(output);
-    let told = follow_after(rt, followed, sources.texts(), running.journal, &mut writer);
+    let told = follow_after(rt, followed, sources.texts(), running.journal, output);
     with_ending(told, 0, running.explain, sources)
 }
 
 // Follows the journal in a file by what the run's files say.
 fn follow_files<'a, R: AllocGlobal + Files + Wait, W: Write>(
     rt: &R,
-    output: &mut W,
+    output: &mut WatchedWriter<'_, W>,
     path: &'a str,
     running: Running<'a>,
 ) -> Result<Carried, Failure<'a>>
-    ensures { IfOk result (λ c. FollowsFiles running.entry (W.contents output.old) (W.contents output.new) c.written) }
+    ensures { IfOk result (λ c. FollowsFiles running.entry (bytes_held W.contents output.old)
+        (bytes_held W.contents output.new) c.written) }
 {
     let sources = match sources_in(rt, output, running)? {
         Ok(sources) => sources,
@@ -281,19 +287,20 @@ fn follow_files<'a, R: AllocGlobal + Files + Wait, W: Write>(
 pub(crate) fn carry_out<
     'a,
     R: AllocGlobal + Files + Threads + Wait + Sync,
-    I: Read + Drop,
+    I: TellsFault + Drop,
     W: Write,
     E: Write,
 >(
     rt: &R,
     input: I,
-    output: &mut W,
-    errors: &mut E,
+    output: &mut WatchedWriter<'_, W>,
+    errors: &mut WatchedWriter<'_, E>,
     progress: bool,
     order: Order<'a>,
 ) -> Result<Carried, Failure<'a>>
-    ensures { IfOk result (λ c. CarriesOut order.entry (I.remaining input) (W.contents output.old)
-        (W.contents output.new) (E.contents errors.old) (E.contents errors.new) c.written) }
+    ensures { IfOk result (λ c. CarriesOut order.entry (I.remaining input) (bytes_held W.contents output.old)
+        (bytes_held W.contents output.new) (bytes_held E.contents errors.old)
+        (bytes_held E.contents errors.new) c.written) }
 {
     match order {
         Order::Audit(file) => Ok(without_ending(audit_file(rt, input, output, file)?)),

@@ -1,5 +1,6 @@
 //! The command that runs the simulated cell once for each fault.
 ghost use Rattle.std.specs.Prelude.{IfErr, IfNone, IfOk, IfSome};
+ghost use Rattle.cell_output.specs.Watched.{bytes_held};
 ghost use Rattle.cell_sweep.specs.Sweeps.{wanted};
 ghost use Rattle.cellctl.specs.Carried.{SweepsFiles, SweepsSome};
 ghost use Rattle.cellctl.specs.Swept.{AreKinds, AreMotions, HasNoKind, IsNoCount};
@@ -48,13 +49,13 @@ fn motions_of(word: Option<&str>) -> Option<Option<u32>>
 // Sweeps by what two files say. Both are read before any is judged.
 fn sweep_files<'a, R: AllocGlobal + Files + Wait, W: Write, E: Write>(
     rt: &R,
-    output: &mut W,
+    output: &mut WatchedWriter<'_, W>,
     errors: &mut E,
     sweeping: Sweeping<'a>,
     sweep: Sweep<'_>,
 ) -> Result<Result<u8, WriteFault>, Failure<'a>>
     ensures { IfOk result (λ written. SweepsSome (wanted sweep.entry.kinds.now sweep.entry.motions sweep.entry.service
-        sweep.entry.csv) (W.contents output.old) (W.contents output.new) written) }
+        sweep.entry.csv) (bytes_held W.contents output.old) (bytes_held W.contents output.new) written) }
 {
     let settings = settings_in(rt, sweeping.settings)?;
     let operator = script_in(rt, sweeping.operator)?;
@@ -62,27 +63,20 @@ fn sweep_files<'a, R: AllocGlobal + Files + Wait, W: Write, E: Write>(
         return Ok(tell_too_long(output));
     };
     let operator = operator.bytes.as_slice();
-    let mut writer = WatchedWriter::new(output);
-    Ok(sweep_texts(
-        rt,
-        settings.as_slice(),
-        operator,
-        sweep,
-        &mut writer,
-        errors,
-    ))
+    Ok(sweep_texts(rt, settings.as_slice(), operator, sweep, output, errors))
 }
 
 /// Runs the simulated cell once for each fault that the words of the command line ask for. With `progress` the errors
 /// tell how many runs are done.
 pub(crate) fn sweep_words<'a, R: AllocGlobal + Files + Wait, W: Write, E: Write>(
     rt: &R,
-    output: &mut W,
+    output: &mut WatchedWriter<'_, W>,
     errors: &mut E,
     sweeping: Sweeping<'a>,
     progress: bool,
 ) -> Result<Result<u8, WriteFault>, Failure<'a>>
-    ensures { IfOk result (SweepsFiles sweeping.entry (W.contents output.old) (W.contents output.new)
+    ensures { IfOk result (SweepsFiles sweeping.entry (bytes_held W.contents output.old)
+        (bytes_held W.contents output.new)
         (E.contents errors.old) (E.contents errors.new)) }
 {
     let kinds = match kinds_of(rt.alloc(), sweeping.kinds)? {

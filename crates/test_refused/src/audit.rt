@@ -1,6 +1,8 @@
 //! Journals that are written, audited, migrated, and read for more than their audit.
 use crate::sample::{PLAIN, PROFILE_1, QUOTED, ROOM, check_written, clearing, is_wanted};
 use cell_audit::{AuditError, Audited, MigrateError, WriteError};
+use cell_output::WatchedWriter;
+use cell_rows::RowReader;
 use cell_types::Totals;
 use plate_book::Book;
 use std::alloc::{AllocError, Global};
@@ -123,7 +125,12 @@ fn migrate_lines(rt: HostRuntime) -> Result<(), Fail> {
     let mut written = Vec::with_capacity(alloc, ROOM)?;
     let mut errors = Vec::with_capacity(alloc, ROOM)?;
     call_begins(alloc);
-    let answer = cell_audit::migrate_lines(alloc, text.as_slice(), &mut written, &mut errors);
+    let answer = cell_audit::migrate_lines(
+        alloc,
+        text.as_slice(),
+        &mut WatchedWriter::new(&mut written),
+        &mut WatchedWriter::new(&mut errors),
+    );
     call_ends(alloc, is_wanted(answer));
     check_written(&rt, answer, written.as_slice(), 0, due.as_slice());
     assert!(rt; errors.as_slice().is_empty());
@@ -150,12 +157,13 @@ fn check_reading(rt: &impl Abort, reading: &Audited, first: &Book, wanted: bool)
 }
 
 #[test]
-fn read_journal(rt: HostRuntime) -> Result<(), Fail> {
+fn read_rows(rt: HostRuntime) -> Result<(), Fail> {
     let alloc = rt.alloc();
     let text = clearing(alloc, PROFILE_1, QUOTED)?;
     let first = begun(alloc, 100, 10, 7).expect(&rt, "a book");
     call_begins(alloc);
-    let answer = cell_audit::read_journal(alloc, text.as_slice());
+    let mut rows = RowReader::new(alloc, text.as_slice());
+    let answer = cell_audit::read_rows(alloc, &mut rows);
     let wanted = match &answer {
         Ok(reading) => matches!(reading.answer, Err(AuditError::OutOfMemory)),
         Err(_) => true,

@@ -94,7 +94,14 @@ fn drive_lines<R: AllocGlobal + Wait>(
         call_begins(alloc);
     }
     let lines = b"lamp,feed,green,\ndone,,,\nlamp,feed,red,\ndone,,,\nquit,,,\n".as_slice();
-    let answer = cell_drive::drive_texts(rt, one_plate(), driving, lines, &mut output, &mut errors);
+    let answer = cell_drive::drive_texts(
+        rt,
+        one_plate(),
+        driving,
+        lines,
+        &mut WatchedWriter::new(&mut output),
+        &mut WatchedWriter::new(&mut errors),
+    );
     if marked {
         call_ends(alloc, answer == Ok(4));
     }

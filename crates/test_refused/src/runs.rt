@@ -1,7 +1,8 @@
 //! Whole runs by their texts, in rounds on one thread and on threads.
-use cell_audit::{AuditError, audit, read_journal};
+use cell_audit::{AuditError, audit, read_rows};
 use cell_journal::Journal;
 use cell_output::{WatchedWriter, WriteFault};
+use cell_rows::RowReader;
 use cell_runs::{KeptRun, Left, Mode, Texts, follow_after, run_after, run_kept};
 use cell_types::Totals;
 use std::process::Abort;
@@ -221,7 +222,7 @@ fn follow_after_a_run(rt: HostRuntime) -> Result<(), Fail> {
         faults.as_bytes(),
         operator.as_bytes(),
     ];
-    let followed = read_journal(alloc, journal.as_slice())?;
+    let followed = read_rows(alloc, &mut RowReader::new(alloc, journal.as_slice()))?;
     let texts = Texts::new(settings, faults, operator);
     let mut written = Vec::with_capacity(alloc, ROOM)?;
     let mut writer = WatchedWriter::new(&mut written);
@@ -251,7 +252,7 @@ fn run_from_a_journal_that_was_read(rt: HostRuntime) -> Result<(), Fail> {
         faults.as_bytes(),
         operator.as_bytes(),
     ];
-    let before = read_journal(alloc, BEGUN)?;
+    let before = read_rows(alloc, &mut RowReader::new(alloc, BEGUN))?;
     let texts = Texts::new(settings, faults, operator);
     let mut written = Vec::with_capacity(alloc, ROOM)?;
     let mut writer = WatchedWriter::new(&mut written);

@@ -1,7 +1,8 @@
 //! Journals that are shown.
 use crate::sample::{PLAIN, PROFILE_1, QUOTED, clearing};
 use cell_measures::Durations;
-use cell_show::{Form, ShowError, show_beside, show_journal};
+use cell_show::page::Window;
+use cell_show::{Beside, Form, ShowError, show_beside, show_journal};
 use std::alloc::Global;
 use std::process::Abort;
 use std::test::Fail;
@@ -49,7 +50,7 @@ fn show_journal_as_picture(rt: HostRuntime) -> Result<(), Fail> {
 
 #[test]
 fn show_journal_as_page(rt: HostRuntime) -> Result<(), Fail> {
-    check_show(&rt, Form::Page)
+    check_show(&rt, Form::Page(Window::FIRST))
 }
 
 #[test]
@@ -64,7 +65,7 @@ fn show_journal_as_it_plays(rt: HostRuntime) -> Result<(), Fail> {
 
 #[test]
 fn show_journal_as_page_with_chart(rt: HostRuntime) -> Result<(), Fail> {
-    check_show(&rt, Form::TimedPage(Durations::ONE))
+    check_show(&rt, Form::TimedPage(Durations::ONE, Window::FIRST))
 }
 
 // What is written where a journal is shown beside another text, and the answer. Where the call is marked, memory may be
@@ -79,8 +80,12 @@ fn beside(alloc: Global, marked: bool) -> Result<(Vec<u8>, Result<u8, ShowError>
     let answer = show_beside(
         alloc,
         text.as_slice(),
-        other.as_slice(),
-        Form::Page,
+        Beside {
+            reader: other.as_slice(),
+            name: "other",
+            first_name: "first",
+        },
+        Form::Page(Window::FIRST),
         None,
         &mut written,
     );

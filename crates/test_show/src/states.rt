@@ -88,7 +88,7 @@ pub fn draws<W: Write>(writer: &mut W, scene: &Scene, form: Form) -> bool {
     match form {
         Form::Text => draw_text(&mut WatchedWriter::new(writer), scene, false).is_ok(),
         Form::Unicode => draw_text(&mut WatchedWriter::new(writer), scene, true).is_ok(),
-        Form::Picture | Form::Page | Form::Chart(_) | Form::TimedPage(_) | Form::Moving => {
+        Form::Picture | Form::Page(_) | Form::Chart(_) | Form::TimedPage(_, _) | Form::Moving => {
             draw_picture(writer, scene).is_ok()
         }
     }

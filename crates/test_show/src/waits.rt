@@ -1,10 +1,11 @@
 //! Who waits for what: in books of a few entries, in the cell after each first part of a journal, and in a page's data.
 use cell_reads::Reads;
-use cell_show::page::write_page;
+use cell_show::page::{Window, write_page};
 use cell_types::{Axis, MACHINES, Machine, Zone};
 use cell_waits::{Past, Waiting, waits_for};
 use plate_book::{Book, Refusal};
 use std::alloc::Global;
+use std::ops::Range;
 use std::process::Abort;
 use test_samples::{LAID_BACK, ONE_PLATE, begun, book_all, entry_of, plate};
 
@@ -150,29 +151,39 @@ fn list_after(place: usize) -> &'static str {
     }
 }
 
-// A page's data tell what changes.
-#[test]
-fn tells_what_changes_in_the_page(rt: HostRuntime) {
-    let book = begun(rt.alloc(), 100, 10, 34).expect(&rt, "a book");
-    let mut page = Vec::new(rt.alloc());
-    assert!(rt; write_page(&mut page, &book, None, None, None).is_ok());
-    let page = String::from_utf8(page)
-        .ok()
-        .expect(&rt, "the page is UTF-8");
+// The page of some states has a list for each, of which the first tells all that is waited for.
+fn has_lists(rt: &impl Abort, alloc: Global, window: Window, first: &str, more: Range<usize>) {
+    let book = begun(alloc, 100, 10, 34).expect(rt, "a book");
+    let mut page = Vec::new(alloc);
+    assert!(rt; write_page(&mut page, &book, window, None, None, None).is_ok());
+    let page = String::from_utf8(page).ok().expect(rt, "the page is UTF-8");
     let (_, rest) = page
         .as_str()
         .split_once("\"waits\":[\n")
         .unwrap_or(("", ""));
     let (lists, _) = rest.split_once("\n],\n\"rows\":[\n").unwrap_or(("", ""));
-    let mut left = lists;
-    for place in 0..35 {
-        let begin = if place == 0 { "" } else { ",\n" };
+    let mut left = lists.strip_prefix(first).unwrap_or("");
+    for place in more {
         let rest = left
-            .strip_prefix(begin)
+            .strip_prefix(",\n")
             .unwrap_or("")
             .strip_prefix(list_after(place));
         assert!(rt; rest.is_some(), "after {place}: {left}");
         left = rest.unwrap_or("");
     }
-    assert!(rt; left == "");
+    assert!(rt; !lists.is_empty() && left == "", "from {first}");
+}
+
+// A page's data tell what changes.
+#[test]
+fn tells_what_changes_in_the_page(rt: HostRuntime) {
+    has_lists(&rt, rt.alloc(), Window::FIRST, list_after(0), 1..35);
+    // The robot waits since the state before, and so does the press.
+    let parts = [
+        (Window { from: 15, count: 2 }, 14, 16..18),
+        (Window { from: 30, count: 9 }, 29, 31..35),
+    ];
+    for (window, since, more) in parts {
+        has_lists(&rt, rt.alloc(), window, list_after(since), more);
+    }
 }

@@ -1,6 +1,7 @@
 //! What the texts of a controlled run say.
-use cell_control::{read_orders, refuse_orders};
-use cell_output::WriteFault;
+use cell_control::read_orders;
+use cell_output::{WatchedWriter, WriteFault};
+use cell_runs::refuse_input;
 use std::process::Abort;
 use std::test::Fail;
 use test_samples::FailingWriter;
@@ -18,7 +19,7 @@ fn the_first_text_that_is_refused_is_told(rt: HostRuntime) -> Result<(), Fail> {
     let orders = read_orders(rt.alloc(), b"plates = 3\n", b"always,,stop,tables\n");
     let error = orders.err().expect(&rt, "an error");
     let mut told: Vec<u8> = Vec::new(rt.alloc());
-    assert!(rt; refuse_orders(&mut told, error) == Ok(1));
+    assert!(rt; refuse_input(&mut WatchedWriter::new(&mut told), error) == Ok(1));
     assert!(rt; told.as_slice() == b"operator unreadable 1\n".as_slice());
     Ok(())
 }
@@ -29,7 +30,7 @@ fn check_cut<R: AllocGlobal + Abort>(rt: &R, left: usize, wanted: Result<u8, Wri
     let error = orders.err().expect(rt, "an error");
     let mut told = FailingWriter::new(Vec::new(rt.alloc()), left);
     assert!(rt;
-        refuse_orders(&mut told, error) == wanted,
+        refuse_input(&mut WatchedWriter::new(&mut told), error) == wanted,
         "after {left} bytes"
     );
 }

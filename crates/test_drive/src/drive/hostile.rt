@@ -1,7 +1,8 @@
 //! Methods that don't keep to the protocol, and devices that fail.
 use crate::drive::sample::{COMMANDS, ENTRIES, driven, has_line};
 use cell_drive::{DriveOptions, drive_texts};
-use cell_output::WriteFault;
+use cell_output::{WatchedWriter, WriteFault};
+use cell_rows::Watched;
 use cell_runs::Texts;
 use std::process::Abort;
 use std::sync::Wait;
@@ -70,7 +71,14 @@ fn over_failing_reader<R: AllocGlobal + Abort + Wait>(rt: &R, driving: DriveOpti
     let mut output = Vec::new(rt.alloc());
     let mut errors = Vec::new(rt.alloc());
     let lines = FailingReader::new(b"lamp,feed,green,\nlamp".as_slice(), 19);
-    let answer = drive_texts(rt, one_plate(), driving, lines, &mut output, &mut errors);
+    let answer = drive_texts(
+        rt,
+        one_plate(),
+        driving,
+        Watched::new(lines),
+        &mut WatchedWriter::new(&mut output),
+        &mut WatchedWriter::new(&mut errors),
+    );
     assert!(rt; answer == Ok(3));
 }
 
@@ -90,8 +98,8 @@ fn a_closed_output_ends_the_run(rt: HostRuntime) {
             one_plate(),
             driving,
             lines,
-            &mut Unwilling,
-            &mut errors,
+            &mut WatchedWriter::new(&mut Unwilling),
+            &mut WatchedWriter::new(&mut errors),
         );
         assert!(rt; answer == Err(WriteFault));
     }

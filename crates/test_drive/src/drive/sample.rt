@@ -1,5 +1,6 @@
 //! What a method has written.
 use cell_drive::{DriveOptions, drive_texts};
+use cell_output::WatchedWriter;
 use cell_runs::Texts;
 use std::process::Abort;
 use std::sync::Wait;
@@ -52,7 +53,14 @@ pub(crate) fn driven<R: AllocGlobal + Abort + Wait>(
     let mut output = Vec::new(rt.alloc());
     let mut errors = Vec::new(rt.alloc());
     let texts = Texts::new(settings.as_bytes(), faults.as_bytes(), operator.as_bytes());
-    let answer = drive_texts(rt, texts, driving, lines, &mut output, &mut errors);
+    let answer = drive_texts(
+        rt,
+        texts,
+        driving,
+        lines,
+        &mut WatchedWriter::new(&mut output),
+        &mut WatchedWriter::new(&mut errors),
+    );
     assert!(rt; answer == Ok(status));
     Written { output, errors }
 }

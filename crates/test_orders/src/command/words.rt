@@ -17,7 +17,7 @@ const ORDERS: [&str; 7] = [
     "cellctl check settings.toml|Check(\"settings.toml\")",
 ];
 
-const REFUSED: [&str; 41] = [
+const REFUSED: [&str; 44] = [
     "cellctl brew|InvalidSubcommand",
     "cellctl run|MissingRequiredArgument",
     "cellctl sim|MissingRequiredArgument",
@@ -38,6 +38,9 @@ const REFUSED: [&str; 41] = [
     "cellctl show --file|InvalidValue",
     "cellctl show --svg --animate|InvalidValue",
     "cellctl show -f a -f b|ArgumentConflict",
+    "cellctl show --html --from|InvalidValue",
+    "cellctl show --from 1 --html --from 2|ArgumentConflict",
+    "cellctl sim --count 1 a b c|UnknownArgument",
     "cellctl explain one.journal two.journal|UnknownArgument",
     "cellctl measure|MissingRequiredArgument",
     "cellctl measure a --times|InvalidValue",
@@ -107,40 +110,46 @@ const RUNS: [&str; 13] = [
         paths: Paths { settings: \"cell.toml\", faults: \"none.faults\", operator: \"none.operator\" } })",
 ];
 
-const SHOWN: [&str; 11] = [
+const SHOWN: [&str; 13] = [
     "cellctl show --svg --times a.toml|\
-        Show(Showing { svg: true, html: false, unicode: false, times: Some(\"a.toml\"), beside: None, animate: None, \
-        file: None, entry: None })",
+        Show(Showing { svg: true, html: false, unicode: false, from: None, count: None, times: \
+        Some(\"a.toml\"), beside: None, animate: None, file: None, entry: None })",
     "cellctl show --html --beside b.journal --file a.journal|\
-        Show(Showing { svg: false, html: true, unicode: false, times: None, beside: Some(\"b.journal\"), animate: \
-        None, file: Some(\"a.journal\"), entry: None })",
+        Show(Showing { svg: false, html: true, unicode: false, from: None, count: None, times: None, beside: \
+        Some(\"b.journal\"), animate: None, file: Some(\"a.journal\"), entry: None })",
     "cellctl show --svg 20|\
-        Show(Showing { svg: true, html: false, unicode: false, times: None, beside: None, animate: None, file: None, \
-        entry: Some(\"20\") })",
+        Show(Showing { svg: true, html: false, unicode: false, from: None, count: None, times: None, beside: \
+        None, animate: None, file: None, entry: Some(\"20\") })",
     "cellctl show --svg --animate a.journal|\
-        Show(Showing { svg: true, html: false, unicode: false, times: None, beside: None, animate: \
-        Some(\"a.journal\"), file: None, entry: None })",
+        Show(Showing { svg: true, html: false, unicode: false, from: None, count: None, times: None, beside: \
+        None, animate: Some(\"a.journal\"), file: None, entry: None })",
     "cellctl show --animate=a.journal --svg 20|\
-        Show(Showing { svg: true, html: false, unicode: false, times: None, beside: None, animate: \
-        Some(\"a.journal\"), file: None, entry: Some(\"20\") })",
+        Show(Showing { svg: true, html: false, unicode: false, from: None, count: None, times: None, beside: \
+        None, animate: Some(\"a.journal\"), file: None, entry: Some(\"20\") })",
     "cellctl show|\
-        Show(Showing { svg: false, html: false, unicode: false, times: None, beside: None, animate: None, file: \
-        None, entry: None })",
+        Show(Showing { svg: false, html: false, unicode: false, from: None, count: None, times: None, beside: \
+        None, animate: None, file: None, entry: None })",
     "cellctl show whole.journal|\
-        Show(Showing { svg: false, html: false, unicode: false, times: None, beside: None, animate: None, file: \
-        None, entry: Some(\"whole.journal\") })",
+        Show(Showing { svg: false, html: false, unicode: false, from: None, count: None, times: None, beside: \
+        None, animate: None, file: None, entry: Some(\"whole.journal\") })",
     "cellctl show --file whole.journal|\
-        Show(Showing { svg: false, html: false, unicode: false, times: None, beside: None, animate: None, file: \
-        Some(\"whole.journal\"), entry: None })",
+        Show(Showing { svg: false, html: false, unicode: false, from: None, count: None, times: None, beside: \
+        None, animate: None, file: Some(\"whole.journal\"), entry: None })",
     "cellctl show --html --file=20|\
-        Show(Showing { svg: false, html: true, unicode: false, times: None, beside: None, animate: None, file: \
-        Some(\"20\"), entry: None })",
+        Show(Showing { svg: false, html: true, unicode: false, from: None, count: None, times: None, beside: \
+        None, animate: None, file: Some(\"20\"), entry: None })",
     "cellctl show -f 20 30|\
-        Show(Showing { svg: false, html: false, unicode: false, times: None, beside: None, animate: None, file: \
-        Some(\"20\"), entry: Some(\"30\") })",
+        Show(Showing { svg: false, html: false, unicode: false, from: None, count: None, times: None, beside: \
+        None, animate: None, file: Some(\"20\"), entry: Some(\"30\") })",
     "cellctl show --unicode 30 -f20|\
-        Show(Showing { svg: false, html: false, unicode: true, times: None, beside: None, animate: None, file: \
-        Some(\"20\"), entry: Some(\"30\") })",
+        Show(Showing { svg: false, html: false, unicode: true, from: None, count: None, times: None, beside: \
+        None, animate: None, file: Some(\"20\"), entry: Some(\"30\") })",
+    "cellctl show --html --from 5000 --count 100|\
+        Show(Showing { svg: false, html: true, unicode: false, from: Some(\"5000\"), count: Some(\"100\"), \
+        times: None, beside: None, animate: None, file: None, entry: None })",
+    "cellctl show --count=x 3 --from=-1|\
+        Show(Showing { svg: false, html: false, unicode: false, from: Some(\"-1\"), count: Some(\"x\"), times: \
+        None, beside: None, animate: None, file: None, entry: Some(\"3\") })",
 ];
 
 const EXPLAINED: [&str; 5] = [

@@ -1,7 +1,8 @@
 //! Journals of runs that are followed.
 use crate::runs::rounds::{read_case, told};
-use cell_audit::{audit, read_journal};
+use cell_audit::{audit, read_rows};
 use cell_output::{WatchedWriter, WriteFault};
+use cell_rows::RowReader;
 use cell_runs::{Texts, follow_after};
 use std::io::Write;
 use std::process::Abort;
@@ -18,7 +19,8 @@ fn follow<R: AllocGlobal + Abort + Wait, W: Write>(
     alone: bool,
     writer: &mut W,
 ) -> Result<u8, WriteFault> {
-    let followed = read_journal(rt.alloc(), journal).ok().expect(rt, "memory");
+    let mut rows = RowReader::new(rt.alloc(), journal);
+    let followed = read_rows(rt.alloc(), &mut rows).ok().expect(rt, "memory");
     let texts = Texts::new(settings, faults, operator);
     let mut writer = WatchedWriter::new(writer);
     let (status, _) = follow_after(rt, &followed, texts, alone, &mut writer)?;

@@ -3,9 +3,10 @@ ghost use Rattle.std.specs.Prelude.{◌<◌};
 
 use crate::runs::follow::RUNS;
 use crate::runs::rounds::{check_world, read_case, told};
-use cell_audit::{audit, read_journal};
+use cell_audit::{audit, read_rows};
 use cell_output::{WatchedWriter, WriteFault};
 use cell_plant::Ported;
+use cell_rows::RowReader;
 use cell_runs::{Inputs, Texts, book_after, read_inputs, run_after, run_on, sim_ports};
 use cell_sim::{SimOperator, World};
 use cell_workers::End;
@@ -23,7 +24,8 @@ fn go_on<R: AllocGlobal + Abort + Wait, W: Write>(
     alone: bool,
     writer: &mut W,
 ) -> Result<u8, WriteFault> {
-    let before = read_journal(rt.alloc(), journal).ok().expect(rt, "memory");
+    let mut rows = RowReader::new(rt.alloc(), journal);
+    let before = read_rows(rt.alloc(), &mut rows).ok().expect(rt, "memory");
     let texts = Texts::new(settings, faults, operator);
     let mut writer = WatchedWriter::new(writer);
     let (status, _) = run_after(rt, &before, texts, alone, &mut writer)?;
@@ -68,7 +70,8 @@ fn check_watched<R: AllocGlobal + Abort + Wait>(
     case: &str,
 ) {
     let alloc = rt.alloc();
-    let reading = read_journal(alloc, journal).ok().expect(rt, "memory");
+    let mut rows = RowReader::new(alloc, journal);
+    let reading = read_rows(alloc, &mut rows).ok().expect(rt, "memory");
     let inputs = read_inputs(alloc, Texts::new(settings, faults, operator)).expect(rt, case);
     let Inputs {
         plan,

@@ -1,7 +1,9 @@
 //! What is shown for journals' texts, and what readers and writers that fail leave of it.
 use crate::picture::OPENING;
 use cell_measures::Durations;
-use cell_show::{Form, ShowError, show_beside, show_journal};
+use cell_rows::Watched;
+use cell_show::page::Window;
+use cell_show::{Beside, Form, ShowError, show_beside, show_journal};
 use cell_types::{Axis, Pose};
 use std::alloc::Global;
 use std::process::Abort;
@@ -84,7 +86,7 @@ type Case = (
 );
 
 // A legal journal is shown after each entry, and in each form.
-const LEGAL_CASES: [Case; 10] = [
+const LEGAL_CASES: [Case; 13] = [
     (LEGAL, Form::Text, None, Ok(0), ADMITTED, ""),
     (LEGAL, Form::Text, Some(2), Ok(0), ADMITTED, ""),
     (LEGAL, Form::Text, Some(1), Ok(0), LIT, ""),
@@ -92,11 +94,35 @@ const LEGAL_CASES: [Case; 10] = [
     (LEGAL, Form::Picture, None, Ok(0), "<svg xmlns=", "</svg>\n"),
     (
         LEGAL,
-        Form::Page,
+        Form::Page(Window::FIRST),
         None,
         Ok(0),
         "<!DOCTYPE html>\n",
         "</html>\n",
+    ),
+    (
+        LEGAL,
+        Form::Page(Window { from: 2, count: 0 }),
+        None,
+        Ok(0),
+        "<!DOCTYPE html>\n",
+        "</html>\n",
+    ),
+    (
+        LEGAL,
+        Form::Page(Window { from: 3, count: 0 }),
+        None,
+        Err(ShowError::NoSuchEntry(2)),
+        "",
+        "",
+    ),
+    (
+        LEGAL,
+        Form::Page(Window::FIRST),
+        Some(3),
+        Err(ShowError::NoSuchEntry(2)),
+        "",
+        "",
     ),
     (LEGAL, Form::Unicode, None, Ok(0), "After 2 entries", "┘\n"),
     (
@@ -109,7 +135,7 @@ const LEGAL_CASES: [Case; 10] = [
     ),
     (
         LEGAL,
-        Form::TimedPage(Durations::ONE),
+        Form::TimedPage(Durations::ONE, Window::FIRST),
         None,
         Ok(0),
         "<!DOCTYPE html>\n",
@@ -210,19 +236,89 @@ fn has_chart(rt: &impl Abort, timed: &str, page: &str, chart: &str) {
 fn a_page_has_a_chart_of_all_entries(rt: HostRuntime) {
     let mut durations = Durations::ONE;
     durations.set(Axis::FeedBelt, Pose::ToTable, 4);
-    let page = shown_as(&rt, rt.alloc(), Form::Page, None);
+    let page = shown_as(&rt, rt.alloc(), Form::Page(Window::FIRST), None);
     let chart = shown_as(&rt, rt.alloc(), Form::Chart(durations), None);
     assert!(rt; !page.as_str().contains(chart.as_str()));
     for &entry in &[None, Some(1)] {
-        let timed = shown_as(&rt, rt.alloc(), Form::TimedPage(durations), entry);
+        let form = Form::TimedPage(durations, Window::FIRST);
+        let timed = shown_as(&rt, rt.alloc(), form, entry);
         has_chart(&rt, timed.as_str(), page.as_str(), chart.as_str());
+    }
+}
+
+// A window of that journal, parts of its page with a chart, and a part that this hasn't.
+const CHARTS: [(Window, [&str; 4], &str); 2] = [
+    (
+        Window { from: 3, count: 2 },
+        [
+            ">entries 4 to 5, times 1 to 1</text>",
+            "<metadata>1 1 </metadata>\n",
+            "<title>to_end: 0 to 1</title>",
+            "the states after 3 to 5 entries of the journal, which has 7.",
+        ],
+        "<title>to_table: ",
+    ),
+    (
+        Window { from: 5, count: 9 },
+        [
+            ">entries 6 to 7, times 1 to 5</text>",
+            "<metadata>1 5 </metadata>\n",
+            "<title>to_table: 1 to 5</title>",
+            "the states after 5 to 7 entries of the journal, which has 7.",
+        ],
+        "<title>to_end: ",
+    ),
+];
+
+// What is told of each error.
+#[test]
+fn tells_why_nothing_is_shown(rt: HostRuntime) {
+    for &(error, line) in &[
+        (
+            ShowError::NoSuchEntry(1),
+            "NoSuchEntry: the journal has 1 entry",
+        ),
+        (
+            ShowError::NoSuchEntry(20),
+            "NoSuchEntry: the journal has 20 entries",
+        ),
+        (
+            ShowError::TooManyEntries,
+            "TooManyEntries: such a picture shows at most 20000 entries; of a longer journal \
+                --html --from N --count M shows a part",
+        ),
+        (ShowError::WriteFault, "WriteFault"),
+    ] {
+        let told = format!(in rt.alloc(); "{error}").expect(&rt, "memory");
+        assert!(rt; told.as_str() == line, "{line}");
+    }
+}
+
+// The chart of a page has the entries that the page shows, at their times in the whole run.
+#[test]
+fn a_page_has_a_chart_of_its_entries(rt: HostRuntime) {
+    let mut durations = Durations::ONE;
+    durations.set(Axis::FeedBelt, Pose::ToTable, 4);
+    for (window, parts, missing) in &CHARTS {
+        let form = Form::TimedPage(durations, *window);
+        let page = shown_as(&rt, rt.alloc(), form, None);
+        for part in parts {
+            assert!(rt; page.as_str().contains(*part), "{part}");
+        }
+        assert!(rt; !page.as_str().contains(*missing), "{missing}");
     }
 }
 
 // The page of a text, and the status.
 fn page_of(rt: &impl Abort, alloc: Global, text: &str, wanted: u8) -> String {
     let mut written = Vec::new(alloc);
-    let answered = show_journal(alloc, text.as_bytes(), Form::Page, None, &mut written);
+    let answered = show_journal(
+        alloc,
+        text.as_bytes(),
+        Form::Page(Window::FIRST),
+        None,
+        &mut written,
+    );
     assert!(rt; answered == Ok(wanted), "{text}");
     String::from_utf8(written).ok().expect(rt, "text")
 }
@@ -255,6 +351,15 @@ fn quoted(rt: &impl Abort, alloc: Global, page: &str) -> String {
         .expect(rt, "memory")
 }
 
+// A journal that stands beside the one on standard input.
+fn beside<'a, O>(reader: O) -> Beside<'a, O> {
+    Beside {
+        reader,
+        name: "other.journal",
+        first_name: "standard input",
+    }
+}
+
 // Two journals stand side by side, each with its page, and the status is the first one's.
 #[test]
 fn shows_two_journals_side_by_side(rt: HostRuntime) {
@@ -265,8 +370,8 @@ fn shows_two_journals_side_by_side(rt: HostRuntime) {
     let answered = show_beside(
         rt.alloc(),
         LEGAL.as_bytes(),
-        other,
-        Form::Page,
+        beside(other),
+        Form::Page(Window::FIRST),
         None,
         &mut written,
     );
@@ -279,19 +384,55 @@ fn shows_two_journals_side_by_side(rt: HostRuntime) {
     assert!(rt; rest == "\"></iframe>\n</main>\n</body>\n</html>\n");
 }
 
+// Two journals side by side, both from the second entry on.
+fn beside_later(
+    alloc: Global,
+    first: &str,
+    other: &str,
+    written: &mut Vec<u8>,
+) -> Result<u8, ShowError> {
+    let form = Form::Page(Window { from: 2, count: 9 });
+    show_beside(
+        alloc,
+        first.as_bytes(),
+        beside(other.as_bytes()),
+        form,
+        None,
+        written,
+    )
+}
+
+// Both journals are shown in one window, and the frame of one that ends before it says so.
+#[test]
+fn tells_that_the_other_journal_ends_before(rt: HostRuntime) {
+    let mut written = Vec::new(rt.alloc());
+    let answered = beside_later(rt.alloc(), LEGAL, REFUSED, &mut written);
+    assert!(rt; answered == Ok(0));
+    let both = String::from_utf8(written).ok().expect(&rt, "text");
+    let line = "<p>NoSuchEntry: the journal has 1 entry</p>\n</html>\n\"></iframe>\n</main>\n";
+    assert!(rt; both.as_str().contains(line));
+    assert!(rt;
+        both.as_str()
+            .contains("after 2 to 2 entries of the journal, which has 2.")
+    );
+    let mut nothing = Vec::new(rt.alloc());
+    let answered = beside_later(rt.alloc(), REFUSED, LEGAL, &mut nothing);
+    assert!(rt; answered == Err(ShowError::NoSuchEntry(1)) && nothing.is_empty());
+}
+
 #[test]
 fn shows_nothing_where_the_reader_fails(rt: HostRuntime) {
     for &left in &[0, 1, 20, LEGAL.len()] {
-        let reader = FailingReader::new(LEGAL.as_bytes(), left);
+        let reader = Watched::new(FailingReader::new(LEGAL.as_bytes(), left));
         let mut written = Vec::new(rt.alloc());
         let answer = show_journal(rt.alloc(), reader, Form::Text, None, &mut written);
         assert!(rt; answer == Ok(3) && written.is_empty(), "after {left} bytes");
-        let other = FailingReader::new(LEGAL.as_bytes(), left);
-        let page = Form::Page;
+        let other = Watched::new(FailingReader::new(LEGAL.as_bytes(), left));
+        let page = Form::Page(Window::FIRST);
         let answer = show_beside(
             rt.alloc(),
             REFUSED.as_bytes(),
-            other,
+            beside(other),
             page,
             None,
             &mut written,
@@ -319,9 +460,9 @@ fn tells_that_the_writer_failed(rt: HostRuntime) {
         Form::Text,
         Form::Unicode,
         Form::Picture,
-        Form::Page,
+        Form::Page(Window::FIRST),
         Form::Chart(Durations::ONE),
-        Form::TimedPage(Durations::ONE),
+        Form::TimedPage(Durations::ONE, Window::FIRST),
         Form::Moving,
     ] {
         for &left in &[0, 1, 500] {

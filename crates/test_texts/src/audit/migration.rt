@@ -1,7 +1,8 @@
 //! The migration of texts from profile 1, whole, cut and from readers that fail, and to writers that fail.
 use crate::audit::{CARRIED, FOUR_ENTRIES, due_for_a_cut_text, judges};
 use cell_audit::{AuditError, MigrateError, migrate, migrate_lines};
-use cell_output::WriteFault;
+use cell_output::{WatchedWriter, WriteFault};
+use cell_rows::{TellsFault, Watched};
 use cell_types::{AXES, BELTS, Belt, Entry, MACHINES, Totals, ZONES};
 use cell_views::{
     count_of, expected_of, holder_of, is_asked, is_failed, lamp_of, place_of, pose_of,
@@ -245,7 +246,7 @@ fn keeps_what_the_views_tell(rt: HostRuntime) {
 }
 
 // What a migration of a reader's text answers, writes and tells.
-fn prints<R: Read + Drop>(
+fn prints<R: TellsFault + Drop>(
     rt: &impl Abort,
     alloc: Global,
     reader: R,
@@ -254,7 +255,12 @@ fn prints<R: Read + Drop>(
 ) {
     let mut written = Vec::new(alloc);
     let mut errors = Vec::new(alloc);
-    let answer = migrate_lines(alloc, reader, &mut written, &mut errors);
+    let answer = migrate_lines(
+        alloc,
+        reader,
+        &mut WatchedWriter::new(&mut written),
+        &mut WatchedWriter::new(&mut errors),
+    );
     assert!(rt;
         answer == Ok(status)
             && written.as_slice() == migrated.as_bytes()
@@ -272,12 +278,23 @@ fn prints_the_line_of_a_refusal_elsewhere_and_ends_with_a_fault_of_its_reader_or
     }
     let text = b"profile,1,,\nlamp,feed,green,\n".as_slice();
     let failing = FailingReader::new(text, 20);
-    prints(&rt, rt.alloc(), failing, 3, ["", ""]);
+    prints(&rt, rt.alloc(), Watched::new(failing), 3, ["", ""]);
     let mut taken = Vec::new(rt.alloc());
-    let answer = migrate_lines(rt.alloc(), text, &mut Unwilling, &mut taken);
+    let mut unwilling = Unwilling;
+    let answer = migrate_lines(
+        rt.alloc(),
+        text,
+        &mut WatchedWriter::new(&mut unwilling),
+        &mut WatchedWriter::new(&mut taken),
+    );
     assert!(rt; answer == Err(WriteFault), "the text isn't taken");
     let text = b"profile,2,,\n".as_slice();
-    let answer = migrate_lines(rt.alloc(), text, &mut taken, &mut Unwilling);
+    let answer = migrate_lines(
+        rt.alloc(),
+        text,
+        &mut WatchedWriter::new(&mut taken),
+        &mut WatchedWriter::new(&mut unwilling),
+    );
     assert!(rt; answer == Err(WriteFault), "the line isn't taken");
     assert!(rt; taken.is_empty());
 }

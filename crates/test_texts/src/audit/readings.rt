@@ -1,8 +1,8 @@
 //! What is read of journals' texts: the answer, and the entries before the place that it names.
-use cell_audit::{AuditError, read_journal};
+use cell_audit::{AuditError, read_rows};
+use cell_rows::{RowReader, TellsFault, Watched};
 use cell_types::{Belt, Totals};
 use plate_book::Refusal;
-use std::io::Read;
 use std::process::Abort;
 use test_samples::{FailingReader, entry_of};
 
@@ -49,9 +49,15 @@ const CASES: [(&str, Wanted); 5] = [
     ("", (Err(AuditError::Unreadable(0)), 0, "")),
 ];
 
-fn is_read<R: Read + Drop, W: AllocGlobal + Abort>(rt: &W, text: R, what: &str, wanted: Wanted) {
+fn is_read<R: TellsFault + Drop, W: AllocGlobal + Abort>(
+    rt: &W,
+    text: R,
+    what: &str,
+    wanted: Wanted,
+) {
     let (answer, count, last) = wanted;
-    let read = read_journal(rt.alloc(), text).expect(rt, "memory");
+    let mut rows = RowReader::new(rt.alloc(), text);
+    let read = read_rows(rt.alloc(), &mut rows).expect(rt, "memory");
     let journal = read.book.journal();
     let is_last = journal.get(count.saturating_sub(1)) == entry_of(last);
     let holds = read.answer == answer && journal.len() == count && is_last;
@@ -66,5 +72,5 @@ fn a_journal_is_read_up_to_its_last_good_entry(rt: HostRuntime) {
     let text = b"profile,1,,\nlamp,feed,green,\n".as_slice();
     let reader = FailingReader::new(text, text.len());
     let wanted = (Err(AuditError::ReadFault), 1, "lamp,feed,green,");
-    is_read(&rt, reader, "a reader that fails", wanted);
+    is_read(&rt, Watched::new(reader), "a reader that fails", wanted);
 }

@@ -16,4 +16,5 @@ returns-in-Ok g c = λ text read.
 
 pub returns-in-Err : goal.returns-in-Err
 returns-in-Err g c = λ text read.
-    inr (refused-read c.args.before.now text c.in-Err.why _ _ _ c.in-Err.is read c.refuse_journal.ensures)
+    inr (refused-read c.args.before.now text c.in-Err.why _ _ _ c.in-Err.is read c.write_answer.ensures.whole
+    c.write_answer.ensures.part)

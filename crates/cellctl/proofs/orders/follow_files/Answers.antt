@@ -1,5 +1,6 @@
 -- What is followed is the journal of some text, and nothing was written before
 use Rattle.std.proofs.Common.{◌≡◌, inl, subst}
+use Rattle.cell_output.specs.Watched.{bytes_held}
 use Rattle.cellctl.specs.Carried.{FollowsTexts}
 use Rattle.cellctl.proofs.orders.follow_files.Goals as goal
 
@@ -8,6 +9,6 @@ returns g c =
     let (text, read) = c.in_ok-followed.ensures.some in
     let same : c.sources_in.new.output ≡ c.args.output.now =
     rw c.in-Ok.is at c.in_ok-sources.ensures.same in
-    inl (subst (λ output. FollowsTexts c.args.running.journal (g.W.Write.contents output)
-    (g.W.Write.contents c.follow_sources.new.output) c.follow_sources.result.written) same
+    inl (subst (λ output. FollowsTexts c.args.running.journal (bytes_held g.W.Write.contents output)
+    (bytes_held g.W.Write.contents c.follow_sources.new.output) c.follow_sources.result.written) same
     (c.follow_sources.ensures text (read, c.in_ok-followed.ensures.before)))

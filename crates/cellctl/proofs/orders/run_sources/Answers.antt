@@ -1,9 +1,8 @@
--- What is written is by the texts that were read, and what the writer that notes holds is what the output holds
-use Rattle.std.proofs.Common.{List, Option, ℕ, rules}
+-- What is written is by the texts that were read
 use Rattle.std.specs.Prelude.{IfOk}
 use Rattle.std.proofs.lemmas.Result.{IfOk-weaker}
-use Rattle.cell_runs.specs.Runs.{TellsPart, TellsRun, kept_of}
-use Rattle.cell_runs.proofs.Telling.{as-held}
+use Rattle.cell_output.specs.Watched.{bytes_held}
+use Rattle.cell_runs.specs.Runs.{TellsRun, kept_of}
 use Rattle.cellctl.proofs.Written.{as-answered}
 use Rattle.cellctl.proofs.orders.run_sources.Goals as goal
 
@@ -13,16 +12,14 @@ returns g c =
     let faults = c.texts.result.faults.now in
     let operator = c.texts.result.operator.now in
     let ran = c.run_kept-ran.result in
-    let journal = c.args.running.journal in (
+    let old = bytes_held g.W.Write.contents c.args.output.now in
+    let new = bytes_held g.W.Write.contents c.run_kept-ran.new.writer in
+    let whole : IfOk ran
+    (λ told. TellsRun settings faults operator c.args.mode c.args.running.journal old new told.0) =
+    IfOk-weaker ran _ _ (λ told keeps. (kept_of told.1, keeps)) c.run_kept-ran.ensures.whole in (
       settings,
       faults,
       operator,
-      as-answered ran c.with_ending.result.written _ _ c.with_ending.ensures.ok c.with_ending.ensures.err
-          (as-held (λ (old new : Option (List ℕ)). IfOk ran
-          (λ told. TellsRun settings faults operator c.args.mode journal old new told.0)) _ _ _ _
-          (search rules) (search rules)
-          (IfOk-weaker ran _ _ (λ told keeps. (kept_of told.1, keeps)) c.run_kept-ran.ensures.whole))
-          (λ failed. as-held (λ (old new : Option (List ℕ)).
-          TellsPart settings faults operator c.args.mode journal old new)
-          _ _ _ _ (search rules) (search rules) (c.run_kept-ran.ensures.part failed)),
+      as-answered ran c.with_ending.result.written _ _ c.with_ending.ensures.ok c.with_ending.ensures.err whole
+          c.run_kept-ran.ensures.part,
     )

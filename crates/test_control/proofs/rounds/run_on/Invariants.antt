@@ -1,5 +1,5 @@
--- The run over the simulated cell
-use Rattle.test_control.proofs.rounds.controlled.Given as goal
+-- A run over a cell
+use Rattle.test_control.proofs.rounds.run_on.Given as goal
 
 -- the run is the one of the book's limits and of the blanks that are handed to it
 abbrev pub ghosts-control : goal.ghosts-control
