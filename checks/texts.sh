@@ -139,6 +139,9 @@ endless_texts() {
     measure 'a page beside it' '<!DOCTYPE html>' 0 8 20 show --html --beside <(bytes $((50 * mega)) '\n'; cat first) --file first
     measure 'a picture in which it plays' '<svg xmlns="http://www.w3.org/2000/svg" viewBox="0 0 800 480' 0 8 20 show --svg --animate <(bytes $((50 * mega)) '\n'; cat first)
     measure 'a picture in which 20,000 entries play' '<svg xmlns="http://www.w3.org/2000/svg" viewBox="0 0 800 480' 0 16 20 show --svg --animate <(cat first; yes $'claimed,robot,z3,\nyielded,robot,z3,' | head -n 20000)
+    measure 'a page of a legal journal without an end' '<!DOCTYPE html>' 1 16 20 show --html --file <(cat first; yes $'claimed,robot,z3,\nyielded,robot,z3,')
+    measure 'a page of its last entries' '<!DOCTYPE html>' 1 16 20 show --html --from 980000 --file <(cat first; yes $'claimed,robot,z3,\nyielded,robot,z3,')
+    measure 'a page with the times of its last entries' '<!DOCTYPE html>' 1 64 20 show --html --from 999000 --times none --file <(cat first; yes $'claimed,robot,z3,\nyielded,robot,z3,')
     measure 'a run that follows it' 'followed' 0 12 20 sim --follow <(bytes $((50 * mega)) '\n'; cat first) good none none
     measure 'a run that goes on from it' 'finished' 0 12 20 sim --from <(bytes $((50 * mega)) '\n'; cat first) good none none
     measure 'blank lines without an end, explained' '' 3 300 20 explain <(yes '')
@@ -319,13 +322,62 @@ words_back() {
 # Options that don't go with a journal that plays. Nothing is printed.
 lone_options() {
     for words in 'show' 'show 1' 'show --html' 'show --svg --html' 'show --svg --unicode' 'show --svg --times none' 'show --svg -f legal' \
-        'show --svg --beside legal'; do
+        'show --svg --beside legal' 'show --svg --from 1' 'show --svg --count 1'; do
         # The words of a command are parted at blanks.
         # shellcheck disable=SC2086
         "$cellctl" $words --animate legal > said 2> told < /dev/null
         ended "cellctl $words --animate legal" $? 2 'error: --animate goes with --svg alone'
         [ ! -s said ] || differs "cellctl $words --animate legal" 'nothing on standard output'
     done
+}
+
+# Words for the states of a page that ask for none, and why. Nothing is printed.
+wrong_windows() {
+    local goes='error: --from and --count go with --html'
+    local from='error: --from is a whole number'
+    local count='error: --count is a whole number from 0 to 20000'
+    local past='error: NoSuchEntry: the journal has 2 entries'
+    while IFS='|' read -r words why; do
+        # The words of a command are parted at blanks.
+        # shellcheck disable=SC2086
+        "$cellctl" show $words > said 2> told < legal
+        ended "cellctl show $words" $? 2 "$why"
+        [ ! -s said ] || differs "cellctl show $words" 'nothing on standard output'
+    done << END
+--from 1|$goes
+--count 1 1|$goes
+--svg --from 1 --count 1|$goes
+--svg --times none --count 1|$goes
+--unicode --from 1|$goes
+--html --from one|$from
+--html --from=-1|$from
+--html --count one|$count
+--html --count 20001|$count
+--html --count 4294967296|$count
+--html --from 3|$past
+--html --from 3 --count 0|$past
+--html --from 4294967295|$past
+--html --from 99999999999999999999999999999999999999999999999999|$past
+--html --from 1 3|$past
+--html --beside legal --from 3|$past
+END
+    for words in '--from 2' '--from 2 --count 0' '--from 0 --count 20000' '--count 0' '--from 1 --count 1' '--from +2 --beside none'; do
+        # shellcheck disable=SC2086
+        "$cellctl" show --html $words > said 2> told < legal
+        ended "cellctl show --html $words" $? 0 ''
+        [ "$(head -n 1 said)" = '<!DOCTYPE html>' ] || differs "cellctl show --html $words" 'a page'
+    done
+    # A journal that is too long for a picture of times or motions: the error says how a part is shown.
+    { printf 'profile,1,,\n'; yes $'claimed,robot,z3,\nyielded,robot,z3,' | head -n 20001; } > long
+    for words in '--times none --file long' '--animate long'; do
+        # shellcheck disable=SC2086
+        "$cellctl" show --svg $words > said 2> told < /dev/null
+        ended "cellctl show --svg $words" $? 2 'error: TooManyEntries: such a picture shows at most 20000 entries; of a longer journal --html --from N --count M shows a part'
+        [ ! -s said ] || differs "cellctl show --svg $words" 'nothing on standard output'
+    done
+    "$cellctl" show --html --from 20001 --file long > said 2> told < /dev/null
+    ended 'cellctl show --html --from 20001 of a long journal' $? 0 ''
+    grep -q 'the states after 20001 to 20001 entries of the journal, which has 20001\.' said || differs 'the page of its last entry' 'a line that tells it'
 }
 
 # Words of explore that ask nothing, and why. Nothing is printed.
@@ -362,6 +414,7 @@ files_that_fail
 named_files
 words_back
 lone_options
+wrong_windows
 wrong_questions
 if [ ${#wrong[@]} = 0 ]; then
     echo 'hostile texts and outputs: all as due'
