@@ -5,7 +5,6 @@ use cell_types::{Axis, MACHINES, Machine, Zone};
 use cell_waits::{Past, Waiting, waits_for};
 use plate_book::{Book, Refusal};
 use std::alloc::Global;
-use std::ops::Range;
 use std::process::Abort;
 use test_samples::{LAID_BACK, ONE_PLATE, begun, book_all, entry_of, plate};
 
@@ -152,9 +151,18 @@ fn list_after(place: usize) -> &'static str {
 }
 
 // The page of some states has a list for each, of which the first tells all that is waited for.
-fn has_lists(rt: &impl Abort, alloc: Global, window: Window, first: &str, more: Range<usize>) {
+fn has_lists(
+    rt: &impl Abort,
+    alloc: Global,
+    window: Window,
+    first: &str,
+    since: usize,
+    until: usize,
+) {
     let book = begun(alloc, 100, 10, 34).expect(rt, "a book");
     let mut page = Vec::new(alloc);
+    let entries = book.journal().len();
+    assert!(rt; window.from <= entries);
     assert!(rt; write_page(&mut page, &book, window, None, None, None).is_ok());
     let page = String::from_utf8(page).ok().expect(rt, "the page is UTF-8");
     let (_, rest) = page
@@ -163,7 +171,7 @@ fn has_lists(rt: &impl Abort, alloc: Global, window: Window, first: &str, more: 
         .unwrap_or(("", ""));
     let (lists, _) = rest.split_once("\n],\n\"rows\":[\n").unwrap_or(("", ""));
     let mut left = lists.strip_prefix(first).unwrap_or("");
-    for place in more {
+    for place in since..until {
         let rest = left
             .strip_prefix(",\n")
             .unwrap_or("")
@@ -177,13 +185,10 @@ fn has_lists(rt: &impl Abort, alloc: Global, window: Window, first: &str, more: 
 // A page's data tell what changes.
 #[test]
 fn tells_what_changes_in_the_page(rt: HostRuntime) {
-    has_lists(&rt, rt.alloc(), Window::FIRST, list_after(0), 1..35);
+    has_lists(&rt, rt.alloc(), Window::FIRST, list_after(0), 1, 35);
     // The robot waits since the state before, and so does the press.
-    let parts = [
-        (Window { from: 15, count: 2 }, 14, 16..18),
-        (Window { from: 30, count: 9 }, 29, 31..35),
-    ];
-    for (window, since, more) in parts {
-        has_lists(&rt, rt.alloc(), window, list_after(since), more);
-    }
+    let part = Window { from: 15, count: 2 };
+    has_lists(&rt, rt.alloc(), part, list_after(14), 16, 18);
+    let end = Window { from: 30, count: 9 };
+    has_lists(&rt, rt.alloc(), end, list_after(29), 31, 35);
 }

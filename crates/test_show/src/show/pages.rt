@@ -42,11 +42,13 @@ fn rows_of(page: &str) -> &str {
     rows
 }
 
-// The rows of a page are these, each on a line.
-fn has_rows(rt: &impl Abort, page: &str, rows: &[[&str; 2]]) {
+// The rows of a page are those of that journal from one place on and before another, each on a line.
+fn has_rows(rt: &impl Abort, page: &str, from: usize, until: usize) {
     let mut left = rows_of(page);
-    for (place, row) in rows.iter().enumerate() {
-        let comma = if place == 0 { "" } else { ",\n" };
+    for place in from..until {
+        assert!(rt; place < ROWS.len());
+        let row = &ROWS[place];
+        let comma = if place == from { "" } else { ",\n" };
         for &piece in &[comma, row[0], row[1]] {
             let rest = left.strip_prefix(piece);
             assert!(rt; rest.is_some(), "{piece}");
@@ -94,7 +96,7 @@ fn is_page(
         text.starts_with("<!DOCTYPE html>\n<html lang=\"en\">\n"),
         "{words}"
     );
-    has_rows(rt, text, &ROWS);
+    has_rows(rt, text, 0, ROWS.len());
     assert!(rt;
         text.contains(words) && text.ends_with("</script>\n</body>\n</html>\n"),
         "{words}"
@@ -147,11 +149,9 @@ const WINDOWS: [(Window, usize, usize, &str); 9] = [
 fn has_window(rt: &impl Abort, alloc: Global, case: (Window, usize, usize, &str)) {
     let (window, from, until, told) = case;
     let book = begun(alloc, 100, 10, 4).expect(rt, "a book");
-    let mut page = Vec::new(alloc);
-    assert!(rt; write_page(&mut page, &book, window, None, None, None).is_ok());
-    let page = String::from_utf8(page).ok().expect(rt, "the page is UTF-8");
+    let page = page_of(rt, &book, alloc, window);
     let text = page.as_str();
-    has_rows(rt, text, ROWS.get(from..until).unwrap_or(&[]));
+    has_rows(rt, text, from, until);
     let numbers = format!(in alloc; "\n\"first\":{from},\"entries\":4,\n\"refused\":").expect(
         rt, "memory",
     );
@@ -273,6 +273,8 @@ fn is_step(
 ) {
     let (answer, refused) = end;
     let mut page = Vec::new(alloc);
+    let entries = book.journal().len();
+    assert!(rt; window.from <= entries);
     assert!(rt; write_page(&mut page, book, window, answer, refused, None).is_ok());
     let page = String::from_utf8(page).ok().expect(rt, "the page is UTF-8");
     let (_, rest) = page.as_str().split_once("\"refused\":").unwrap_or(("", ""));
@@ -295,10 +297,10 @@ fn has_a_step_for_the_record_that_is_not_booked(rt: HostRuntime) {
 #[test]
 fn has_that_step_at_the_end_alone(rt: HostRuntime) {
     let book = begun(rt.alloc(), 100, 10, 4).expect(&rt, "a book");
-    let end = (Some(AuditError::Unreadable(5)), None);
     let line = r##"[5,"the record can't be read","",-1,"",""]"##;
     for &(window, _, until, _) in &WINDOWS {
         let due = if until == 5 { line } else { "null" };
+        let end = (Some(AuditError::Unreadable(5)), None);
         is_step(&rt, rt.alloc(), &book, window, end, due);
     }
 }
@@ -362,6 +364,8 @@ fn switching(rt: &impl Abort, alloc: Global, count: u32) -> Book {
 // The page of some states of a book.
 fn page_of(rt: &impl Abort, book: &Book, alloc: Global, window: Window) -> String {
     let mut page = Vec::new(alloc);
+    let entries = book.journal().len();
+    assert!(rt; window.from <= entries);
     assert!(rt; write_page(&mut page, book, window, None, None, None).is_ok());
     String::from_utf8(page).ok().expect(rt, "the page is UTF-8")
 }
