@@ -13,10 +13,10 @@ mod read;
 mod write;
 
 pub use error::{AuditError, MigrateError};
-pub use judge::{audit, audit_rows, audit_text};
+pub use judge::{audit, audit_rows, audit_text, entry_of};
 pub use lines::{
     audit_lines, audit_lines_watched, audit_rows_watched, migrate_lines, migrate_rows_watched,
-    write_answer,
+    status_of, write_answer,
 };
 pub use migration::{migrate, migrate_watched};
 pub use profile::Profile;

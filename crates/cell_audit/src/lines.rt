@@ -6,7 +6,7 @@ ghost use Rattle.cell_audit.specs.Migrated.{rows_in};
 ghost use Rattle.cell_output.specs.Watched.{IsSameWriter, WritesPart, bytes_held, has_refused};
 ghost use Rattle.cell_audit.specs.Lines.{MigratesSome, StopsMigration, TellsAudit, TellsMigration, TellsPart};
 ghost use Rattle.cell_audit.specs.Lines.{TellsPartOfRows, TellsRows, TellsSome, WritesAnswer, lines_of, refusal_line};
-ghost use Rattle.cell_audit.specs.Lines.{totals_lines};
+ghost use Rattle.cell_audit.specs.Lines.{status_of, totals_lines};
 
 use crate::error::{AuditError, MigrateError};
 use crate::judge::audit_rows;
@@ -96,6 +96,18 @@ fn write_refusal<W: Write>(
             b"\n",
         ]),
         None => writer.write_pieces(&[b"refused ", place, b" ", name, b"\n"]),
+    }
+}
+
+/// The exit status of an audit's answer.
+pub fn status_of(answer: &Result<(u8, Totals), AuditError>) -> u8
+    ensures { result ≡ status_of answer.now }
+{
+    match answer {
+        Ok(_) => status::SUCCESS,
+        Err(AuditError::Unreadable(_)) | Err(AuditError::Refused(_, _)) => status::REFUSED,
+        Err(AuditError::ReadFault) => status::DEVICE_FAULT,
+        Err(AuditError::OutOfMemory) => status::OUT_OF_MEMORY,
     }
 }
 

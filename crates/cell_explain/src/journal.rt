@@ -4,8 +4,7 @@ ghost use Rattle.cell_explain.specs.Facts.{IsSince};
 ghost use Rattle.cell_audit.specs.Reading.{IsBefore, SpellsFirst};
 ghost use Rattle.cell_output.specs.Watched.{IsSameWriter, bytes_held, has_refused};
 ghost use Rattle.cell_audit.specs.Lines.{TellsAudit};
-ghost use Rattle.cell_rows.specs.Rows.{IsOpen, current_row, rows_left, rows_of};
-ghost use Rattle.cell_types.specs.Records.{read_row};
+ghost use Rattle.cell_rows.specs.Rows.{IsOpen, rows_left, rows_of};
 ghost use Rattle.cell_explain.specs.Explained.{EndsAsAudit};
 ghost use Rattle.cell_explain.specs.Sayings.{refused_line};
 ghost use Rattle.cell_explain.specs.Told.{IsEntryOf, SaysAudit, SaysJournal, SaysRefusal, SaysRefused, SaysUnreadable};
@@ -20,12 +19,12 @@ use crate::shown::shown;
 use crate::telling::{Since, left_by, told};
 use crate::unread::record_line;
 use crate::wanted::Trouble;
-use cell_audit::{AuditError, Audited, audit_lines, audit_text, read_rows};
+use cell_audit::{AuditError, Audited, audit_lines, audit_text, entry_of, read_rows};
 use cell_journal::Journal;
 use cell_output::{WatchedWriter, WriteFault, status};
 use cell_rows::{RowReader, TellsFault};
 use cell_sentences::RefusalSentence;
-use cell_types::{Entry, read_fields};
+use cell_types::Entry;
 use plate_book::Refusal;
 use std::alloc::{AllocError, Global};
 use std::io::Write;
@@ -58,16 +57,6 @@ fn unreadable_line(alloc: Global, text: &[u8], place: u32) -> Result<String, All
     let wanted = entry_fields(in_two, &fields);
     let trouble = Trouble::of(&fields, wanted, Trouble::NoEntry);
     record_line(alloc, record, "entry", place, trouble)
-}
-
-// The entry of the record that was read last, if it is one's.
-fn entry_of<R: TellsFault>(rows: &RowReader<R>) -> Option<Entry>
-    ensures { result ≡ read_row (current_row rows.now) }
-{
-    match rows.four() {
-        Some(four) => read_fields(&[four.first, four.second, four.third, four.fourth]),
-        None => None,
-    }
 }
 
 // The entry of the record of a number, counted from 0, of those that are left; `None` where it is none's, or can't be

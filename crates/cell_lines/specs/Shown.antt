@@ -1,27 +1,13 @@
 -- Which reading a machine's line tells
-use Rattle.std.specs.Prelude.{ℕ, ◌+◌, ◌*◌, Bool, List, [], ◌∷◌, ◌++◌, Option, Some, None, map, if◌then◌else◌}
+use Rattle.std.specs.Prelude.{ℕ, ◌+◌, ◌*◌, Bool, List, [], ◌∷◌, Option, Some, None, if◌then◌else◌}
 use Rattle.std.specs.List.{list_all, list_any}
 use Rattle.std.specs.Str.{bytes_eq}
-use Rattle.cell_types.specs.Cell.{axes_of, poses, stations_of}
-use Rattle.cell_types.specs.Texts.{pose_word, station_word}
+use Rattle.cell_types.specs.Cell.{axes_of}
+use Rattle.cell_types.specs.Sensors.{presence_words, switch_words}
 use Rattle.cell_types.specs.declared.words.Axis.{Axis}
-use Rattle.cell_types.specs.declared.words.Axis.TheVariants as axis
 use Rattle.cell_types.specs.declared.words.Machine.{Machine}
-use Rattle.cell_types.specs.declared.words.Machine.TheVariants as machine
-use Rattle.cell_types.specs.declared.words.Station.TheVariants as station
 use Rattle.cell_diagnosis.specs.declared.reading.Reading.{Reading}
 use Rattle.cell_lines.specs.Split.{parts}
-
--- the words of an axis's poses, each of which has a switch; a belt has no switches
-abbrev pub switch_words : Axis → List (List ℕ)
-switch_words axis.FeedBelt = []
-switch_words axis.DepositBelt = []
-switch_words a = map pose_word (poses a)
-
--- the words of a machine's stations; the feed belt has the table's sensor too
-abbrev pub presence_words : Machine → List (List ℕ)
-presence_words machine.Feed = map station_word (stations_of machine.Feed ++ station.Table ∷ [])
-presence_words m = map station_word (stations_of m)
 
 -- a word is one of these
 abbrev pub is_among : List (List ℕ) → List ℕ → Bool

@@ -1,50 +1,13 @@
 //! The reading that a line of the cell tells.
 ghost use Rattle.std.specs.Prelude.{◌≡◌, ◌≤◌, ◌∷◌, [], length, map};
 ghost use Rattle.std.specs.List.{list_all};
-ghost use Rattle.cell_lines.specs.Shown.{axis_bits, bits_of, byte_of, is_among, presence_words, reading_of};
-ghost use Rattle.cell_lines.specs.Shown.{switch_words, switches_by, switches_of};
+ghost use Rattle.cell_lines.specs.Shown.{axis_bits, bits_of, byte_of, is_among, reading_of, switches_by, switches_of};
 ghost use Rattle.cell_lines.specs.Split.{parts};
 
 use crate::split::{cut, is_word};
 use cell_diagnosis::Reading;
+use cell_types::sensors::{presence_words, switch_words};
 use cell_types::{Axis, Machine};
-
-// The words of an axis's switches, in the order of their bits. A belt has none.
-fn switch_words(axis: Axis) -> &'static [&'static str]
-    ensures words { map (λ w. w.now) result.now ≡ switch_words axis }
-    ensures few { length result.now ≤ 6 }
-{
-    match axis {
-        Axis::FeedBelt | Axis::DepositBelt => &[],
-        Axis::TableLift => &["low", "high"],
-        Axis::TableTurn => &["belt", "robot"],
-        Axis::RobotTurn => &[
-            "table1",
-            "p1_load",
-            "p1_unload",
-            "p2_load",
-            "p2_unload",
-            "deposit2",
-        ],
-        Axis::ArmOne | Axis::ArmTwo => &["in", "out"],
-        Axis::PressOne | Axis::PressTwo => &["middle", "top", "bottom"],
-    }
-}
-
-// The words of the stations whose sensors a machine's reading has, in the order of their bits.
-fn presence_words(machine: Machine) -> &'static [&'static str]
-    ensures words { map (λ w. w.now) result.now ≡ presence_words machine }
-    ensures few { length result.now ≤ 6 }
-{
-    match machine {
-        Machine::Feed => &["feed_in", "feed_end", "table"],
-        Machine::Table => &["table"],
-        Machine::Robot => &["arm1", "arm2"],
-        Machine::Press1 => &["press1"],
-        Machine::Press2 => &["press2"],
-        Machine::Deposit => &["dep_in", "dep_end"],
-    }
-}
 
 // Whether a word is one of these.
 fn is_among(words: &[&str], word: &[u8]) -> bool

@@ -1,14 +1,13 @@
 -- The line that tells what a machine shows
-use Rattle.std.specs.Prelude.{ℕ, ◌+◌, Bool, true, false, List, [], ◌∷◌, ◌++◌, Option, Some, None, map, codes, decimal}
+use Rattle.std.specs.Prelude.{ℕ, ◌+◌, Bool, true, false, List, [], ◌∷◌, ◌++◌, Option, Some, None, codes, decimal}
 use Rattle.std.specs.Prelude.{slice_index, if◌then◌else◌}
 use Rattle.cell_rows.specs.Lines.{line}
-use Rattle.cell_types.specs.Cell.{poses, stations_of}
-use Rattle.cell_types.specs.Texts.{machine_word, pose_word, station_word}
+use Rattle.cell_types.specs.Sensors.{presence_words, switch_words}
+use Rattle.cell_types.specs.Texts.{machine_word}
 use Rattle.cell_types.specs.declared.words.Axis.{Axis}
 use Rattle.cell_types.specs.declared.words.Axis.TheVariants as axis
 use Rattle.cell_types.specs.declared.words.Machine.{Machine}
 use Rattle.cell_types.specs.declared.words.Machine.TheVariants as machine
-use Rattle.cell_types.specs.declared.words.Station.TheVariants as station
 use Rattle.cell_diagnosis.specs.Readings.{bit}
 use Rattle.cell_diagnosis.specs.declared.reading.Reading.{Reading}
 use Rattle.cell_method.specs.Lines.{Row}
@@ -27,17 +26,6 @@ shown_after is_after byte i (word ∷ words) =
 
 abbrev pub shown : ℕ → List (List ℕ) → List ℕ
 shown byte words = shown_after false byte 0 words
-
--- the words of an axis's poses, each of which has a switch; a belt has no switches
-abbrev pub switch_words : Axis → List (List ℕ)
-switch_words axis.FeedBelt = []
-switch_words axis.DepositBelt = []
-switch_words a = map pose_word (poses a)
-
--- the words of a machine's stations; the feed belt has the table's sensor too
-abbrev pub presence_words : Machine → List (List ℕ)
-presence_words machine.Feed = map station_word (stations_of machine.Feed ++ station.Table ∷ [])
-presence_words m = map station_word (stations_of m)
 
 -- the poses that each axis of a machine shows, with a slash between them
 abbrev pub switches_text : Machine → Reading → List ℕ

@@ -1,14 +1,13 @@
 //! The texts of the commands, which are read as far as they decide.
 ghost use Rattle.std.specs.Prelude.{◌≡◌, ◌⊎◌, ℕ, List, Ok, Some, IfErr, IfOk, IfSome};
 ghost use Rattle.cell_explain.specs.Explained.{EndsAsAudit, EndsAsFaults, EndsAsScript};
-ghost use Rattle.cell_audit.specs.Lines.{status_of};
 ghost use Rattle.cell_audit.specs.Reading.{IsBefore, IsSomeReading};
 ghost use Rattle.cell_output.specs.Watched.{bytes_held};
 ghost use Rattle.cell_orders.specs.Texts.{TellsTooLong};
 
 use crate::failure::Failure;
 use crate::reading::{JournalText, ScriptText, journal_text, script_text, settings_text};
-use cell_audit::{AuditError, Audited, read_rows};
+use cell_audit::{AuditError, Audited, read_rows, status_of};
 use cell_explain::{explain_faults, explain_journal, explain_operator};
 use cell_output::{WatchedWriter, WriteFault, status};
 use cell_rows::{RowReader, TellsFault, Watched};
@@ -251,18 +250,6 @@ pub(crate) fn explain_journal_in<'a, R: AllocGlobal + Files, W: Write>(
     Ok(explain_read(rt.alloc(), &read, output)?)
 }
 
-// The status of the audit's answer to a journal.
-fn audited(read: &JournalText) -> u8
-    ensures { result ≡ status_of read.now.answer }
-{
-    match read.answer {
-        Ok(_) => status::SUCCESS,
-        Err(AuditError::Unreadable(_) | AuditError::Refused(_, _)) => status::REFUSED,
-        Err(AuditError::ReadFault) => status::DEVICE_FAULT,
-        Err(AuditError::OutOfMemory) => status::OUT_OF_MEMORY,
-    }
-}
-
 // An explanation's status, which is that of the audit before it, unless memory was refused.
 fn as_audited(due: u8, explained: Result<u8, WriteFault>) -> Result<u8, WriteFault>
     ensures { IfOk result (λ status. (status ≡ due) ⊎ (status ≡ 4)) }
@@ -285,7 +272,7 @@ pub(crate) fn explain_input<I: Read + Drop, W: Write>(
         (λ status. IfSome (I.remaining input) (λ text. EndsAsAudit text status))) }
 {
     let read = journal_text(alloc, input)?;
-    let due = audited(&read);
+    let due = status_of(&read.answer);
     if due > status::REFUSED {
         return Ok(Ok(due));
     }

@@ -14,3 +14,4 @@ pub mod Handing
 pub mod Schedules
 pub mod Steps
 pub mod Joined
+pub mod Books

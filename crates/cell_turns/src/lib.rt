@@ -2,6 +2,7 @@
 //! turns leads.
 #![tactic(auto)]
 
+mod books;
 pub mod hands;
 pub mod joining;
 pub mod schedule;
@@ -12,6 +13,7 @@ pub mod watch;
 pub mod watches;
 mod watching;
 
+pub use books::empty_book;
 pub use cell_ports::{Act, OperatorPort, Plan, Port, PortFault};
 pub use schedule::{OutOfMemory, Step};
 pub use scheduling::{LentState, Ran, run_schedule, run_step};

@@ -9,3 +9,4 @@ pub mod Numbers
 pub mod Spelling
 pub mod After
 pub mod Room
+pub mod Sensors

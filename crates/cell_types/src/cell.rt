@@ -46,6 +46,28 @@ pub const AXES: [Axis; 9] = [
     Axis::DepositBelt,
 ];
 
+/// All poses and motions, in their order.
+pub const POSES: [Pose; 18] = [
+    Pose::Rest,
+    Pose::ToEnd,
+    Pose::ToTable,
+    Pose::Low,
+    Pose::High,
+    Pose::Belt,
+    Pose::Robot,
+    Pose::Table1,
+    Pose::P1Load,
+    Pose::P1Unload,
+    Pose::P2Load,
+    Pose::P2Unload,
+    Pose::Deposit2,
+    Pose::In,
+    Pose::Out,
+    Pose::Middle,
+    Pose::Top,
+    Pose::Bottom,
+];
+
 /// All zones, in their order.
 pub const ZONES: [Zone; 5] = [Zone::Z1, Zone::Z2, Zone::Z3, Zone::Z4, Zone::Z5];
 

@@ -12,11 +12,12 @@ pub mod parts;
 pub mod plate_id;
 pub mod read;
 pub mod same;
+pub mod sensors;
 pub mod texts;
 pub mod words;
 
 pub use cell::{
-    ARMS, AXES, BELTS, BeltMotion, Facing, MACHINES, PRESS1, PRESS2, Press, STATIONS, ZONES,
+    ARMS, AXES, BELTS, BeltMotion, Facing, MACHINES, POSES, PRESS1, PRESS2, Press, STATIONS, ZONES,
     axes_of, axis_number, axis_of_arm, belt_number, drops_at, faced, grips_at, home,
     is_before_press, is_pose_of, machine_number, machine_of_axis, machine_of_belt,
     machine_of_station, motion_named, motion_to, owner, place_in_machine, poses_of, press_axis,

@@ -7,8 +7,8 @@ use Rattle.cell_orders.proofs.texts.explain_input.Goals as goal
 pub returns : goal.returns
 returns g c =
     let known = g.I.Read.remaining c.args.input in
-    as-ends c.as_audited.result c.audited-due.result (λ s. IfSome known (λ text. EndsAsAudit text s))
+    as-ends c.as_audited.result c.status_of-due.result (λ s. IfSome known (λ text. EndsAsAudit text s))
     c.as_audited.ensures
-    (of-known known _ _ _ (λ text due only. (c.in_ok-read.read.answer, (due, only), c.audited-due.ensures))
+    (of-known known _ _ _ (λ text due only. (c.in_ok-read.read.answer, (due, only), c.status_of-due.ensures))
     c.in_ok-read.ensures.due c.in_ok-read.ensures.only)
     (known-wants known)
