@@ -479,6 +479,35 @@ const checkTexts = async (name) => {
   check(`${name}: texts that the drawing's edge cuts`, told.cut, []);
   check(`${name}: texts over others`, told.over, []);
 };
+// Each part of the drawing has a square of 24 pixels in which it is hit, and nothing else: points within it are asked.
+const checkTargets = async (name, clicked = false) => {
+  const squares = await ask(`(() => {
+    document.getElementById("cell").scrollIntoView({ block: "start" });
+    const known = new Map();
+    const at = (x, y) => { const key = x * 8192 + y;
+      if (!known.has(key)) known.set(key, document.elementFromPoint(x + 0.5, y + 0.5)?.closest("#cell .part") ?? null);
+      return known.get(key); };
+    const points = [...Array(576).keys()].map((k) => [k % 24, Math.floor(k / 24)])
+      .filter(([x, y]) => x % 23 === 0 || y % 23 === 0 || (x % 6 === 0 && y % 6 === 0)).sort((a, b) => b[0] - a[0]);
+    const find = (part) => { const box = part.getBoundingClientRect();
+      for (let top = Math.floor(box.top); top + 23 <= box.bottom; top += 1) for (let left = Math.floor(box.left); left + 23 <= box.right;) {
+        const other = points.find(([x, y]) => at(left + x, top + y) !== part);
+        if (other === undefined) return [left + 12, top + 12];
+        left += other[0] + 1; }
+      return null; };
+    return [...document.querySelectorAll("#cell .part:not(.off)")].map((part) => [part.id, find(part)]);
+  })()`);
+  check(`${name}: parts of the drawing that aren't hit in 24 by 24 pixels`, squares.filter(([, place]) => place === null).map(([id]) => id), []);
+  // A click in its square follows a part, and another one follows it no longer.
+  for (const [id, place] of clicked ? squares.filter(([, found]) => found !== null) : []) {
+    const followed = id.replace("lamp-0", "machine-0").replace("lamp-1", "machine-5");
+    for (const wanted of [[followed], []]) {
+      await click(...place);
+      check(`${name}: what a click on ${id} follows`, await ask("[...document.querySelectorAll('#cell .followed')].map((part) => part.id)"), wanted);
+    }
+  }
+  await ask("document.activeElement.blur(); window.scrollTo(0, 0)");
+};
 // The picture lies over neither the entry's sentence nor who waits.
 const checkPicture = async (name) => {
   const apart = await ask(`(() => { const box = (id) => document.getElementById(id).getBoundingClientRect();
@@ -515,6 +544,7 @@ const checkSizes = async () => {
     for (const k of [0, 0.2, 0.35, 0.5, 0.65, 0.8, 1]) {
       await ask(slide(entryAt(k)));
       await checkTexts(`${name}, entry ${entryAt(k)}`);
+      if (name === "narrow" || (k === 0.5 && !dark)) await checkTargets(`${name}, entry ${entryAt(k)}`, name === "narrow" && k === 0.5);
     }
     const least = await ask(`Math.min(...[...document.querySelectorAll("#cell text")].filter((node) => node.textContent !== "" && node.getClientRects().length > 0
       && node.closest(".plate") === null).map((node) => parseFloat(getComputedStyle(node).fontSize) * document.getElementById("cell").getScreenCTM().a))`);
@@ -528,6 +558,7 @@ const checkSizes = async () => {
   await open("#entry=" + shown);
   await key("w", 87);
   await checkTexts("larger");
+  await checkTargets("larger");
   await checkPicture("larger");
   await picture("larger");
   await media({ "prefers-reduced-motion": "reduce" }, "print");

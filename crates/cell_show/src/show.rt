@@ -1,9 +1,7 @@
 //! Showing the cell as the first entries of a journal left it.
 ghost use Rattle.std.specs.Prelude.{◌≡◌, ◌≢◌, ◌≤◌, ◌<◌, ℕ, IfErr, IfOk, IfSome, Ok, false, length, true};
-ghost use Rattle.cell_rows.specs.Rows.{IsOpen, current_row, device_failed, rows_left};
-ghost use Rattle.cell_types.specs.Records.{read_row};
+ghost use Rattle.cell_rows.specs.Rows.{IsOpen, device_failed, rows_left};
 ghost use Rattle.cell_audit.specs.Migrated.{rows_in};
-ghost use Rattle.cell_audit.specs.Lines.{status_of};
 ghost use Rattle.cell_show.specs.Shown.{TellsStatus, AsksPast, TellsEntries, HasBound, HasEntry, IsPage, IsBarred};
 ghost use Rattle.cell_show.specs.Shown.{IsRefused, ShowsPage, ShowsSome, start_of};
 
@@ -11,13 +9,13 @@ use crate::ShowError;
 use crate::chart::{ChartError, draw_chart, draw_window};
 use crate::moving::write_moving;
 use crate::page::{Window, write_page};
-use cell_audit::{AuditError, read_rows};
+use cell_audit::{AuditError, entry_of, read_rows, status_of};
 use cell_drawing::draw_picture;
 use cell_measures::Durations;
 use cell_output::{WatchedWriter, status};
 use cell_picture::{Scene, draw_text, facts_after};
 use cell_rows::{RowReader, TellsFault};
-use cell_types::{Entry, Totals, read_fields};
+use cell_types::Entry;
 use plate_book::Book;
 use std::alloc::Global;
 use std::io::Write;
@@ -48,18 +46,6 @@ struct Stop {
     answer: Option<AuditError>,
     // The entry of the record that was read last, if it is one's.
     entry: Option<Entry>,
-}
-
-// The status of an audit's answer.
-fn status_of(answer: &Result<(u8, Totals), AuditError>) -> u8
-    ensures { result ≡ status_of answer.now }
-{
-    match answer {
-        Ok(_) => status::SUCCESS,
-        Err(AuditError::Unreadable(_)) | Err(AuditError::Refused(_, _)) => status::REFUSED,
-        Err(AuditError::ReadFault) => status::DEVICE_FAULT,
-        Err(AuditError::OutOfMemory) => status::OUT_OF_MEMORY,
-    }
 }
 
 // Writes the chart of a book's first entries, and says whether there was memory for it.
@@ -99,16 +85,6 @@ fn chart_of(
     match draw_window(alloc, &mut chart, book.journal(), window, durations, answer) {
         Ok(()) => Some(chart),
         Err(_) => None,
-    }
-}
-
-// The entry of the record that was read last, if it is one's.
-fn entry_of<R: TellsFault>(rows: &RowReader<R>) -> Option<Entry>
-    ensures { result ≡ read_row (current_row rows.now) }
-{
-    match rows.four() {
-        Some(four) => read_fields(&[four.first, four.second, four.third, four.fourth]),
-        None => None,
     }
 }
 

@@ -11,7 +11,7 @@ ghost use Rattle.cell_show.specs.Rows.{actor_place, expected_number, flag, lette
 
 use cell_picture::{Facts, ShownPlate};
 use cell_sentences::EntrySentence;
-use cell_types::{Actor, AxisState, Colour, Entry, Field, Machine, Pose, Totals, actor_of, spell};
+use cell_types::{Actor, AxisState, Colour, Entry, Machine, Pose, Totals, actor_of, spell};
 use std::fmt;
 
 // The letter of the word at a place of its list.
@@ -281,25 +281,6 @@ impl fmt::Display for Counts {
     }
 }
 
-// A field of a record.
-#[derive(Clone, Copy)]
-struct FieldText(Field);
-
-impl fmt::Display for FieldText {
-    ghost use Rattle.std.specs.Prelude.{Some};
-    ghost use Rattle.cell_types.specs.Spelling.{text_of};
-
-    ghost output = { λ field. Some (text_of field.0) };
-
-    fn fmt<W: fmt::Write>(&self, f: &mut fmt::Formatter<W>) -> fmt::Result {
-        match self.0 {
-            Field::Word(word) => write!(f, "{word}"),
-            Field::Number(number) => write!(f, "{number}"),
-            Field::Blank => Ok(()),
-        }
-    }
-}
-
 // The record of an entry.
 #[derive(Clone, Copy)]
 struct Record(Entry);
@@ -314,7 +295,7 @@ impl fmt::Display for Record {
     fn fmt<W: fmt::Write>(&self, f: &mut fmt::Formatter<W>) -> fmt::Result {
         let fields = spell(self.0);
         for (place, field) in fields.iter().enumerate() {
-            write!(f, "{}{}", comma(place), FieldText(*field))?;
+            write!(f, "{}{}", comma(place), *field)?;
         }
         Ok(())
     }

@@ -10,32 +10,10 @@ use cell_sentences::{
     zone_name,
 };
 use cell_types::{
-    AXES, BELTS, MACHINES, Pose, STATIONS, ZONES, machine_of_axis, machine_of_station, owner,
+    AXES, BELTS, MACHINES, POSES, STATIONS, ZONES, machine_of_axis, machine_of_station, owner,
     visitor,
 };
 use std::io::Write;
-
-// All poses, in the order of their letters.
-const POSES: [Pose; 18] = [
-    Pose::Rest,
-    Pose::ToEnd,
-    Pose::ToTable,
-    Pose::Low,
-    Pose::High,
-    Pose::Belt,
-    Pose::Robot,
-    Pose::Table1,
-    Pose::P1Load,
-    Pose::P1Unload,
-    Pose::P2Load,
-    Pose::P2Unload,
-    Pose::Deposit2,
-    Pose::In,
-    Pose::Out,
-    Pose::Middle,
-    Pose::Top,
-    Pose::Bottom,
-];
 
 // Writes a list of names.
 fn write_names<W: Write>(

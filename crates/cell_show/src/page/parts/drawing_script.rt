@@ -202,6 +202,40 @@ pub(crate) const DRAWING_SCRIPT: &str = r##"
   };
   makeDrawing();
 
+  // Where a part is hit, besides its shapes: in a square of 24 pixels, whatever the width. It begins so many of its
+  // sides to the right of a point and below it, so that no square lies over another. The robot is hit as far as its
+  // hands are when they are in; arms and arrows, which cross other parts, aren't hit.
+  const squares = [];
+  const addHit = (id, hit) => el(id).lastChild.before(hit);
+  const addSquare = (id, { x, y }, across, down) => {
+    squares.push({ hit: svg("rect", { class: "hit", transform: `translate(${x} ${y})` }), across, down });
+    addHit(id, squares.at(-1).hit);
+  };
+  const makeHits = () => {
+    stations.forEach((_, s) => addSquare("plate-" + s, { x: 0, y: 0 }, -0.5, -0.5));
+    [1, 3, 4].forEach((m) => {
+      const [x, y] = geometry.names[m];
+      addSquare("machine-" + m, { x, y: y - 6 }, 0, -0.5);
+    });
+    addHit("machine-2", svg("circle", { class: "hit", cx: robot.x, cy: robot.y, r: lengthOf("n") }));
+    [0, 1, 4].forEach((z) => {
+      const [x, y, width] = geometry.zones[z];
+      addSquare("zone-" + z, { x: x + width - 14, y: y - 2 }, -0.5, -1);
+    });
+    addSquare("zone-2", tip(0, "i", "n"), -1.5, -1.5);
+    addSquare("zone-3", tip(0, "k", "n"), -1.5, 0.5);
+    geometry.lights.forEach(([x, y], b) => addSquare("lamp-" + b, { x: x - 12, y: y + 16 }, 0, -1));
+  };
+  const sizeHits = () => {
+    const scale = el("cell").getScreenCTM()?.a;
+    if (!(scale > 0)) return;
+    const side = Math.ceil(24 / scale);
+    squares.forEach(({ hit, across, down }) => Object.entries({ x: across * side, y: down * side, width: side,
+      height: side }).forEach(([key, value]) => hit.setAttribute(key, value)));
+  };
+  makeHits();
+  new ResizeObserver(sizeHits).observe(el("cell"));
+
   // What a part of the drawing is called, and what is so of it.
   const name = (id, text) => {
     el(id).setAttribute("aria-label", text);

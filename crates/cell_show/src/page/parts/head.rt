@@ -174,6 +174,8 @@ kbd { border: 1px solid var(--line); border-radius: 3px; padding: 0 0.3em; font:
 #cell .light.red { fill: var(--red); }
 #cell .light.green { fill: var(--green); }
 #cell .part { cursor: pointer; outline: none; }
+#cell .hit { fill: none; pointer-events: visible; }
+#cell .arm, #cell .hand, #cell .ghost, #cell .flow { pointer-events: none; }
 #cell .part .ring { fill: none; stroke: none; }
 #cell .part:focus-visible .ring { stroke: var(--mark); stroke-width: 3; }
 /* What the last entry changed: a frame, and words as under a marker. */
