@@ -1,5 +1,5 @@
--- A run over ports and hands, which are always reached, is one of rounds alone: what is left of it without the cell
-use Rattle.std.proofs.Common.{◌≡◌, ◌⊎◌, inl, inr, ℕ, ◌+◌, List, [], ◌∷◌, ◌++◌, map, Bool, true, false, Option, Some}
+-- A run over a cell that is always reached is one of rounds alone: what is left of it without the cell
+use Rattle.std.proofs.Common.{◌≡◌, ◌⊎◌, inl, inr, ℕ, List, [], ◌∷◌, ◌++◌, map, Bool, true, false, Option, Some}
 use Rattle.std.proofs.Common.{None, Result, Ok, Err, refl, sym, ap, subst, ◌∙◌, append_assoc, append-nil, arith}
 use Rattle.std.specs.Prelude.{◌&&◌, is_some}
 use Rattle.std.proofs.lemmas.List.{map-append, append_cancel_left}
@@ -11,7 +11,7 @@ use Rattle.cell_rules.specs.declared.limits.BookLimits.{BookLimits}
 use Rattle.cell_ports.specs.declared.plan.Plan.{Plan}
 use Rattle.cell_ports.specs.declared.port.Act.{Act}
 use Rattle.cell_turns.specs.Minds.{Mind}
-use Rattle.cell_turns.specs.Six.{at, each}
+use Rattle.cell_turns.specs.Six.{at}
 use Rattle.cell_turns.specs.declared.six.Six.{Six}
 use Rattle.cell_turns.specs.declared.schedule.Step.{Step}
 use Rattle.cell_turns.specs.declared.schedule.Step.TheVariants.{Turn}

@@ -1,11 +1,10 @@
 -- What the steps of a round lead to
-use Rattle.std.proofs.Common.{◌≡◌, ◌≢◌, ◌⊎◌, inl, inr, ℕ, ◌+◌, ◌<◌, List, [], ◌∷◌, ◌++◌, map, length, Bool, true, false}
+use Rattle.std.proofs.Common.{◌≡◌, ◌≢◌, ◌⊎◌, inl, inr, ℕ, ◌<◌, List, [], ◌∷◌, ◌++◌, map, length, Bool, true, false}
 use Rattle.std.proofs.Common.{not, Option, Some, None, refl, sym, ap, subst, ◌∙◌, append_assoc, append-nil, arith}
-use Rattle.std.proofs.Common.{length-append, Result, Ok, Err, IfErr, option_to_list, eqb-true}
+use Rattle.std.proofs.Common.{Result, Ok, Err, IfErr, option_to_list, eqb-true}
 use Rattle.std.specs.Prelude.{if◌then◌else◌, nat_eq}
 use Rattle.std.specs.Result.{IsErrAnd}
 use Rattle.std.proofs.lemmas.List.{map-append, append_cancel_left}
-use Rattle.cell_types.specs.declared.words.Machine.{Machine}
 use Rattle.cell_types.specs.declared.words.Actor.{Actor}
 use Rattle.cell_types.specs.declared.words.Actor.TheVariants as actor
 use Rattle.cell_types.specs.declared.words.Entry.{Entry}
@@ -20,18 +19,16 @@ use Rattle.cell_turns.specs.declared.six.Six.{Six}
 use Rattle.cell_turns.specs.declared.watch.Watch.{Watch}
 use Rattle.cell_ports.specs.Logs.{ActLog}
 use Rattle.cell_turns.specs.Minds.{Mind}
-use Rattle.cell_turns.specs.Six.{at}
 use Rattle.cell_turns.specs.Schedules.{Now, now, Leads, FitAll, Led, Scheduled, Grown, entries_of, same_actor}
 use Rattle.cell_turns.specs.Schedules.Leads.{stays, turns as one_turn, refuses as one_refused, hands as one_hand}
 use Rattle.cell_turns.specs.Schedules.Leads.{spares as one_spared, fails as one_failed}
-use Rattle.cell_workers.specs.Ends.{IsDone, is_idle}
 use Rattle.cell_workers.specs.declared.ends.End.{End}
 use Rattle.cell_workers.specs.declared.ends.End.TheVariants as end
 use Rattle.operator_desk.specs.Next.{next_of, left_after, entry_of}
 use Rattle.operator_desk.specs.declared.action.Action.{Action}
 use Rattle.operator_desk.specs.declared.line.Line.{Line}
-use Rattle.cell_runs.specs.Rounds.{turn_of, history, machines, Place, place, Operates, Round}
-use Rattle.cell_runs.specs.Rounds.{Breaks, ComesToRest, EndsIn, Ends, Takes, Reaches}
+use Rattle.cell_runs.specs.Rounds.{turn_of, history, Place, place, Operates}
+use Rattle.cell_runs.specs.Rounds.{Breaks, EndsIn, Ends, Takes, Reaches}
 use Rattle.cell_runs.specs.Rounds.Operates.{rests, waits, books, fails}
 
 -- a schedule grows at its end, so one of a single step is that step behind no others

@@ -9,9 +9,7 @@ use Rattle.cell_output.specs.Watched.{WritesPart}
 use Rattle.cell_workers.specs.declared.ends.End.{End}
 use Rattle.cell_workers.specs.Report.{IsReport}
 use Rattle.operator_desk.specs.declared.line.Line.{Line}
-use Rattle.cell_runs.specs.Rounds.{IsRunFrom}
-use Rattle.cell_runs.specs.Runs.{PartOfRoundsFrom, PrintsOrStops, WritesReport, WritesRoundsFrom, kept, limits_of}
-use Rattle.cell_runs.specs.Runs.{shown}
+use Rattle.cell_runs.specs.Runs.{PrintsOrStops, WritesReport, kept, limits_of, shown}
 
 -- printing doesn't look at the plan, so what the report has to do with it may be told afterwards
 pub report-printed : {E : Type 0} (r : Result ℕ E) (journal : Bool) (e : End) (J : List Entry) (t : Totals)
@@ -22,33 +20,19 @@ pub report-printed : {E : Type 0} (r : Result ℕ E) (journal : Bool) (e : End) 
 report-printed (Ok status) journal e J t ws old new printed = λ plan script is. inl (e, J, t, ws, is, printed, refl)
 report-printed (Err error) journal e J t ws old new printed = printed
 
--- the printer has the book's journal and the totals that the book counted, which are those of the run
-pub rounds-printed : {E : Type 0} (r : Result ℕ E) (journal : Bool) (e : End) (J K : List Entry) (t : Totals)
+-- the printer has the book's journal and the totals that the book counted
+pub outcome-printed : {E : Type 0} (r : Result ℕ E) (journal : Bool) (e : End) (J K : List Entry) (t : Totals)
     (old new : Option (List ℕ))
     → K ≡ J → t ≡ count_of J → IfOk r (PrintsOrStops journal e t K old new)
-    → IfOk r (λ status. (before : List Entry) (plan : Plan) (script : List Line)
-    → IsRunFrom (limits_of plan) plan before script J e
-    → WritesRoundsFrom before journal plan script old new status (Some (kept J e plan)))
-rounds-printed (Ok status) journal e J K t old new same counts printed = λ before plan script run.
-    inl (
-      e,
-      J,
-      run,
-      subst (λ (L : List Entry). PrintsOrStops journal e (count_of J) L old new status) same
-          (subst (λ (u : Totals). PrintsOrStops journal e u K old new status) counts printed),
-      refl,
-    )
-rounds-printed (Err error) journal e J K t old new same counts printed = printed
+    → IfOk r (PrintsOrStops journal e (count_of J) J old new)
+outcome-printed r journal e J K t old new same counts printed =
+    subst (λ (L : List Entry). IfOk r (PrintsOrStops journal e (count_of J) L old new)) same
+    (subst (λ (u : Totals). IfOk r (PrintsOrStops journal e u K old new)) counts printed)
 
 -- the same where a write was refused on the way
-pub rounds-in-part : (journal : Bool) (e : End) (J K : List Entry) (t : Totals) (old new : Option (List ℕ))
+pub outcome-in-part : (journal : Bool) (e : End) (J K : List Entry) (t : Totals) (old new : Option (List ℕ))
     → K ≡ J → t ≡ count_of J → WritesPart old new (shown journal e t K)
-    → (before : List Entry) (plan : Plan) (script : List Line) → IsRunFrom (limits_of plan) plan before script J e
-    → PartOfRoundsFrom before journal plan script old new
-rounds-in-part journal e J K t old new same counts part = λ before plan script run. (
-  e,
-  J,
-  run,
-  subst (λ (L : List Entry). WritesPart old new (shown journal e (count_of J) L)) same
-      (subst (λ (u : Totals). WritesPart old new (shown journal e u K)) counts part),
-)
+    → WritesPart old new (shown journal e (count_of J) J)
+outcome-in-part journal e J K t old new same counts part =
+    subst (λ (L : List Entry). WritesPart old new (shown journal e (count_of J) L)) same
+    (subst (λ (u : Totals). WritesPart old new (shown journal e u K)) counts part)

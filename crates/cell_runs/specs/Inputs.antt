@@ -1,6 +1,7 @@
 -- What the texts of a run say, and what is printed of the first that is refused
-use Rattle.std.specs.Prelude.{◌≡◌, ℕ, List, [], Option, Result, Ok, Err, codes}
+use Rattle.std.specs.Prelude.{◌≡◌, ℕ, List, [], Option, Result, Ok, Err, codes, ⊤}
 use Rattle.std.specs.Io.KnownBytes.{Appends}
+use Rattle.cell_measures.specs.declared.durations.Durations.{Durations}
 use Rattle.cell_rows.specs.Rows.{rows_of}
 use Rattle.cell_rows.specs.Scripts.{Gives, lines_of, script_status}
 use Rattle.cell_rows.specs.declared.script.LineError.{LineError}
@@ -38,6 +39,15 @@ AreInputs settings faults operator (Err (input.Faults e)) =
 AreInputs settings faults operator (Err (input.Operator e)) =
     (numbers : Numbers) × AreSettings settings numbers
     × ((planned : List PlannedFault) × AreFaults faults planned × Gives (Err e) (lines_of line_of (rows_of operator)))
+
+-- what is read besides: how many readings motions take
+abbrev pub Takes : Durations → Result Inputs InputError → Type 0
+Takes timing (Ok inputs) = inputs.durations ≡ timing
+Takes timing (Err e) = ⊤
+
+-- what three texts say whose motions take so many readings, or the first that is refused
+abbrev pub AreRead : Durations → List ℕ → List ℕ → List ℕ → Result Inputs InputError → Type 0
+AreRead timing settings faults operator inputs = AreInputs settings faults operator inputs × Takes timing inputs
 
 -- a refused script's line, by its words for a record that is no line and for too many lines
 abbrev pub script_line : List ℕ → List ℕ → LineError → List ℕ

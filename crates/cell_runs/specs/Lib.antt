@@ -1,3 +1,4 @@
+pub mod Cells
 pub mod Followed
 pub mod Inputs
 pub mod Rounds

@@ -7,6 +7,7 @@ use Rattle.cell_types.specs.declared.words.Totals.{Totals}
 use Rattle.cell_rules.specs.Views.{count_of}
 use Rattle.cell_rules.specs.declared.limits.BookLimits.{BookLimits}
 use Rattle.cell_ports.specs.declared.plan.Plan.{Plan}
+pub use Rattle.cell_turns.specs.Books.{limits_of}
 use Rattle.cell_workers.specs.Report.{IsReport}
 use Rattle.cell_workers.specs.declared.ends.End.{End}
 use Rattle.cell_workers.specs.declared.ends.End.TheVariants as end
@@ -16,8 +17,12 @@ use Rattle.operator_desk.specs.declared.line.Line.{Line}
 use Rattle.cell_audit.specs.Text.{text_of}
 use Rattle.cell_output.specs.Watched.{WritesPart}
 use Rattle.cell_output.specs.Numbers.{number_line}
-use Rattle.cell_runs.specs.Inputs.{AreInputs, WritesError, input_line, input_status}
-use Rattle.cell_runs.specs.Rounds.{IsRunFrom}
+use Rattle.cell_measures.specs.declared.durations.Durations.{Durations}
+use Rattle.cell_sim.specs.Simulated.{Simulated, opening_with}
+use Rattle.cell_sim.specs.Takeover.{left_by}
+use Rattle.sim_plant.specs.Answers.{SimCell, sim_cell}
+use Rattle.cell_runs.specs.Cells.{IsSimulated}
+use Rattle.cell_runs.specs.Inputs.{AreRead, WritesError, input_line, input_status}
 use Rattle.cell_runs.specs.declared.inputs.Inputs.{Inputs}
 use Rattle.cell_runs.specs.declared.inputs.InputError.{InputError}
 use Rattle.cell_runs.specs.declared.texts.KeptRun.{KeptRun}
@@ -67,9 +72,6 @@ abbrev pub PrintsOrStops : Bool → End → Totals → List Entry → Option (Li
 PrintsOrStops journal e t J old new status = Prints journal e t J old new status
     ⊎ StopsPrinting journal e t J old new status
 
-abbrev pub limits_of : Plan → BookLimits
-limits_of plan = record { entries = plan.journal_limit; plates = plan.plates }
-
 -- what is kept of a run: its journal, how it ended, and its plan
 pub record Kept : Type 0 where
   pub entries : List Entry
@@ -93,27 +95,50 @@ kept_of left.Nothing = None
 abbrev pub LacksThread : Left → Option (List ℕ) → Option (List ℕ) → ℕ → Type 0
 LacksThread what old new status = what ≡ left.NoThread → WritesError old new [] 4 status
 
--- a run on one thread from this journal on, by this plan and this script of the operator, leads in rounds to a journal
--- and an end, which are printed, and it is kept; or memory was refused before it, and nothing was written
-abbrev pub WritesRoundsFrom : List Entry → Bool → Plan → List Line → Option (List ℕ) → Option (List ℕ) → ℕ
+-- a run of which this holds was printed, and it is kept; or memory was refused before it, and nothing was written
+abbrev pub WritesSome : (List Entry → End → Type 0) → Bool → Plan → Option (List ℕ) → Option (List ℕ) → ℕ
     → Option Kept → Type 0
-WritesRoundsFrom before journal plan script old new status run =
-    ((e : End) × (J : List Entry) × IsRunFrom (limits_of plan) plan before script J e
-    × PrintsOrStops journal e (count_of J) J old new status × (run ≡ Some (kept J e plan)))
+WritesSome Leads journal plan old new status run =
+    ((e : End) × (J : List Entry) × Leads J e × PrintsOrStops journal e (count_of J) J old new status
+    × (run ≡ Some (kept J e plan)))
     ⊎ (WritesError old new [] 4 status × (run ≡ None))
 
 -- a first part of what is printed of such a run was written, and not all of it
-abbrev pub PartOfRoundsFrom : List Entry → Bool → Plan → List Line → Option (List ℕ) → Option (List ℕ) → Type 0
-PartOfRoundsFrom before journal plan script old new =
-    (e : End) × (J : List Entry) × IsRunFrom (limits_of plan) plan before script J e
-    × WritesPart old new (shown journal e (count_of J) J)
+abbrev pub PartOfSome : (List Entry → End → Type 0) → Bool → Option (List ℕ) → Option (List ℕ) → Type 0
+PartOfSome Leads journal old new =
+    (e : End) × (J : List Entry) × Leads J e × WritesPart old new (shown journal e (count_of J) J)
 
--- the same of a run from the empty journal
-abbrev pub WritesRounds : Bool → Plan → List Line → Option (List ℕ) → Option (List ℕ) → ℕ → Option Kept → Type 0
-WritesRounds journal plan script old new status run = WritesRoundsFrom [] journal plan script old new status run
+-- the simulated cell in rounds leads from a world and a journal, by what the texts of a run say, to this journal and
+-- this end
+abbrev pub Simulates : Inputs → Simulated → List Entry → List Entry → End → Type 0
+Simulates inputs world before J e =
+    (left : SimCell) × IsSimulated (limits_of inputs.plan) inputs.plan (sim_cell world inputs.faults) before
+    inputs.script left J e
 
-abbrev pub PartOfRounds : Bool → Plan → List Line → Option (List ℕ) → Option (List ℕ) → Type 0
-PartOfRounds journal plan script old new = PartOfRoundsFrom [] journal plan script old new
+-- the world in which a run begins with no journal before it
+abbrev pub opening_of : Inputs → Simulated
+opening_of inputs = record (opening_with inputs.plan.plates) { durations = inputs.durations }
+
+-- and where a journal leaves it
+abbrev pub world_after : Inputs → List Entry → Simulated
+world_after inputs before = left_by before inputs.plan.plates inputs.durations
+
+-- a run on one thread, from the opening on
+abbrev pub WritesRounds : Bool → Inputs → Option (List ℕ) → Option (List ℕ) → ℕ → Option Kept → Type 0
+WritesRounds journal inputs old new status run =
+    WritesSome (Simulates inputs (opening_of inputs) []) journal inputs.plan old new status run
+
+abbrev pub PartOfRounds : Bool → Inputs → Option (List ℕ) → Option (List ℕ) → Type 0
+PartOfRounds journal inputs old new = PartOfSome (Simulates inputs (opening_of inputs) []) journal old new
+
+-- the same from a journal on
+abbrev pub WritesRoundsFrom : List Entry → Bool → Inputs → Option (List ℕ) → Option (List ℕ) → ℕ → Option Kept → Type 0
+WritesRoundsFrom before journal inputs old new status run =
+    WritesSome (Simulates inputs (world_after inputs before) before) journal inputs.plan old new status run
+
+abbrev pub PartOfRoundsFrom : List Entry → Bool → Inputs → Option (List ℕ) → Option (List ℕ) → Type 0
+PartOfRoundsFrom before journal inputs old new =
+    PartOfSome (Simulates inputs (world_after inputs before) before) journal old new
 
 -- the line where some actor's entries in the journal aren't its worker's
 abbrev pub disagrees_line : List ℕ
@@ -147,41 +172,55 @@ mode_of false = mode.Rounds
 mode_of true = mode.Threads
 
 abbrev pub WritesRun : Mode → Bool → Inputs → Option (List ℕ) → Option (List ℕ) → ℕ → Option Kept → Type 0
-WritesRun mode.Rounds journal inputs old new status run =
-    WritesRounds journal inputs.plan inputs.script old new status run
+WritesRun mode.Rounds journal inputs old new status run = WritesRounds journal inputs old new status run
 WritesRun mode.Threads journal inputs old new status run =
     WritesReport journal inputs.plan inputs.script old new status run
 
--- what is printed of a run's texts, or of the first that is refused; a run is kept
-abbrev pub WritesInputs : Mode → Bool → Option (List ℕ) → Option (List ℕ) → ℕ → Option Kept → Result Inputs InputError
-    → Type 0
-WritesInputs how journal old new status run (Ok inputs) = WritesRun how journal inputs old new status run
-WritesInputs how journal old new status run (Err e) = WritesError old new (input_line e) (input_status e) status
-    × (run ≡ None)
-
--- what was written is the line of the first text that is refused, in the order settings, faults, operator, or is of a
--- run within the settings' limits, on threads or on one, whose journal, end and plan are kept
-abbrev pub KeepsRun : List ℕ → List ℕ → List ℕ → Mode → Bool → Option (List ℕ) → Option (List ℕ) → ℕ → Option Kept
-    → Type 0
-KeepsRun settings faults operator how journal old new status run =
-    (inputs : Result Inputs InputError) × AreInputs settings faults operator inputs
-    × WritesInputs how journal old new status run inputs
-
--- the same, and nothing is handed on
-abbrev pub TellsRun : List ℕ → List ℕ → List ℕ → Mode → Bool → Option (List ℕ) → Option (List ℕ) → ℕ → Type 0
-TellsRun settings faults operator how journal old new status =
-    (run : Option Kept) × KeepsRun settings faults operator how journal old new status run
-
 abbrev pub PartOfRun : Mode → Bool → Inputs → Option (List ℕ) → Option (List ℕ) → Type 0
-PartOfRun mode.Rounds journal inputs old new = PartOfRounds journal inputs.plan inputs.script old new
+PartOfRun mode.Rounds journal inputs old new = PartOfRounds journal inputs old new
 PartOfRun mode.Threads journal inputs old new = PartOfReport journal (limits_of inputs.plan) inputs.script old new
 
-abbrev pub PartOfInputs : Mode → Bool → Option (List ℕ) → Option (List ℕ) → Result Inputs InputError → Type 0
-PartOfInputs how journal old new (Ok inputs) = PartOfRun how journal inputs old new
-PartOfInputs how journal old new (Err e) = WritesPart old new (input_line e)
+-- what is printed where no text is refused, or of the first that is; what is kept of it
+abbrev pub WritesInputs : (Inputs → Option (List ℕ) → Option (List ℕ) → ℕ → Option Kept → Type 0) → Option (List ℕ)
+    → Option (List ℕ) → ℕ → Option Kept → Result Inputs InputError → Type 0
+WritesInputs Writes old new status run (Ok inputs) = Writes inputs old new status run
+WritesInputs Writes old new status run (Err e) = WritesError old new (input_line e) (input_status e) status
+    × (run ≡ None)
+
+-- the same of these three texts, whose motions take so long: the first that is refused is told in the order settings,
+-- faults, operator
+abbrev pub KeepsBy : (Inputs → Option (List ℕ) → Option (List ℕ) → ℕ → Option Kept → Type 0) → Durations → List ℕ
+    → List ℕ → List ℕ → Option (List ℕ) → Option (List ℕ) → ℕ → Option Kept → Type 0
+KeepsBy Writes timing settings faults operator old new status run =
+    (inputs : Result Inputs InputError) × AreRead timing settings faults operator inputs
+    × WritesInputs Writes old new status run inputs
+
+-- what was written is the line of the first text that is refused, or is of a run of the simulated cell within the
+-- settings' limits, on threads or on one, whose journal, end and plan are kept
+abbrev pub KeepsRun : Durations → List ℕ → List ℕ → List ℕ → Mode → Bool → Option (List ℕ) → Option (List ℕ) → ℕ
+    → Option Kept → Type 0
+KeepsRun timing settings faults operator how journal old new status run =
+    KeepsBy (WritesRun how journal) timing settings faults operator old new status run
+
+-- the same, and nothing is handed on
+abbrev pub TellsRun : Durations → List ℕ → List ℕ → List ℕ → Mode → Bool → Option (List ℕ) → Option (List ℕ) → ℕ
+    → Type 0
+TellsRun timing settings faults operator how journal old new status =
+    (run : Option Kept) × KeepsRun timing settings faults operator how journal old new status run
+
+-- a first part of what is printed of these inputs, or of the first text that is refused, was written, and not all of it
+abbrev pub PartOfInputs : (Inputs → Option (List ℕ) → Option (List ℕ) → Type 0) → Option (List ℕ) → Option (List ℕ)
+    → Result Inputs InputError → Type 0
+PartOfInputs Part old new (Ok inputs) = Part inputs old new
+PartOfInputs Part old new (Err e) = WritesPart old new (input_line e)
+
+abbrev pub TellsPartBy : (Inputs → Option (List ℕ) → Option (List ℕ) → Type 0) → Durations → List ℕ → List ℕ → List ℕ
+    → Option (List ℕ) → Option (List ℕ) → Type 0
+TellsPartBy Part timing settings faults operator old new =
+    (inputs : Result Inputs InputError) × AreRead timing settings faults operator inputs
+    × PartOfInputs Part old new inputs
 
 -- a first part of what is printed of these texts was written, and not all of it
-abbrev pub TellsPart : List ℕ → List ℕ → List ℕ → Mode → Bool → Option (List ℕ) → Option (List ℕ) → Type 0
-TellsPart settings faults operator how journal old new =
-    (inputs : Result Inputs InputError) × AreInputs settings faults operator inputs
-    × PartOfInputs how journal old new inputs
+abbrev pub TellsPart : Durations → List ℕ → List ℕ → List ℕ → Mode → Bool → Option (List ℕ) → Option (List ℕ) → Type 0
+TellsPart timing settings faults operator how journal old new =
+    TellsPartBy (PartOfRun how journal) timing settings faults operator old new

@@ -8,8 +8,9 @@ use Rattle.cell_rules.specs.Legal.{first_of, legal}
 use Rattle.cell_audit.specs.declared.error.AuditError.{AuditError}
 use Rattle.cell_audit.specs.declared.error.AuditError.TheVariants as audit
 use Rattle.cell_audit.specs.Lines.{WritesAnswer, lines_of}
+use Rattle.cell_measures.specs.declared.durations.Durations.{Durations}
 use Rattle.cell_output.specs.Watched.{WritesPart}
-use Rattle.cell_runs.specs.Inputs.{AreInputs, WritesError, input_line, input_status}
+use Rattle.cell_runs.specs.Inputs.{AreRead, WritesError, input_line, input_status}
 use Rattle.cell_runs.specs.Runs.{Kept, PartOfRoundsFrom, WritesRoundsFrom, limits_of}
 use Rattle.cell_runs.specs.Told.{AreEntries, PartOfRefused, TellsRefused}
 use Rattle.cell_runs.specs.declared.inputs.Inputs.{Inputs}
@@ -48,13 +49,13 @@ PartOfExceeded l J old new = (e : AuditError) × IsExceeded l J e × WritesPart 
 -- they refuse an entry of the journal, and nothing runs
 abbrev pub GoesOn : Bool → Inputs → List Entry → Option (List ℕ) → Option (List ℕ) → ℕ → Option Kept → Type 0
 GoesOn alone inputs before old new status run =
-    WritesRoundsFrom before alone inputs.plan inputs.script old new status run
+    WritesRoundsFrom before alone inputs old new status run
     ⊎ (TellsExceeded (limits_of inputs.plan) before old new status × (run ≡ None))
 
 -- a first part of what is printed of that was written, and not all of it
 abbrev pub PartOfGoingOn : Bool → Inputs → List Entry → Option (List ℕ) → Option (List ℕ) → Type 0
 PartOfGoingOn alone inputs before old new =
-    PartOfRoundsFrom before alone inputs.plan inputs.script old new
+    PartOfRoundsFrom before alone inputs old new
     ⊎ PartOfExceeded (limits_of inputs.plan) before old new
 
 -- what is printed where the texts of a run are good, or of the first that is refused: a run goes on from a journal's
@@ -69,16 +70,17 @@ GoesOnBy text alone old new status run (Err e) = WritesError old new (input_line
 
 -- what was written is the line of the first text that is refused, in the order settings, faults, operator, journal, or
 -- of an entry of the journal that the settings' limits refuse, or is of a run from the journal on, which is kept
-abbrev pub KeepsRunFrom : List ℕ → List ℕ → List ℕ → List ℕ → Bool → Option (List ℕ) → Option (List ℕ) → ℕ
-    → Option Kept → Type 0
-KeepsRunFrom text settings faults operator alone old new status run =
-    (inputs : Result Inputs InputError) × AreInputs settings faults operator inputs
+abbrev pub KeepsRunFrom : Durations → List ℕ → List ℕ → List ℕ → List ℕ → Bool → Option (List ℕ) → Option (List ℕ)
+    → ℕ → Option Kept → Type 0
+KeepsRunFrom timing text settings faults operator alone old new status run =
+    (inputs : Result Inputs InputError) × AreRead timing settings faults operator inputs
     × GoesOnBy text alone old new status run inputs
 
 -- the same, and nothing is handed on
-abbrev pub TellsRunFrom : List ℕ → List ℕ → List ℕ → List ℕ → Bool → Option (List ℕ) → Option (List ℕ) → ℕ → Type 0
-TellsRunFrom text settings faults operator alone old new status =
-    (run : Option Kept) × KeepsRunFrom text settings faults operator alone old new status run
+abbrev pub TellsRunFrom : Durations → List ℕ → List ℕ → List ℕ → List ℕ → Bool → Option (List ℕ) → Option (List ℕ)
+    → ℕ → Type 0
+TellsRunFrom timing text settings faults operator alone old new status =
+    (run : Option Kept) × KeepsRunFrom timing text settings faults operator alone old new status run
 
 abbrev pub PartOfInputsFrom : List ℕ → Bool → Option (List ℕ) → Option (List ℕ) → Result Inputs InputError → Type 0
 PartOfInputsFrom text alone old new (Ok inputs) =
@@ -87,7 +89,8 @@ PartOfInputsFrom text alone old new (Ok inputs) =
 PartOfInputsFrom text alone old new (Err e) = WritesPart old new (input_line e)
 
 -- a first part of what is printed of these texts was written, and not all of it
-abbrev pub TellsPartFrom : List ℕ → List ℕ → List ℕ → List ℕ → Bool → Option (List ℕ) → Option (List ℕ) → Type 0
-TellsPartFrom text settings faults operator alone old new =
-    (inputs : Result Inputs InputError) × AreInputs settings faults operator inputs
+abbrev pub TellsPartFrom : Durations → List ℕ → List ℕ → List ℕ → List ℕ → Bool → Option (List ℕ) → Option (List ℕ)
+    → Type 0
+TellsPartFrom timing text settings faults operator alone old new =
+    (inputs : Result Inputs InputError) × AreRead timing settings faults operator inputs
     × PartOfInputsFrom text alone old new inputs

@@ -13,11 +13,11 @@ ghost use Rattle.cell_runs.specs.Rounds.{Reaches, place};
 ghost use Rattle.cell_runs.specs.Followed.{Acts, Ends, EndsAt, Halts, IsFollowed};
 ghost use Rattle.cell_runs.specs.Runs.{limits_of};
 
-use crate::booking::empty_book;
 use crate::steps::{Progress, act, take_step};
 use cell_journal::Journal;
 use cell_ledger::{Blanks, Kept, Run};
 use cell_plant::Ported;
+use cell_turns::empty_book;
 use cell_types::same::is_entry;
 use cell_types::{Actor, Entry, Machine, actor_of};
 use cell_workers::{End, OperatorPort, Plan, Port, Ports, Ran, Step, Watches};

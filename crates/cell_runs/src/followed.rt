@@ -15,30 +15,11 @@ use crate::report::write_counts;
 use cell_audit::{WriteError, write_journal_watched};
 use cell_journal::Journal;
 use cell_output::{WatchedWriter, WriteFault, status};
-use cell_types::{Entry, Field, Totals, spell};
+use cell_types::{Entry, Totals, spell};
 use cell_workers::End;
 use std::alloc::{AllocError, Global};
 use std::fmt;
 use std::io::Write;
-
-// A field of a record, as it is written.
-#[derive(Clone, Copy)]
-struct Written(Field);
-
-impl fmt::Display for Written {
-    ghost use Rattle.std.specs.Prelude.{Some};
-    ghost use Rattle.cell_types.specs.Spelling.{text_of as field_text};
-
-    ghost output = { λ field. Some (field_text field.0) };
-
-    fn fmt<W: fmt::Write>(&self, f: &mut fmt::Formatter<W>) -> fmt::Result {
-        match self.0 {
-            Field::Word(word) => write!(f, "{word}"),
-            Field::Number(number) => write!(f, "{number}"),
-            Field::Blank => write!(f, ""),
-        }
-    }
-}
 
 // An entry, as its line in a journal's text without the line feed.
 #[derive(Clone, Copy)]
@@ -52,14 +33,7 @@ impl fmt::Display for Spelled {
 
     fn fmt<W: fmt::Write>(&self, f: &mut fmt::Formatter<W>) -> fmt::Result {
         let [kind, first, second, third] = spell(self.0);
-        write!(
-            f,
-            "{},{},{},{}",
-            Written(kind),
-            Written(first),
-            Written(second),
-            Written(third)
-        )
+        write!(f, "{kind},{first},{second},{third}")
     }
 }
 

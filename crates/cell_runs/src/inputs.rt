@@ -2,6 +2,7 @@
 ghost use Rattle.std.specs.Prelude.{◌≡◌, IfOk};
 ghost use Rattle.cell_measures.specs.Times.{duration};
 ghost use Rattle.cell_measures.specs.declared.motion.Move.{Move};
+ghost use Rattle.cell_sim.specs.Simulated.{one_each};
 ghost use Rattle.cell_runs.specs.Inputs.{AreInputs};
 
 use cell_measures::Durations;
@@ -29,6 +30,7 @@ impl<'a> Texts<'a> {
         ensures faults { result.faults.now ≡ faults.entry.now }
         ensures operator { result.operator.now ≡ operator.entry.now }
         ensures durations { (motion : Move) → duration result.durations motion ≡ 1 }
+        ensures short { result.durations ≡ one_each }
     {
         Texts {
             settings,

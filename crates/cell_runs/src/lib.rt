@@ -17,7 +17,8 @@ mod simulation;
 mod steps;
 mod texts;
 
-pub use booking::{book_after, empty_book};
+pub use booking::book_after;
+pub use cell_turns::empty_book;
 pub use follow::{Followed, Following};
 pub use following::follow_after;
 pub use inputs::{InputError, Inputs, Texts, read_inputs};
@@ -25,5 +26,5 @@ pub use ports::sim_ports;
 pub use refused::refuse_input;
 pub use rounds::{Outcome, run_over};
 pub use run_from::run_after;
-pub use simulation::{follow_journal, run_on, simulate};
+pub use simulation::{follow_journal, run_on, simulate, simulate_from};
 pub use texts::{KeptRun, Left, Mode, keep_outcome, run_kept, run_texts};

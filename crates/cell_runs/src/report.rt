@@ -3,14 +3,13 @@ ghost use Rattle.std.specs.Prelude.{◌≡◌, List, map, IfOk, IsErr, OnOk, Som
 ghost use Rattle.std.specs.Io.KnownBytes.{Appends};
 ghost use Rattle.cell_output.specs.Watched.{IsSameWriter, WritesPart, bytes_held, has_refused};
 ghost use Rattle.cell_types.specs.declared.words.Entry.{Entry as EntryValue};
+ghost use Rattle.cell_rules.specs.Views.{count_of};
 ghost use Rattle.cell_rules.specs.declared.limits.BookLimits.{BookLimits};
 ghost use Rattle.cell_ports.specs.declared.plan.Plan.{Plan as PlanValue};
 ghost use Rattle.cell_workers.specs.Report.{IsReport};
 ghost use Rattle.operator_desk.specs.declared.line.Line.{Line};
-ghost use Rattle.cell_runs.specs.Rounds.{IsRunFrom};
-ghost use Rattle.cell_runs.specs.Runs.{PartOfReport, PartOfRoundsFrom, PrintsOrStops, WritesReport, WritesRoundsFrom};
-ghost use Rattle.cell_runs.specs.Runs.{WritesRunError, counts_after, disagrees_line, kept, limits_of, shown, status_of};
-ghost use Rattle.cell_runs.specs.Runs.{word_of};
+ghost use Rattle.cell_runs.specs.Runs.{PartOfReport, PrintsOrStops, WritesReport, WritesRunError, counts_after};
+ghost use Rattle.cell_runs.specs.Runs.{disagrees_line, kept, limits_of, shown, status_of, word_of};
 
 use crate::rounds::Outcome;
 use cell_audit::{WriteError, write_journal_watched};
@@ -113,14 +112,10 @@ pub fn write_outcome<W: Write>(
     writer: &mut WatchedWriter<'_, W>,
 ) -> Result<u8, WriteFault>
     ensures writer { IsSameWriter writer.old writer.new }
-    ensures whole { IfOk result (λ status. (before : List EntryValue) (plan : PlanValue) (script : List Line)
-        → IsRunFrom (limits_of plan) plan before script outcome.now.book.entries outcome.now.end
-        → WritesRoundsFrom before journal plan script (bytes_held W.contents writer.old)
-        (bytes_held W.contents writer.new) status (Some (kept outcome.now.book.entries outcome.now.end plan))) }
-    ensures part { IsErr result → (before : List EntryValue) (plan : PlanValue) (script : List Line)
-        → IsRunFrom (limits_of plan) plan before script outcome.now.book.entries outcome.now.end
-        → PartOfRoundsFrom before journal plan script (bytes_held W.contents writer.old)
-        (bytes_held W.contents writer.new) }
+    ensures whole { IfOk result (PrintsOrStops journal outcome.now.end (count_of outcome.now.book.entries)
+        outcome.now.book.entries (bytes_held W.contents writer.old) (bytes_held W.contents writer.new)) }
+    ensures part { IsErr result → WritesPart (bytes_held W.contents writer.old) (bytes_held W.contents writer.new)
+        (shown journal outcome.now.end (count_of outcome.now.book.entries) outcome.now.book.entries) }
     ensures fault { IsErr result → has_refused writer.new ≡ true }
 {
     outcome.book.is_lawful();

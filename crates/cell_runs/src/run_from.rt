@@ -9,22 +9,21 @@ ghost use Rattle.cell_runs.specs.Told.{IsRead};
 use crate::booking::book_after;
 use crate::following::tell_refused;
 use crate::inputs::{Inputs, Texts, read_inputs};
-use crate::ports::sim_ports;
 use crate::refused::refuse_input;
-use crate::simulation::run_on;
+use crate::simulation::simulate_from;
 use crate::texts::{Left, keep_outcome};
 use cell_audit::{Audited, write_answer};
 use cell_journal::Journal;
 use cell_output::{WatchedWriter, WriteFault};
-use cell_plant::Ported;
-use cell_sim::{SimOperator, World};
+use cell_sim::World;
 use plate_book::Book;
+use sim_plant::SimPlant;
+use std::alloc::Global;
 use std::io::Write;
-use std::sync::{Mutex, Wait};
 
 // Runs the simulated cell in rounds from where a book's journal left it, writes what comes of it, and keeps the run.
-fn write_run_from<R: AllocGlobal + Wait, W: Write>(
-    rt: &R,
+fn write_run_from<W: Write>(
+    alloc: Global,
     inputs: Inputs,
     book: Book,
     journal: bool,
@@ -32,10 +31,10 @@ fn write_run_from<R: AllocGlobal + Wait, W: Write>(
 ) -> Result<(u8, Left), WriteFault>
     requires { book.limits ≡ limits_of inputs.plan }
     ensures writer { IsSameWriter writer.old writer.new }
-    ensures whole { IfOk result (λ ran. WritesRoundsFrom book.entries journal inputs.plan inputs.script
-        (bytes_held W.contents writer.old) (bytes_held W.contents writer.new) ran.0 (kept_of ran.1)) }
-    ensures part { IsErr result → PartOfRoundsFrom book.entries journal inputs.plan inputs.script
-        (bytes_held W.contents writer.old) (bytes_held W.contents writer.new) }
+    ensures whole { IfOk result (λ ran. WritesRoundsFrom book.entries journal inputs (bytes_held W.contents writer.old)
+        (bytes_held W.contents writer.new) ran.0 (kept_of ran.1)) }
+    ensures part { IsErr result → PartOfRoundsFrom book.entries journal inputs (bytes_held W.contents writer.old)
+        (bytes_held W.contents writer.new) }
     ensures fault { IsErr result → has_refused writer.new ≡ true }
 {
     let Inputs {
@@ -44,19 +43,16 @@ fn write_run_from<R: AllocGlobal + Wait, W: Write>(
         script,
         durations,
     } = inputs;
-    let world = Mutex::new(World::from_book(&book, plan.plates, &durations));
-    let mut cell = Ported {
-        ports: sim_ports(rt, &world, &faults),
-        hands: SimOperator::new(rt, &world),
-    };
-    let outcome = run_on(rt.alloc(), book, &mut cell, script, &plan);
-    let (status, run) = keep_outcome(rt.alloc(), outcome, plan, journal, writer)?;
+    let world = World::from_book(&book, plan.plates, &durations);
+    let mut cell = SimPlant::new(world, &faults);
+    let outcome = simulate_from(alloc, book, &mut cell, script, &plan);
+    let (status, run) = keep_outcome(alloc, outcome, plan, journal, writer)?;
     Ok((status, Left::Run(run)))
 }
 
 // Runs the simulated cell from a journal on, or tells that the settings' limits refuse an entry of it.
-fn go_on<R: AllocGlobal + Wait, W: Write>(
-    rt: &R,
+fn go_on<W: Write>(
+    alloc: Global,
     before: &Journal,
     inputs: Inputs,
     journal: bool,
@@ -69,15 +65,15 @@ fn go_on<R: AllocGlobal + Wait, W: Write>(
         (bytes_held W.contents writer.new) }
     ensures fault { IsErr result → has_refused writer.new ≡ true }
 {
-    match book_after(rt.alloc(), &inputs.plan, before) {
-        Ok(book) => write_run_from(rt, inputs, book, journal, writer),
+    match book_after(alloc, &inputs.plan, before) {
+        Ok(book) => write_run_from(alloc, inputs, book, journal, writer),
         Err(why) => Ok((write_answer(writer, Err(why))?, Left::Nothing)),
     }
 }
 
 // Runs the simulated cell from a journal that was read on, or tells that it is refused or can't be read.
-fn go_on_read<R: AllocGlobal + Wait, W: Write>(
-    rt: &R,
+fn go_on_read<W: Write>(
+    alloc: Global,
     before: &Audited,
     inputs: Inputs,
     journal: bool,
@@ -93,7 +89,7 @@ fn go_on_read<R: AllocGlobal + Wait, W: Write>(
     ensures fault { IsErr result → has_refused writer.new ≡ true }
 {
     match before.answer {
-        Ok(_) => go_on(rt, before.book.journal(), inputs, journal, writer),
+        Ok(_) => go_on(alloc, before.book.journal(), inputs, journal, writer),
         Err(why) => Ok((tell_refused(why, writer)?, Left::Nothing)),
     }
 }
@@ -111,8 +107,8 @@ fn go_on_read<R: AllocGlobal + Wait, W: Write>(
 /// journal's text is written, a first part of that text was, status 4.
 ///
 /// It gives besides the exit status what the run left, as `run_kept` does.
-pub fn run_after<R: AllocGlobal + Wait, W: Write>(
-    rt: &R,
+pub fn run_after<W: Write>(
+    alloc: Global,
     before: &Audited,
     texts: Texts<'_>,
     journal: bool,
@@ -121,18 +117,18 @@ pub fn run_after<R: AllocGlobal + Wait, W: Write>(
     ensures writer { IsSameWriter writer.old writer.new }
     // What is written, and the journal, the end and the plan are those of each text of which this was read.
     ensures whole { (text : List ℕ) → IsRead before.now text
-        → IfOk result (λ ran. KeepsRunFrom text texts.entry.settings.now texts.entry.faults.now
+        → IfOk result (λ ran. KeepsRunFrom texts.entry.durations text texts.entry.settings.now texts.entry.faults.now
         texts.entry.operator.now journal (bytes_held W.contents writer.old) (bytes_held W.contents writer.new) ran.0
         (kept_of ran.1)) }
     // Where the writer failed, a first part of that was written.
     ensures part { (text : List ℕ) → IsRead before.now text → IsErr result
-        → TellsPartFrom text texts.entry.settings.now texts.entry.faults.now texts.entry.operator.now journal
-        (bytes_held W.contents writer.old) (bytes_held W.contents writer.new) }
+        → TellsPartFrom texts.entry.durations text texts.entry.settings.now texts.entry.faults.now
+        texts.entry.operator.now journal (bytes_held W.contents writer.old) (bytes_held W.contents writer.new) }
     // It answers that the writer failed only where a write was refused.
     ensures fault { IsErr result → has_refused writer.new ≡ true }
 {
-    match read_inputs(rt.alloc(), texts) {
-        Ok(inputs) => go_on_read(rt, before, inputs, journal, writer),
+    match read_inputs(alloc, texts) {
+        Ok(inputs) => go_on_read(alloc, before, inputs, journal, writer),
         Err(refused) => Ok((refuse_input(writer, refused)?, Left::Nothing)),
     }
 }

@@ -1,12 +1,11 @@
 //! A run by its texts.
-ghost use Rattle.std.specs.Prelude.{◌≡◌, ◌↔◌, List, IfOk, IsErr, None, Some, true};
-ghost use Rattle.cell_types.specs.declared.words.Entry.{Entry as EntryValue};
-ghost use Rattle.cell_output.specs.Watched.{IsSameWriter, bytes_held, has_refused};
-ghost use Rattle.operator_desk.specs.declared.line.Line.{Line};
-ghost use Rattle.cell_runs.specs.Rounds.{IsRunFrom};
-ghost use Rattle.cell_runs.specs.Runs.{KeepsRun, LacksThread, PartOfReport, PartOfRounds, PartOfRoundsFrom, TellsPart};
-ghost use Rattle.cell_runs.specs.Runs.{TellsRun, WritesReport, WritesRounds, WritesRoundsFrom, kept, kept_of, kept_run};
-ghost use Rattle.cell_runs.specs.Runs.{limits_of, mode_of};
+ghost use Rattle.std.specs.Prelude.{◌≡◌, ◌↔◌, IfOk, IsErr, None, true};
+ghost use Rattle.cell_rules.specs.Views.{count_of};
+ghost use Rattle.cell_output.specs.Watched.{IsSameWriter, WritesPart, bytes_held, has_refused};
+ghost use Rattle.cell_sim.specs.Simulated.{one_each};
+ghost use Rattle.cell_runs.specs.Runs.{KeepsRun, LacksThread, PartOfReport, PartOfRounds, PrintsOrStops, TellsPart};
+ghost use Rattle.cell_runs.specs.Runs.{TellsRun, WritesReport, WritesRounds, kept, kept_of, kept_run, limits_of};
+ghost use Rattle.cell_runs.specs.Runs.{mode_of, shown};
 
 use crate::inputs::{Inputs, Texts, read_inputs};
 use crate::ports::sim_ports;
@@ -18,6 +17,7 @@ use cell_journal::Journal;
 use cell_output::{WatchedWriter, WriteFault, status};
 use cell_sim::{SimOperator, World};
 use cell_workers::{End, Plan, Report, RunError, run_cell};
+use sim_plant::SimPlant;
 use std::alloc::{AllocError, Global};
 use std::io::Write;
 use std::sync::{Mutex, Wait};
@@ -74,16 +74,12 @@ pub fn keep_outcome<W: Write>(
 ) -> Result<(u8, KeptRun), WriteFault>
     ensures writer { IsSameWriter writer.old writer.new }
     ensures run { IfOk result (λ ran. kept_run ran.1 ≡ kept outcome.book.entries outcome.end plan) }
-    // What is written is of the run that led from some journal to this outcome by some script.
-    ensures whole { IfOk result (λ ran. (before : List EntryValue) (script : List Line)
-        → IsRunFrom (limits_of plan) plan before script outcome.book.entries outcome.end
-        → WritesRoundsFrom before journal plan script (bytes_held W.contents writer.old)
-        (bytes_held W.contents writer.new) ran.0 (Some (kept_run ran.1))) }
+    // What is written is of this outcome.
+    ensures whole { IfOk result (λ ran. PrintsOrStops journal outcome.end (count_of outcome.book.entries)
+        outcome.book.entries (bytes_held W.contents writer.old) (bytes_held W.contents writer.new) ran.0) }
     // Where the writer failed, a first part of that was written.
-    ensures part { IsErr result → (before : List EntryValue) (script : List Line)
-        → IsRunFrom (limits_of plan) plan before script outcome.book.entries outcome.end
-        → PartOfRoundsFrom before journal plan script (bytes_held W.contents writer.old)
-        (bytes_held W.contents writer.new) }
+    ensures part { IsErr result → WritesPart (bytes_held W.contents writer.old) (bytes_held W.contents writer.new)
+        (shown journal outcome.end (count_of outcome.book.entries) outcome.book.entries) }
     // It answers that the writer failed only where a write was refused.
     ensures fault { IsErr result → has_refused writer.new ≡ true }
 {
@@ -94,18 +90,18 @@ pub fn keep_outcome<W: Write>(
 }
 
 // Runs the simulated cell over a new world in rounds, writes what comes of it, and keeps the run.
-fn write_rounds<R: AllocGlobal + Wait, W: Write>(
-    rt: &R,
+fn write_rounds<W: Write>(
+    alloc: Global,
     inputs: Inputs,
     journal: bool,
     writer: &mut WatchedWriter<'_, W>,
 ) -> Result<(u8, Left), WriteFault>
     ensures writer { IsSameWriter writer.old writer.new }
-    ensures whole { IfOk result (λ ran. WritesRounds journal inputs.plan inputs.script
-        (bytes_held W.contents writer.old) (bytes_held W.contents writer.new) ran.0 (kept_of ran.1)) }
+    ensures whole { IfOk result (λ ran. WritesRounds journal inputs (bytes_held W.contents writer.old)
+        (bytes_held W.contents writer.new) ran.0 (kept_of ran.1)) }
     ensures thread { IfOk result (λ ran. LacksThread ran.1 (bytes_held W.contents writer.old)
         (bytes_held W.contents writer.new) ran.0) }
-    ensures part { IsErr result → PartOfRounds journal inputs.plan inputs.script (bytes_held W.contents writer.old)
+    ensures part { IsErr result → PartOfRounds journal inputs (bytes_held W.contents writer.old)
         (bytes_held W.contents writer.new) }
     ensures fault { IsErr result → has_refused writer.new ≡ true }
 {
@@ -115,11 +111,11 @@ fn write_rounds<R: AllocGlobal + Wait, W: Write>(
         script,
         durations,
     } = inputs;
-    let world = Mutex::new(World::new(plan.plates).with_durations(durations));
-    let hands = SimOperator::new(rt, &world);
-    match simulate(rt, &plan, &faults, script, &world, hands) {
+    let world = World::new(plan.plates).with_durations(durations);
+    let mut cell = SimPlant::new(world, &faults);
+    match simulate(alloc, &mut cell, script, &plan) {
         Ok(outcome) => {
-            let (status, run) = keep_outcome(rt.alloc(), outcome, plan, journal, writer)?;
+            let (status, run) = keep_outcome(alloc, outcome, plan, journal, writer)?;
             Ok((status, Left::Run(run)))
         }
         Err(AllocError) => Ok((status::OUT_OF_MEMORY, Left::Nothing)),
@@ -184,21 +180,21 @@ pub fn run_kept<R: AllocGlobal + Threads + Wait + Sync, W: Write>(
     ensures writer { IsSameWriter writer.old writer.new }
     // What is written is of the first text that is refused, or of a run within the settings' limits. The journal, the
     // end and the plan are those of the run which was written.
-    ensures whole { IfOk result (λ ran. KeepsRun texts.entry.settings.now texts.entry.faults.now
+    ensures whole { IfOk result (λ ran. KeepsRun texts.entry.durations texts.entry.settings.now texts.entry.faults.now
         texts.entry.operator.now mode journal (bytes_held W.contents writer.old) (bytes_held W.contents writer.new)
         ran.0 (kept_of ran.1)) }
     // That a thread could not be started is told only where nothing was written, with status 4.
     ensures thread { IfOk result (λ ran. LacksThread ran.1 (bytes_held W.contents writer.old)
         (bytes_held W.contents writer.new) ran.0) }
     // Where the writer failed, a first part of that was written.
-    ensures part { IsErr result → TellsPart texts.entry.settings.now texts.entry.faults.now texts.entry.operator.now
-        mode journal (bytes_held W.contents writer.old) (bytes_held W.contents writer.new) }
+    ensures part { IsErr result → TellsPart texts.entry.durations texts.entry.settings.now texts.entry.faults.now
+        texts.entry.operator.now mode journal (bytes_held W.contents writer.old) (bytes_held W.contents writer.new) }
     // It answers that the writer failed only where a write was refused.
     ensures fault { IsErr result → has_refused writer.new ≡ true }
 {
     match read_inputs(rt.alloc(), texts) {
         Ok(inputs) => match mode {
-            Mode::Rounds => write_rounds(rt, inputs, journal, writer),
+            Mode::Rounds => write_rounds(rt.alloc(), inputs, journal, writer),
             Mode::Threads => write_threads(rt, inputs, journal, writer),
         },
         Err(error) => Ok((refuse_input(writer, error)?, Left::Nothing)),
@@ -226,10 +222,10 @@ pub fn run_texts<R: AllocGlobal + Threads + Wait + Sync, W: Write>(
     writer: &mut W,
 ) -> Result<u8, WriteFault>
     // What is written is of the first text that is refused, or of a run within the settings' limits.
-    ensures whole { IfOk result (TellsRun settings.now faults.now operator.now (mode_of threads) journal
+    ensures whole { IfOk result (TellsRun one_each settings.now faults.now operator.now (mode_of threads) journal
         (W.contents writer.old) (W.contents writer.new)) }
     // Where the writer failed, a first part of that was written.
-    ensures part { IsErr result → TellsPart settings.now faults.now operator.now (mode_of threads) journal
+    ensures part { IsErr result → TellsPart one_each settings.now faults.now operator.now (mode_of threads) journal
         (W.contents writer.old) (W.contents writer.new) }
 {
     let texts = Texts::new(settings, faults, operator);

@@ -1,5 +1,6 @@
 //! The simulated cell: machines that move, show their switches and sensors and go wrong by a script, and the hands that
-//! clear and repair them. Its physics is this project's own profile. No clause says how the world moves: tests show it.
+//! clear and repair them. Its physics is this project's own profile: each call of a world has a clause that says what
+//! the world is after it. Of a world behind a lock none does.
 #![tactic(auto)]
 
 mod axis;

@@ -19,3 +19,15 @@ Answers faults old new (Refused task why) = new ≡ old
 Answers faults old new (Wished wish) = (wish ≡ None) × (new ≡ old)
 Answers faults old new (Replied reply ok) = (ok ≡ true) × (new ≡ old)
 Answers faults old new (Closed ok) = (ok ≡ true) × (new ≡ after_round old)
+
+-- a simulated cell: its world, and the faults of its motions
+pub record SimCell : Type 0 where
+  pub world : Simulated
+  pub faults : List PlannedFault
+
+abbrev pub sim_cell : Simulated → List PlannedFault → SimCell
+sim_cell world faults = record { world = world; faults = faults }
+
+-- it answers so, and its faults stay as they are
+abbrev pub AnswersSo : SimCell → SimCell → Asked → Type 0
+AnswersSo old new asked = (new.faults ≡ old.faults) × Answers old.faults old.world new.world asked

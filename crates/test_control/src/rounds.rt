@@ -93,10 +93,7 @@ fn controlled_alone<R: AllocGlobal + Abort>(rt: &R, texts: Three) -> Outcome {
         script,
         ..
     } = inputs_of(rt, texts);
-    let mut plant = SimPlant {
-        world: World::new(plan.plates),
-        faults,
-    };
+    let mut plant = SimPlant::new(World::new(plan.plates), &faults);
     run_on(rt, &mut plant, &mut Unkept, script, &plan)
 }
 

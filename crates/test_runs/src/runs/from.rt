@@ -5,19 +5,18 @@ use crate::runs::follow::RUNS;
 use crate::runs::rounds::{check_world, read_case, told};
 use cell_audit::{audit, read_rows};
 use cell_output::{WatchedWriter, WriteFault};
-use cell_plant::Ported;
 use cell_rows::RowReader;
-use cell_runs::{Inputs, Texts, book_after, read_inputs, run_after, run_on, sim_ports};
-use cell_sim::{SimOperator, World};
+use cell_runs::{Inputs, Texts, book_after, read_inputs, run_after, simulate_from};
+use cell_sim::World;
 use cell_workers::End;
+use sim_plant::SimPlant;
 use std::io::Write;
 use std::process::Abort;
-use std::sync::{Mutex, Wait};
 use std::test::Fail;
 use test_samples::{CLEARED_PRESS, FailingWriter, ONE_PLATE, STUCK_PRESS, text_of};
 
 // The status where a run goes on from a journal by these three texts, or that the writer failed.
-fn go_on<R: AllocGlobal + Abort + Wait, W: Write>(
+fn go_on<R: AllocGlobal + Abort, W: Write>(
     rt: &R,
     journal: &[u8],
     [settings, faults, operator]: [&[u8]; 3],
@@ -28,13 +27,13 @@ fn go_on<R: AllocGlobal + Abort + Wait, W: Write>(
     let before = read_rows(rt.alloc(), &mut rows).ok().expect(rt, "memory");
     let texts = Texts::new(settings, faults, operator);
     let mut writer = WatchedWriter::new(writer);
-    let (status, _) = run_after(rt, &before, texts, alone, &mut writer)?;
+    let (status, _) = run_after(rt.alloc(), &before, texts, alone, &mut writer)?;
     Ok(status)
 }
 
 // What is printed where a run goes on from a journal by these three texts, or the whole journal's text. It has to end
 // with this status.
-fn gone_on<R: AllocGlobal + Abort + Wait>(
+fn gone_on<R: AllocGlobal + Abort>(
     rt: &R,
     journal: &[u8],
     texts: [&[u8]; 3],
@@ -63,7 +62,7 @@ fn from_an_empty_journal_it_is_a_run_from_the_opening(rt: HostRuntime) -> Result
 }
 
 // A run that goes on from a journal in a watched world has to finish, and to break no rule.
-fn check_watched<R: AllocGlobal + Abort + Wait>(
+fn check_watched<R: AllocGlobal + Abort>(
     rt: &R,
     journal: &[u8],
     [settings, faults, operator]: [&[u8]; 3],
@@ -81,14 +80,10 @@ fn check_watched<R: AllocGlobal + Abort + Wait>(
     } = inputs;
     let book = book_after(alloc, &plan, reading.book.journal()).expect(rt, case);
     let world = World::from_book(&book, plan.plates, &durations).with_watch();
-    let world = Mutex::new(world);
-    let mut cell = Ported {
-        ports: sim_ports(rt, &world, &faults),
-        hands: SimOperator::new(rt, &world),
-    };
-    let outcome = run_on(alloc, book, &mut cell, script, &plan);
+    let mut cell = SimPlant::new(world, &faults);
+    let outcome = simulate_from(alloc, book, &mut cell, script, &plan);
     assert!(rt; outcome.end == End::Finished, "{case}");
-    check_world(rt, &world.lock(rt), case);
+    check_world(rt, cell.world(), case);
 }
 
 // The first so many lines of a text.
@@ -107,7 +102,7 @@ fn lines_of(text: &[u8], count: usize) -> &[u8] {
 
 // From the first lines of its journal on, so many and each few more, a run without faults has to come to the same
 // totals. Its own journal begins with them and is legal.
-fn check_parts<R: AllocGlobal + Abort + Wait>(
+fn check_parts<R: AllocGlobal + Abort>(
     rt: &R,
     whole: &[u8],
     texts: [&[u8]; 3],
@@ -180,7 +175,7 @@ fn has_record(text: &[u8], record: &str) -> bool {
 }
 
 // A run that goes on from a worked journal has to print what the case says, and to book its record.
-fn check_worked<R: AllocGlobal + Abort + Wait>(rt: &R, case: &str) -> Result<(), Fail> {
+fn check_worked<R: AllocGlobal + Abort>(rt: &R, case: &str) -> Result<(), Fail> {
     let (count, rest) = case.split_once('|').unwrap_or(("", ""));
     let (more, rest) = rest.split_once('|').unwrap_or(("", ""));
     let count = count.parse::<usize>().unwrap_or(0).min(ONE_PLATE.len());
@@ -242,7 +237,7 @@ const REFUSED: [&str; 9] = [
 ];
 
 // The line of a case has to be printed, whether the journal is wanted or not.
-fn check_first<R: AllocGlobal + Abort + Wait>(rt: &R, case: &str, alone: bool) {
+fn check_first<R: AllocGlobal + Abort>(rt: &R, case: &str, alone: bool) {
     let mut parts = case.split('|');
     let journal = parts.next().unwrap_or("").as_bytes();
     let settings = parts.next().unwrap_or("").as_bytes();
@@ -262,7 +257,7 @@ fn the_first_text_that_is_refused_is_told(rt: HostRuntime) {
 }
 
 // A run that goes on from a whole journal has to answer this over a writer that fails after so many bytes.
-fn check_cut<R: AllocGlobal + Abort + Wait>(
+fn check_cut<R: AllocGlobal + Abort>(
     rt: &R,
     journal: &[u8],
     left: usize,

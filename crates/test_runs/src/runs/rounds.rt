@@ -6,12 +6,13 @@ mod returns;
 
 use cell_audit::{audit, write_journal};
 use cell_runs::{Inputs, Outcome, Texts, read_inputs, run_texts, simulate};
-use cell_sim::{SAFETY_RULES, SimOperator, World};
+use cell_sim::{SAFETY_RULES, World};
 use cell_types::{STATIONS, Totals};
 use cell_workers::End;
+use sim_plant::SimPlant;
 use std::alloc::{AllocError, Global};
 use std::process::Abort;
-use std::sync::{Mutex, Wait};
+use std::sync::Wait;
 use std::thread::Threads;
 
 // A case of a run: the settings, the script of faults, the operator's script, the exit status, what is printed, and how
@@ -97,31 +98,20 @@ pub(crate) fn check_world(rt: &impl Abort, world: &World, case: &str) {
     );
 }
 
-// What a run in a world comes to.
-fn simulated<'a, R: AllocGlobal + Wait + Abort>(
-    rt: &'a R,
-    inputs: Inputs,
-    world: &'a Mutex<World>,
-    case: &str,
-) -> Outcome {
+// What a run over a watched world of its own comes to.
+fn run_in_world<R: AllocGlobal + Abort>(rt: &R, texts: [&[u8]; 3], case: &str) -> Outcome {
+    let [settings, lines, operator] = texts;
+    let inputs = read_inputs(rt.alloc(), Texts::new(settings, lines, operator)).expect(rt, case);
     let Inputs {
         plan,
         faults,
         script,
-        ..
+        durations,
     } = inputs;
-    let hands = SimOperator::new(rt, world);
-    simulate(rt, &plan, &faults, script, world, hands).expect(rt, case)
-}
-
-// What a run over a watched world of its own comes to.
-fn run_in_world<R: AllocGlobal + Wait + Abort>(rt: &R, texts: [&[u8]; 3], case: &str) -> Outcome {
-    let [settings, lines, operator] = texts;
-    let inputs = read_inputs(rt.alloc(), Texts::new(settings, lines, operator)).expect(rt, case);
-    let world = World::watched(inputs.plan.plates).with_durations(inputs.durations);
-    let world = Mutex::new(world);
-    let outcome = simulated(rt, inputs, &world, case);
-    check_world(rt, &world.lock(rt), case);
+    let world = World::watched(plan.plates).with_durations(durations);
+    let mut cell = SimPlant::new(world, &faults);
+    let outcome = simulate(rt.alloc(), &mut cell, script, &plan).expect(rt, case);
+    check_world(rt, cell.world(), case);
     check_journal(rt, &outcome, case);
     outcome
 }

@@ -11,10 +11,14 @@ returns-clause-run g c =
     let ran = c.control-ran.result in
     let B = c.args.book.entries in
     let ended = run_from _ _ g.R.Run.limits c.args.plan.now false ran.halt _ _ _ _ B ran.book.entries c.args.script
-    (λ a b x told. told.0) (λ a b e kept is. is) c.control-ran.ensures.controlled in
+    c.requires.reached (λ a b e kept is. is) c.control-ran.ensures.controlled in
     record {
       legal = c.control-ran.ensures.legal;
       ended =
           subst (λ (e : End). Ended g.R.Run.limits c.args.plan.now (start_from B c.args.script) ran.book.entries e)
           (sym (c.end.ensures ∙ ap end_of ended.1)) ended.2;
     }
+
+-- and what the cell was asked is what the run says
+pub returns-clause-ran : goal.returns-clause-ran
+returns-clause-ran g c = (c.control-ran.result.halt, _, _, c.end.ensures, c.control-ran.ensures.controlled)

@@ -1,5 +1,6 @@
 //! Runs whose operator's hands fail.
-use cell_runs::{Inputs, Outcome, Texts, read_inputs, simulate};
+use cell_plant::Ported;
+use cell_runs::{Inputs, Outcome, Texts, empty_book, read_inputs, run_on, sim_ports};
 use cell_sim::{SimOperator, World};
 use cell_types::Machine;
 use cell_workers::End;
@@ -18,10 +19,13 @@ fn played<R: AllocGlobal + Wait + Abort>(rt: &R, removing: Failing, homing: Fail
         script,
         durations,
     } = read_inputs(rt.alloc(), texts).expect(rt, "the texts are good");
+    let book = empty_book(rt.alloc(), &plan).expect(rt, "memory");
     let world = Mutex::new(World::new(plan.plates).with_durations(durations));
     let hands = SimOperator::new(rt, &world);
     let hands = TellingHands::new(rt.alloc(), hands, removing, homing, 10).expect(rt, "memory");
-    simulate(rt, &plan, &faults, script, &world, hands).expect(rt, "memory")
+    let ports = sim_ports(rt, &world, &faults);
+    let mut cell = Ported { ports, hands };
+    run_on(rt.alloc(), book, &mut cell, script, &plan)
 }
 
 // That run has to end so, with five plates forged and delivered and so many in quarantine, and with the press booked
