@@ -20,8 +20,10 @@ use Rattle.cell_settings.specs.Settings.{plan_numbers}
 use Rattle.cell_sim.specs.Script.{next_fault}
 use Rattle.operator_desk.specs.Lines.{line_of}
 use Rattle.operator_desk.specs.declared.line.Line.{Line}
+use Rattle.cell_sim.specs.Simulated.{Simulated, opening_with}
+use Rattle.sim_plant.specs.Answers.{SimCell, sim_cell}
+use Rattle.cell_runs.specs.Cells.{IsSimulated}
 use Rattle.cell_runs.specs.Inputs.{AreFaults, AreInputs, AreLines, AreSettings}
-use Rattle.cell_runs.specs.Rounds.{IsRun}
 use Rattle.cell_runs.specs.Runs.{limits_of}
 use Rattle.cell_runs.specs.declared.inputs.Inputs.{Inputs}
 use Rattle.cell_runs.specs.declared.inputs.InputError.{InputError}
@@ -213,13 +215,22 @@ grew-part old new text (n, inside, h) = (take n text, h)
 pub by-grows : (old new : Option (List ℕ)) (csv : Bool) (line : List ℕ) → GrowsBy old new csv line → Grows old new
 by-grows old new csv line (text, h, same) = (text, h)
 
--- what three texts say leads to a run by them
+-- a run of the simulated cell by what three texts say is one by them
 pub runs_to : (settings faults operator : List ℕ) (plan : Plan) (said : List PlannedFault) (script : List Line)
-    (J : List Entry) (e : End)
+    (world : Simulated) (cell left : SimCell) (J : List Entry) (e : End)
     → AreSettings settings (plan_numbers plan) → AreFaults faults said → AreLines operator script
-    → IsRun (limits_of plan) plan script J e → RunsTo settings faults operator plan J e
-runs_to settings faults operator plan said script J e say mean want run =
-    (record { plan = plan; faults = said; script = script; durations = ones }, (say, mean, want), refl, run)
+    → world ≡ opening_with plan.plates → cell ≡ sim_cell world said
+    → IsSimulated (limits_of plan) plan cell [] script left J e → RunsTo settings faults operator plan J e
+runs_to settings faults operator plan said script world cell left J e say mean want opened is run = (
+  record { plan = plan; faults = said; script = script; durations = ones },
+  (say, mean, want),
+  refl,
+  (
+    left,
+    subst (λ (old : SimCell). IsSimulated (limits_of plan) plan old [] script left J e)
+        (is ∙ ap (λ (w : Simulated). sim_cell w said) opened) run,
+  ),
+)
 
 -- the operator's script is refused, behind settings and faults that say something
 pub lines_refused : (settings faults operator : List ℕ) (plan : Plan) (said : List PlannedFault) (e : LineError)
@@ -261,6 +272,13 @@ pub some_refused : {X : Type 0} (r : Result X NoRun) (settings operator faults t
 some_refused r settings operator faults text service why single same is refused =
     hands_on r (RefusesServed settings operator service faults) (RefusesSome settings operator service) why
     (λ e served. (faults, subst IsSingle (sym same) single, served)) is refused
+
+pub some_refused_by : (settings operator faults text : List ℕ) (service : Bool) (why : NoRun) → IsSingle text
+    → faults ≡ text → IsNoRun (RefusesServed settings operator service faults) why
+    → IsNoRun (RefusesSome settings operator service) why
+some_refused_by settings operator faults text service none.OutOfMemory single same refused = tt
+some_refused_by settings operator faults text service (none.Refused e) single same refused =
+    (faults, subst IsSingle (sym same) single, refused)
 
 -- whether the sweep is whole or breaks off, what was written before it only grew
 pub swept-grows : (swept : Result Unit Stop) (settings operator : List ℕ) (w : Wanted) (old mid : Option (List ℕ))

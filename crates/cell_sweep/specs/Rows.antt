@@ -11,8 +11,10 @@ use Rattle.cell_ports.specs.declared.plan.Plan.{Plan}
 use Rattle.cell_sim.specs.declared.fault.Fault.{Fault}
 use Rattle.cell_sim.specs.declared.fault.PlannedFault.{PlannedFault}
 use Rattle.cell_workers.specs.declared.ends.End.{End}
+use Rattle.cell_sim.specs.Simulated.{opening_with}
+use Rattle.sim_plant.specs.Answers.{SimCell, sim_cell}
+use Rattle.cell_runs.specs.Cells.{IsSimulated}
 use Rattle.cell_runs.specs.Inputs.{AreInputs}
-use Rattle.cell_runs.specs.Rounds.{IsRun}
 use Rattle.cell_runs.specs.Runs.{limits_of, word_of as end_word}
 use Rattle.cell_runs.specs.declared.inputs.Inputs.{Inputs}
 use Rattle.cell_runs.specs.declared.inputs.InputError.{InputError}
@@ -32,11 +34,13 @@ pub record Told : Type 0 where
   pub time : ℕ
   pub waits : List ℕ
 
--- a run by these three texts, none of which is refused, leads by this plan to this journal and this end
+-- a run of the simulated cell by these three texts, none of which is refused, with the faults that they say, leads by
+-- this plan from the opening to this journal and this end
 abbrev pub RunsTo : List ℕ → List ℕ → List ℕ → Plan → List Entry → End → Type 0
 RunsTo settings faults operator plan J e =
     (inputs : Inputs) × AreInputs settings faults operator (Ok inputs) × (inputs.plan ≡ plan)
-    × IsRun (limits_of plan) plan inputs.script J e
+    × ((left : SimCell) × IsSimulated (limits_of plan) plan (sim_cell (opening_with plan.plates) inputs.faults) []
+    inputs.script left J e)
 
 -- why there is no run: a text is refused by an error of which this holds; want of memory says nothing
 abbrev pub IsNoRun : (InputError → Type 0) → NoRun → Type 0

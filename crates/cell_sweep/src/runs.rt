@@ -3,14 +3,13 @@ ghost use Rattle.std.specs.Prelude.{IfErr, IfOk};
 ghost use Rattle.cell_sweep.specs.Rows.{IsNoRun, RefusesRun, RunsTo};
 
 use crate::texts::{Faults, Settings};
-use cell_measures::Durations;
 use cell_ports::Plan;
 use cell_runs::{InputError, Outcome, simulate};
-use cell_sim::{SimOperator, World};
+use cell_sim::World;
 use cell_workers::End;
 use operator_desk::Script;
-use std::alloc::AllocError;
-use std::sync::{Mutex, Wait};
+use sim_plant::SimPlant;
+use std::alloc::{AllocError, Global};
 
 /// Why there is no run.
 #[derive(Debug, Drop)]
@@ -43,8 +42,8 @@ pub(crate) struct Ran {
 
 /// Runs the simulated cell by its texts over a new world. A run that ends for want of memory is none.
 #[tactic(auto, using(crate::proofs::Steps::lines_refused))]
-pub(crate) fn run_alone<R: AllocGlobal + Wait>(
-    rt: &R,
+pub(crate) fn run_alone(
+    alloc: Global,
     settings: &Settings<'_>,
     faults: &Faults<'_>,
     operator: &[u8],
@@ -54,16 +53,16 @@ pub(crate) fn run_alone<R: AllocGlobal + Wait>(
     ensures refused { IfErr result (IsNoRun (RefusesRun settings.now.text.now faults.now.text.now operator.now)) }
 {
     let plan = settings.plan;
-    let script = match Script::read(rt.alloc(), operator) {
+    let script = match Script::read(alloc, operator) {
         Ok(script) => script,
         Err(error) => return Err(NoRun::Refused(InputError::Operator(error))),
     };
-    let world = Mutex::new(World::new(plan.plates).with_durations(Durations::ONE));
-    let hands = SimOperator::new(rt, &world);
-    match simulate(rt, &plan, &faults.script, script, &world, hands) {
+    let world = World::new(plan.plates);
+    let mut cell = SimPlant::new(world, &faults.script);
+    match simulate(alloc, &mut cell, script, &plan) {
         Ok(outcome) if matches!(outcome.end, End::Memory) => Err(NoRun::OutOfMemory),
         Ok(outcome) => {
-            let left = world.lock(rt).left();
+            let left = cell.world().left();
             Ok(Ran {
                 plan,
                 outcome,

@@ -11,7 +11,6 @@ use cell_types::{Entry, MACHINES, Machine, PlateId, Station, stations_of};
 use operator_desk::{Line, Task, Trigger};
 use plate_book::{Book, Refusal};
 use std::alloc::{AllocError, Global};
-use std::sync::Wait;
 
 /// How often a run is taken again at most, each time with more lines.
 const MOST_TRIES: u32 = 50;
@@ -143,8 +142,8 @@ fn lines_of(alloc: Global, operator: &[u8]) -> Result<Vec<Line>, AllocError> {
 
 /// The operator's script by which a run is served to its end: his own, and in it what was to be done at the end of each
 /// try, before the first line that wasn't done in that. A script that grows beyond what a run takes is refused as any.
-pub(crate) fn serve<R: AllocGlobal + Wait>(
-    rt: &R,
+pub(crate) fn serve(
+    alloc: Global,
     settings: &Settings<'_>,
     faults: &Faults<'_>,
     operator: &[u8],
@@ -152,11 +151,10 @@ pub(crate) fn serve<R: AllocGlobal + Wait>(
     ensures refused { IfErr result (IsNoRun (RefusesServed settings.now.text.now operator.now true
         faults.now.text.now)) }
 {
-    let alloc = rt.alloc();
     let mut script = lines_of(alloc, operator)?;
     for _try in 0..MOST_TRIES {
         let text = text_of(alloc, script.as_slice())?;
-        let mut ran = run_alone(rt, settings, faults, text.as_slice())?;
+        let mut ran = run_alone(alloc, settings, faults, text.as_slice())?;
         match served_further(alloc, script.as_slice(), &mut ran)? {
             Some(further) => script = further,
             None => return Ok(text),

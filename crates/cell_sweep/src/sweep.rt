@@ -23,7 +23,6 @@ use cell_sim::{Fault, FaultScript, PlannedFault};
 use cell_types::{AXES, Axis, axis_number};
 use std::alloc::{AllocError, Global};
 use std::io::Write;
-use std::sync::Wait;
 
 /// What a sweep goes through, and how it is told.
 #[derive(Clone, Copy, Debug)]
@@ -101,19 +100,15 @@ struct Tally<'a, E> {
 }
 
 // The operator's script by which a run with this script of faults goes.
-fn script_for<R: AllocGlobal + Wait>(
-    rt: &R,
-    task: &Task<'_>,
-    faults: &Faults<'_>,
-) -> Result<Vec<u8>, NoRun>
+fn script_for(alloc: Global, task: &Task<'_>, faults: &Faults<'_>) -> Result<Vec<u8>, NoRun>
     ensures script { IfOk result (λ script. IsScript task.now.sweep.service task.now.operator.now script.items) }
     ensures refused { IfErr result (IsNoRun (RefusesServed task.now.settings.now.text.now task.now.operator.now
         task.now.sweep.service faults.now.text.now)) }
 {
     if task.sweep.service {
-        serve(rt, task.settings, faults, task.operator)
+        serve(alloc, task.settings, faults, task.operator)
     } else {
-        Ok(Vec::from_slice(rt.alloc(), task.operator)?)
+        Ok(Vec::from_slice(alloc, task.operator)?)
     }
 }
 
@@ -148,26 +143,22 @@ fn faults_of<'a>(
 }
 
 // What is told of the run with one fault.
-fn run_case<R: AllocGlobal + Wait>(
-    rt: &R,
-    task: &Task<'_>,
-    planned: PlannedFault,
-) -> Result<Row, NoRun>
+fn run_case(alloc: Global, task: &Task<'_>, planned: PlannedFault) -> Result<Row, NoRun>
     ensures planned { IfOk result (λ row. row.planned ≡ planned) }
     ensures told { IfOk result (λ row. TellsServed task.now.settings.now.text.now task.now.operator.now
         task.now.sweep.service row) }
     ensures refused { IfErr result (IsNoRun (RefusesSome task.now.settings.now.text.now task.now.operator.now
         task.now.sweep.service)) }
 {
-    let script = script_of(rt.alloc(), planned)?;
+    let script = script_of(alloc, planned)?;
     let text = script.as_str().as_bytes();
-    let faults = match faults_of(rt.alloc(), task, planned, text) {
+    let faults = match faults_of(alloc, task, planned, text) {
         Ok(faults) => faults,
         Err(why) => return Err(why),
     };
-    let operator = script_for(rt, task, &faults)?;
-    let ran = run_alone(rt, task.settings, &faults, operator.as_slice())?;
-    let row = row_of(rt.alloc(), planned, &ran, text, operator.as_slice())?;
+    let operator = script_for(alloc, task, &faults)?;
+    let ran = run_alone(alloc, task.settings, &faults, operator.as_slice())?;
+    let row = row_of(alloc, planned, &ran, text, operator.as_slice())?;
     Ok(row)
 }
 
@@ -181,7 +172,7 @@ fn count_all(counts: &[u32; 9], kinds: &[Fault]) -> u64 {
 }
 
 // How many motions of each axis the sweep goes through.
-fn counts_of<R: AllocGlobal + Wait>(rt: &R, task: &Task<'_>) -> Result<[u32; 9], NoRun>
+fn counts_of(alloc: Global, task: &Task<'_>) -> Result<[u32; 9], NoRun>
     ensures counts { IfOk result (λ counts. AreCounts task.now.settings.now.text.now task.now.operator.now
         task.now.sweep.service task.now.sweep.motions (λ a. slice_index counts (axis_number a))) }
     ensures refused { IfErr result (IsNoRun (RefusesSome task.now.settings.now.text.now task.now.operator.now
@@ -190,12 +181,12 @@ fn counts_of<R: AllocGlobal + Wait>(rt: &R, task: &Task<'_>) -> Result<[u32; 9],
     if let Some(count) = task.sweep.motions {
         return Ok([count; 9]);
     }
-    let faults = match read_faults(rt.alloc(), task, b"") {
+    let faults = match read_faults(alloc, task, b"") {
         Ok(faults) => faults,
         Err(why) => return Err(why),
     };
-    let operator = script_for(rt, task, &faults)?;
-    let ran = run_alone(rt, task.settings, &faults, operator.as_slice())?;
+    let operator = script_for(alloc, task, &faults)?;
+    let ran = run_alone(alloc, task.settings, &faults, operator.as_slice())?;
     Ok(motions(ran.outcome.book.journal(), 0))
 }
 
@@ -208,8 +199,8 @@ fn tell_progress<E: Write>(tally: &mut Tally<'_, E>) {
 }
 
 // Writes what is told of the run with one fault, and counts it.
-fn write_case<R: AllocGlobal + Wait, W: Write, E: Write>(
-    rt: &R,
+fn write_case<W: Write, E: Write>(
+    alloc: Global,
     task: &Task<'_>,
     planned: PlannedFault,
     writer: &mut WatchedWriter<'_, W>,
@@ -223,8 +214,8 @@ fn write_case<R: AllocGlobal + Wait, W: Write, E: Write>(
     ensures stops { IfErr result (StopsSo task.now.settings.now.text.now task.now.operator.now task.now.sweep.service
         (has_refused writer.new)) }
 {
-    let row = run_case(rt, task, planned)?;
-    let line = line_of(rt.alloc(), task.sweep.csv, &row)?;
+    let row = run_case(alloc, task, planned)?;
+    let line = line_of(alloc, task.sweep.csv, &row)?;
     writer.write_bytes(line.as_slice())?;
     tally.ends.add(row.end);
     if task.sweep.progress {
@@ -234,8 +225,8 @@ fn write_case<R: AllocGlobal + Wait, W: Write, E: Write>(
 }
 
 // Runs the cell with a fault of each kind in a motion of an axis, and writes what is told of each.
-fn write_kinds<R: AllocGlobal + Wait, W: Write, E: Write>(
-    rt: &R,
+fn write_kinds<W: Write, E: Write>(
+    alloc: Global,
     task: &Task<'_>,
     axis: Axis,
     motion: u32,
@@ -257,14 +248,14 @@ fn write_kinds<R: AllocGlobal + Wait, W: Write, E: Write>(
             motion,
             fault: *kind,
         };
-        write_case(rt, task, planned, writer, tally)?;
+        write_case(alloc, task, planned, writer, tally)?;
     }
     Ok(())
 }
 
 // Runs the cell with the faults in each of so many motions of an axis.
-fn write_motions<R: AllocGlobal + Wait, W: Write, E: Write>(
-    rt: &R,
+fn write_motions<W: Write, E: Write>(
+    alloc: Global,
     task: &Task<'_>,
     axis: Axis,
     count: u32,
@@ -281,14 +272,14 @@ fn write_motions<R: AllocGlobal + Wait, W: Write, E: Write>(
         (has_refused writer.new)) }
 {
     for before in 0..count {
-        write_kinds(rt, task, axis, before + 1, writer, tally)?;
+        write_kinds(alloc, task, axis, before + 1, writer, tally)?;
     }
     Ok(())
 }
 
 // Runs the cell with each fault, by axes, of each by motions, and of each by kinds.
-fn write_rows<R: AllocGlobal + Wait, W: Write, E: Write>(
-    rt: &R,
+fn write_rows<W: Write, E: Write>(
+    alloc: Global,
     task: &Task<'_>,
     counts: &[u32; 9],
     writer: &mut WatchedWriter<'_, W>,
@@ -305,14 +296,14 @@ fn write_rows<R: AllocGlobal + Wait, W: Write, E: Write>(
 {
     for axis in AXES {
         let count = counts[axis_number(axis)];
-        write_motions(rt, task, axis, count, writer, tally)?;
+        write_motions(alloc, task, axis, count, writer, tally)?;
     }
     Ok(())
 }
 
 // Writes what is told of a sweep.
-fn write_sweep<R: AllocGlobal + Wait, W: Write, E: Write>(
-    rt: &R,
+fn write_sweep<W: Write, E: Write>(
+    alloc: Global,
     task: &Task<'_>,
     writer: &mut WatchedWriter<'_, W>,
     errors: &mut E,
@@ -326,15 +317,15 @@ fn write_sweep<R: AllocGlobal + Wait, W: Write, E: Write>(
         (has_refused writer.new)) }
 {
     let csv = task.sweep.csv;
-    let counts = counts_of(rt, task)?;
+    let counts = counts_of(alloc, task)?;
     let mut tally = Tally {
         ends: Ends::default(),
         all: count_all(&counts, task.sweep.kinds),
         errors,
     };
     writer.write_bytes(head_of(csv).as_bytes())?;
-    write_rows(rt, task, &counts, writer, &mut tally)?;
-    let text = counts_text(rt.alloc(), csv, tally.ends)?;
+    write_rows(alloc, task, &counts, writer, &mut tally)?;
+    let text = counts_text(alloc, csv, tally.ends)?;
     writer.write_bytes(text.as_slice())?;
     Ok(())
 }
@@ -365,8 +356,8 @@ fn end_sweep<W: Write>(
 /// refused, are told as by `run_texts`, and nothing runs. Else the status is 0, however the runs end, or 4 where memory
 /// was refused, with the rows of the runs before. Where the operator's service makes the script too long, that is told
 /// behind these rows, with status 1. The writer notes whether a write of it was refused.
-pub fn sweep_texts<R: AllocGlobal + Wait, W: Write, E: Write>(
-    rt: &R,
+pub fn sweep_texts<W: Write, E: Write>(
+    alloc: Global,
     settings: &[u8],
     operator: &[u8],
     sweep: Sweep<'_>,
@@ -390,7 +381,7 @@ pub fn sweep_texts<R: AllocGlobal + Wait, W: Write, E: Write>(
         operator,
         durations: Durations::ONE,
     };
-    let inputs = match read_inputs(rt.alloc(), texts) {
+    let inputs = match read_inputs(alloc, texts) {
         Ok(inputs) => inputs,
         Err(error) => return refuse_input(writer, error),
     };
@@ -403,6 +394,6 @@ pub fn sweep_texts<R: AllocGlobal + Wait, W: Write, E: Write>(
         operator,
         sweep,
     };
-    let swept = write_sweep(rt, &task, writer, errors);
+    let swept = write_sweep(alloc, &task, writer, errors);
     end_sweep(writer, swept)
 }
