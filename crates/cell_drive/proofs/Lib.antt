@@ -1,3 +1,4 @@
 pub mod Drove
+pub mod Gauging
 pub mod Measured
 pub mod Telling

@@ -1,3 +1,4 @@
 pub mod Drives
+pub mod Gauged
 pub mod Measured
 pub mod Wishes

@@ -5,8 +5,9 @@ use Rattle.cell_types.specs.declared.words.Entry.{Entry}
 use Rattle.cell_rules.specs.Views.{count_of}
 use Rattle.cell_output.specs.Numbers.{number_line}
 use Rattle.cell_output.specs.Watched.{WritesPart}
-use Rattle.cell_runs.specs.Runs.{Kept, KeepsRun, TellsPart}
-use Rattle.cell_runs.specs.declared.texts.Mode.TheVariants as mode
+use Rattle.cell_measures.specs.declared.durations.Durations.{Durations}
+use Rattle.cell_runs.specs.Runs.{Kept, KeepsBy, TellsPartBy}
+use Rattle.cell_drive.specs.Gauged.{PartOfGauged, WritesGauged}
 
 -- the lines of how many rounds a run took and how many entries its journal has
 abbrev pub run_counts : ℕ → ℕ → List ℕ
@@ -46,15 +47,15 @@ PartBehind Writes old new =
     (printed : Option (List ℕ)) × (ran : ℕ) × (run : Kept) × Writes old printed ran (Some run)
     × PartOfMeasures run ran printed new
 
--- what is written by the texts of a run: what `run_kept` writes and keeps in rounds, up to some point, and behind it
--- the measures of the journal that is kept
-abbrev pub KeepsMeasured : List ℕ → List ℕ → List ℕ → Bool → Option (List ℕ) → Option (List ℕ) → ℕ → Option Kept
-    → Type 0
-KeepsMeasured settings faults operator journal old new status run =
-    WithMeasures (KeepsRun settings faults operator mode.Rounds journal) old new status run
+-- what is written by the texts of a run, whose motions take so long: the first that is refused, or a run in rounds of
+-- the watched cell, up to some point, and behind it the measures of the journal that is kept
+abbrev pub KeepsMeasured : Durations → List ℕ → List ℕ → List ℕ → Bool → Option (List ℕ) → Option (List ℕ) → ℕ
+    → Option Kept → Type 0
+KeepsMeasured timing settings faults operator journal old new status run =
+    WithMeasures (KeepsBy (WritesGauged journal) timing settings faults operator) old new status run
 
 -- a first part of that was written, and not all of it
-abbrev pub PartOfMeasured : List ℕ → List ℕ → List ℕ → Bool → Option (List ℕ) → Option (List ℕ) → Type 0
-PartOfMeasured settings faults operator journal old new =
-    TellsPart settings faults operator mode.Rounds journal old new
-    ⊎ PartBehind (KeepsRun settings faults operator mode.Rounds journal) old new
+abbrev pub PartOfMeasured : Durations → List ℕ → List ℕ → List ℕ → Bool → Option (List ℕ) → Option (List ℕ) → Type 0
+PartOfMeasured timing settings faults operator journal old new =
+    TellsPartBy (PartOfGauged journal) timing settings faults operator old new
+    ⊎ PartBehind (KeepsBy (WritesGauged journal) timing settings faults operator) old new

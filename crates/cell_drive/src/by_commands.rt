@@ -7,18 +7,16 @@ use crate::unread::{UnreadLine, unread_command};
 use crate::wish::{Wish, wish_of};
 use cell_method::{Conversation, DriveEnd, DriveError, MAX_LINES, ReadingLine};
 use cell_output::WatchedWriter;
-use cell_ports::{Act, OperatorPort, Plan, Port};
+use cell_ports::{Act, Plan};
 use cell_rows::{Four, TellsFault, read_script};
-use cell_runs::{Inputs, sim_ports};
-use cell_sim::{SimOperator, SimPort, World};
-use cell_turns::Ports;
+use cell_runs::Inputs;
+use cell_sim::{FaultScript, World};
 use cell_types::texts::{machine_word, station_word};
-use cell_types::{Command, MACHINES, Machine, Totals, machine_of_axis, machine_of_belt};
+use cell_types::{Command, MACHINES, Totals};
 use operator_desk::{Line, ScriptError, Task, Trigger};
 use std::alloc::Global;
 use std::io;
 use std::io::Write;
-use std::sync::{Mutex, Wait};
 
 /// The lines of the operator's script, of which none says that a plate will be laid back: by commands there is no book
 /// that expects one. The error names the first such record, counted from 1.
@@ -42,11 +40,9 @@ enum Close {
 
 // What a run by commands has from round to round.
 #[derive(Drop)]
-struct Run<'a, R: Wait> {
-    rt: &'a R,
-    world: &'a Mutex<World>,
-    ports: Ports<SimPort<'a, R>>,
-    hands: SimOperator<'a, R>,
+struct Run<'a> {
+    world: World,
+    faults: &'a FaultScript,
     script: Vec<Line>,
     // How many of the script's lines are done.
     done: usize,
@@ -59,58 +55,45 @@ struct Run<'a, R: Wait> {
     unread: Option<UnreadLine>,
 }
 
-// The machine that a command goes to. Each command names its own part of the cell, so that any port carries it out.
-fn machine_of(command: Command) -> Machine {
-    match command {
-        Command::Lamp(belt, _) => machine_of_belt(belt),
-        Command::On(axis, _) | Command::Off(axis) => machine_of_axis(axis),
-        Command::MagnetOn(_) | Command::MagnetOff(_) => Machine::Robot,
-        Command::AllOff(machine) => machine,
-    }
-}
-
 // Reads each machine in order, tells what it shows, opens the round of a number, and notes which plates the readings
 // laid in and took out.
-fn open<R: Wait, W: Write>(run: &mut Run<'_, R>, number: u32, writer: &mut W) -> io::Result<()> {
+fn open<W: Write>(run: &mut Run<'_>, number: u32, writer: &mut W) -> io::Result<()> {
     for machine in MACHINES {
-        let reading = run.ports.pick(machine).read();
+        let reading = run.world.read(machine);
         write!(writer, "{}", ReadingLine { machine, reading })?;
     }
     writeln!(writer, "round,{number},,")?;
     writer.flush()?;
-    run.measures.open(number, &run.world.lock(run.rt));
+    run.measures.open(number, &run.world);
     Ok(())
 }
 
 // Sends a command, and gives the answer.
-fn send<R: Wait>(run: &mut Run<'_, R>, command: Command) -> &'static str {
+fn send(run: &mut Run<'_>, command: Command) -> &'static str {
     run.commands = run.commands.saturating_add(1);
-    match run.ports.pick(machine_of(command)).command(command) {
+    match run.world.command(command, run.faults) {
         Ok(()) => "ok,,,\n",
         Err(_) => "failed,,,\n",
     }
 }
 
 // Does an act by hand, and gives the answer.
-fn do_by_hand<R: Wait>(run: &mut Run<'_, R>, act: Act) -> &'static str {
-    let done = match act {
-        Act::Remove(station) => run.hands.remove(station),
-        Act::Home(machine) => run.hands.home(machine),
-    };
-    match done {
-        Ok(()) => "ok,,,\n",
-        Err(_) => "failed,,,\n",
+fn do_by_hand(run: &mut Run<'_>, act: Act) -> &'static str {
+    match act {
+        Act::Remove(station) => run.world.remove(station),
+        Act::Home(machine) => run.world.home(machine),
     }
+    "ok,,,\n"
 }
 
 // The method ends the run from now on.
-fn stay<R: Wait>(run: &mut Run<'_, R>) -> &'static str {
+fn stay(run: &mut Run<'_>) -> &'static str {
     run.stays = true;
     "ok,,,\n"
 }
 
 // Tells the readings of now in the same round, after the number of the method's line.
-fn sync<R: Wait, W: Write>(run: &mut Run<'_, R>, number: u32, writer: &mut W) -> io::Result<()> {
+fn sync<W: Write>(run: &mut Run<'_>, number: u32, writer: &mut W) -> io::Result<()> {
     run.stays = true;
     writeln!(writer, "synced,{number},,")?;
     let round = run.measures.rounds();
@@ -118,7 +101,7 @@ fn sync<R: Wait, W: Write>(run: &mut Run<'_, R>, number: u32, writer: &mut W) ->
 }
 
 // Keeps why a line of the round can't be read, if it is the first of the run, and gives the answer.
-fn keep_unread<R: Wait>(run: &mut Run<'_, R>, line: u32, four: Option<Four<'_>>) -> &'static str {
+fn keep_unread(run: &mut Run<'_>, line: u32, four: Option<Four<'_>>) -> &'static str {
     if run.unread.is_none() {
         run.unread = Some(UnreadLine {
             round: run.measures.rounds(),
@@ -130,8 +113,8 @@ fn keep_unread<R: Wait>(run: &mut Run<'_, R>, line: u32, four: Option<Four<'_>>)
 }
 
 // Answers the lines of a round.
-fn take_lines<R: Wait, I: TellsFault, W: Write>(
-    run: &mut Run<'_, R>,
+fn take_lines<I: TellsFault, W: Write>(
+    run: &mut Run<'_>,
     method: &mut Conversation<'_, I, W>,
 ) -> Result<Close, DriveError> {
     for count in 0..MAX_LINES {
@@ -169,20 +152,19 @@ fn holds(world: &World, when: Trigger) -> bool {
 }
 
 // The operator's next line, where its trigger holds, and the plate that it takes out, if it does.
-fn next_line<R: Wait>(run: &Run<'_, R>) -> Option<(Task, Option<u32>)> {
+fn next_line(run: &Run<'_>) -> Option<(Task, Option<u32>)> {
     let line = *run.script.get(run.done)?;
-    let world = run.world.lock(run.rt);
-    if !holds(&world, line.when) {
+    if !holds(&run.world, line.when) {
         return None;
     }
     match line.task {
-        Task::Clear(station) => Some((line.task, Some(world.plate_at(station)?))),
+        Task::Clear(station) => Some((line.task, Some(run.world.plate_at(station)?))),
         task => Some((task, None)),
     }
 }
 
 // The operator's next action, where his script has one now: he does it by hand, and it is told.
-fn operate<R: Wait, W: Write>(run: &mut Run<'_, R>, writer: &mut W) -> io::Result<()> {
+fn operate<W: Write>(run: &mut Run<'_>, writer: &mut W) -> io::Result<()> {
     let Some((task, plate)) = next_line(run) else {
         return Ok(());
     };
@@ -190,11 +172,11 @@ fn operate<R: Wait, W: Write>(run: &mut Run<'_, R>, writer: &mut W) -> io::Resul
     match (task, plate) {
         (Task::Stop(machine), _) => writeln!(writer, "stop_asked,{},,", machine_word(machine)),
         (Task::Repair(machine), _) => {
-            let _ = run.hands.home(machine);
+            run.world.home(machine);
             writeln!(writer, "repaired,{},,", machine_word(machine))
         }
         (Task::Clear(station), Some(plate)) => {
-            let _ = run.hands.remove(station);
+            run.world.remove(station);
             writeln!(writer, "quarantined,{plate},{},", station_word(station))
         }
         _ => Ok(()),
@@ -212,8 +194,8 @@ fn is_finished(world: &World) -> bool {
 }
 
 // The round of a number. It answers the end that it sets, if it does.
-fn take_round<R: Wait, I: TellsFault, W: Write>(
-    run: &mut Run<'_, R>,
+fn take_round<I: TellsFault, W: Write>(
+    run: &mut Run<'_>,
     number: u32,
     method: &mut Conversation<'_, I, W>,
 ) -> Result<Option<DriveEnd>, DriveError> {
@@ -223,9 +205,8 @@ fn take_round<R: Wait, I: TellsFault, W: Write>(
         Close::End(end) => return Ok(Some(end)),
     }
     operate(run, method.writer)?;
-    let mut world = run.world.lock(run.rt);
-    world.end_round();
-    if !run.stays && is_finished(&world) {
+    run.world.end_round();
+    if !run.stays && is_finished(&run.world) {
         Ok(Some(DriveEnd::Finished))
     } else {
         Ok(None)
@@ -233,8 +214,8 @@ fn take_round<R: Wait, I: TellsFault, W: Write>(
 }
 
 // Rounds, until one ends the run.
-fn take_rounds<R: Wait, I: TellsFault, W: Write>(
-    run: &mut Run<'_, R>,
+fn take_rounds<I: TellsFault, W: Write>(
+    run: &mut Run<'_>,
     plan: &Plan,
     method: &mut Conversation<'_, I, W>,
 ) -> Result<DriveEnd, DriveError> {
@@ -259,44 +240,41 @@ fn totals_of(world: &World) -> Totals {
 }
 
 // What is told of a run that ended so.
-fn told_of<R: Wait>(alloc: Global, run: &mut Run<'_, R>, end: DriveEnd) -> io::Result<Vec<u8>> {
-    let world = run.world.lock(run.rt);
-    let mut text = end_text(alloc, end, totals_of(&world))?;
+fn told_of(alloc: Global, run: &mut Run<'_>, end: DriveEnd) -> io::Result<Vec<u8>> {
+    let world = &run.world;
+    let mut text = end_text(alloc, end, totals_of(world))?;
     writeln!(text, "rounds {}", run.measures.rounds())?;
     writeln!(text, "commands {}", run.commands)?;
     writeln!(text, "collisions {}", world.collisions())?;
-    write_world(&mut text, &world, &mut run.measures)?;
+    write_world(&mut text, world, &mut run.measures)?;
     Ok(text)
 }
 
 // The end of a run. One that the method was to end is finished where it left the cell so.
-fn end_of<R: Wait>(run: &Run<'_, R>, ended: DriveEnd) -> DriveEnd {
+fn end_of(run: &Run<'_>, ended: DriveEnd) -> DriveEnd {
     if run.measures.lacks_memory() {
         return DriveEnd::Memory;
     }
     match ended {
-        DriveEnd::Quit if run.stays && is_finished(&run.world.lock(run.rt)) => DriveEnd::Finished,
+        DriveEnd::Quit if run.stays && is_finished(&run.world) => DriveEnd::Finished,
         end => end,
     }
 }
 
 /// Lets a method drive the simulated cell by commands, by the plan and the faults of these inputs and this script of
 /// the operator, tells what came of it, and gives the status.
-pub(crate) fn drive_commands<R: AllocGlobal + Wait, I: TellsFault, W: Write, E: Write>(
-    rt: &R,
+pub(crate) fn drive_commands<I: TellsFault, W: Write, E: Write>(
+    alloc: Global,
     inputs: &Inputs,
     script: Vec<Line>,
     world: World,
     method: &mut Conversation<'_, I, WatchedWriter<'_, W>>,
     told: Told<'_, E>,
 ) -> Result<u8, DriveError> {
-    let measures = Measures::new(rt.alloc(), &world);
-    let world = Mutex::new(world);
+    let measures = Measures::new(alloc, &world);
     let mut run = Run {
-        rt,
-        world: &world,
-        ports: sim_ports(rt, &world, &inputs.faults),
-        hands: SimOperator::new(rt, &world),
+        world,
+        faults: &inputs.faults,
         script,
         done: 0,
         commands: 0,
@@ -306,14 +284,13 @@ pub(crate) fn drive_commands<R: AllocGlobal + Wait, I: TellsFault, W: Write, E: 
     };
     let ended = take_rounds(&mut run, &inputs.plan, method)?;
     let end = end_of(&run, ended);
-    let Ok(text) = told_of(rt.alloc(), &mut run, end) else {
+    let Ok(text) = told_of(alloc, &mut run, end) else {
         return Err(DriveError::OutOfMemory);
     };
     write_told(method.writer, text.as_slice())?;
-    let world = world.lock(rt);
     if told.explain {
         explain_unread(told.errors, run.unread)?;
-        explain_broken(told.errors, &world)?;
+        explain_broken(told.errors, &run.world)?;
     }
-    Ok(status_of(end, world.is_safe()))
+    Ok(status_of(end, run.world.is_safe()))
 }

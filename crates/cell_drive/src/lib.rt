@@ -5,6 +5,7 @@
 mod begun;
 mod by_commands;
 mod by_entries;
+mod gauged;
 mod looker;
 mod measures;
 mod own;

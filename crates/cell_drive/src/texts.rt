@@ -92,7 +92,7 @@ fn drive_raw<R: AllocGlobal + Wait, I: TellsFault, W: Write, E: Write>(
     if let Some(journal) = from {
         tell_entries(method.writer, journal)?;
     }
-    drive_commands(rt, inputs, script, world, method, told)
+    drive_commands(rt.alloc(), inputs, script, world, method, told)
 }
 
 /// Begins the protocol.
