@@ -15,6 +15,7 @@ use Rattle.cell_command.specs.declared.order.Running.{Running}
 use Rattle.cell_command.specs.declared.order.Sweeping.{Sweeping}
 use Rattle.cell_command.specs.declared.order.Order.{Order}
 use Rattle.cell_command.specs.declared.order.Driving.{Driving}
+use Rattle.cell_measures.specs.declared.durations.Durations.{Durations}
 use Rattle.cell_drive.specs.Drives.{DrivesTexts}
 use Rattle.cell_drive.specs.Measured.{KeepsMeasured}
 use Rattle.cell_sim.specs.declared.fault.Fault.{Fault}
@@ -38,11 +39,12 @@ use Rattle.cell_command.specs.declared.order.Order.TheVariants as order
 abbrev pub TellsUnfit : Option (Bor (List ℕ)) → Option (List ℕ) → Option (List ℕ) → Result ℕ WriteFault → Type 0
 TellsUnfit times old new written = TellsTooLong old new written ⊎ (IsGiven times × TellsTimes old new written)
 
--- what a run by some texts writes
+-- what a run by some texts writes, whose motions take some times
 abbrev pub RunsTexts : Mode → Bool → Option (List ℕ) → Option (List ℕ) → Result ℕ WriteFault → Type 0
-RunsTexts mode journal old new written = (settings : List ℕ) × (faults : List ℕ) × (operator : List ℕ)
-    × MatchResult written (TellsRun settings faults operator mode journal old new)
-    (λ _. PartOfRun settings faults operator mode journal old new)
+RunsTexts mode journal old new written =
+    (timing : Durations) × (settings : List ℕ) × (faults : List ℕ) × (operator : List ℕ)
+    × MatchResult written (TellsRun timing settings faults operator mode journal old new)
+    (λ _. PartOfRun timing settings faults operator mode journal old new)
 
 -- what a run by the texts of its files writes, unless the settings are too long or the durations are refused
 abbrev pub RunsFiles : Mode → Running → Option (List ℕ) → Option (List ℕ) → Result ℕ WriteFault → Type 0
@@ -88,16 +90,20 @@ AddsLeast ran printed new status =
 
 -- what is written of a run by three texts and behind it of its measures: in rounds those of the very journal that is
 -- kept of the run
-abbrev pub MeasuresRun : Mode → List ℕ → List ℕ → List ℕ → Bool → Option (List ℕ) → Option (List ℕ) → ℕ → Type 0
-MeasuresRun modes.Rounds settings faults operator journal old new status =
-    (run : Option Kept) × KeepsMeasured settings faults operator journal old new status run
-MeasuresRun modes.Threads settings faults operator journal old new status = (printed : Option (List ℕ)) × (ran : ℕ)
-    × TellsRun settings faults operator modes.Threads journal old printed ran × AddsLeast ran printed new status
+abbrev pub MeasuresRun : Mode → Durations → List ℕ → List ℕ → List ℕ → Bool → Option (List ℕ) → Option (List ℕ) → ℕ
+    → Type 0
+MeasuresRun modes.Rounds timing settings faults operator journal old new status =
+    (run : Option Kept) × KeepsMeasured timing settings faults operator journal old new status run
+MeasuresRun modes.Threads timing settings faults operator journal old new status =
+    (printed : Option (List ℕ)) × (ran : ℕ)
+    × TellsRun timing settings faults operator modes.Threads journal old printed ran
+    × AddsLeast ran printed new status
 
 -- the same by some texts
 abbrev pub MeasuresTexts : Mode → Bool → Option (List ℕ) → Option (List ℕ) → Result ℕ WriteFault → Type 0
-MeasuresTexts mode journal old new written = (settings : List ℕ) × (faults : List ℕ) × (operator : List ℕ)
-    × IfOk written (MeasuresRun mode settings faults operator journal old new)
+MeasuresTexts mode journal old new written =
+    (timing : Durations) × (settings : List ℕ) × (faults : List ℕ) × (operator : List ℕ)
+    × IfOk written (MeasuresRun mode timing settings faults operator journal old new)
 
 -- what is written of a run by the texts of its files and then of its measures, unless the settings are too long or the
 -- durations are refused
@@ -121,9 +127,9 @@ FollowsFiles running old new written =
 -- what is written of a run from some journal on by three texts
 abbrev pub GoesOnTexts : Bool → Option (List ℕ) → Option (List ℕ) → Result ℕ WriteFault → Type 0
 GoesOnTexts alone old new written =
-    (journal : List ℕ) × (settings : List ℕ) × (faults : List ℕ) × (operator : List ℕ)
-    × MatchResult written (TellsRunFrom journal settings faults operator alone old new)
-    (λ _. TellsPartFrom journal settings faults operator alone old new)
+    (timing : Durations) × (journal : List ℕ) × (settings : List ℕ) × (faults : List ℕ) × (operator : List ℕ)
+    × MatchResult written (TellsRunFrom timing journal settings faults operator alone old new)
+    (λ _. TellsPartFrom timing journal settings faults operator alone old new)
 
 -- what is written of a run from the journal of a file on by the texts of three others, unless the settings are too long
 -- or the durations are refused

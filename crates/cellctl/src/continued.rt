@@ -10,13 +10,13 @@ use cell_command::{Continuing, Running};
 use cell_orders::{Failure, book_in, wrong};
 use cell_output::WatchedWriter;
 use cell_runs::run_after;
+use std::alloc::Global;
 use std::io::Write;
 use std::rt::Files;
-use std::sync::Wait;
 
 // Runs the simulated cell from a journal that was read on, by the texts of a run.
-fn continue_sources<R: AllocGlobal + Wait, W: Write>(
-    rt: &R,
+fn continue_sources<W: Write>(
+    alloc: Global,
     output: &mut WatchedWriter<'_, W>,
     before: &Audited,
     running: Running<'_>,
@@ -26,13 +26,13 @@ fn continue_sources<R: AllocGlobal + Wait, W: Write>(
         → GoesOnTexts running.entry.journal (bytes_held W.contents output.old)
         (bytes_held W.contents output.new) result.written }
 {
-    let told = run_after(rt, before, sources.texts(), running.journal, output);
+    let told = run_after(alloc, before, sources.texts(), running.journal, output);
     let entries = before.book.journal().len();
     with_ending(told, entries, running.explain, sources)
 }
 
 // Runs the simulated cell from the journal in a file on, by what the run's files say.
-fn continue_files<'a, R: AllocGlobal + Files + Wait, W: Write>(
+fn continue_files<'a, R: AllocGlobal + Files, W: Write>(
     rt: &R,
     output: &mut WatchedWriter<'_, W>,
     path: &'a str,
@@ -46,12 +46,12 @@ fn continue_files<'a, R: AllocGlobal + Files + Wait, W: Write>(
         Err(told) => return Ok(without_ending(told)),
     };
     let before = book_in(rt, path)?;
-    Ok(continue_sources(rt, output, &before, running, sources))
+    Ok(continue_sources(rt.alloc(), output, &before, running, sources))
 }
 
 /// Runs the simulated cell from where the journal in a file left it, by what the run's files say. They are all read
 /// before any is judged, the journal last. Neither a journal to be followed nor measures go with it.
-pub(crate) fn continue_words<'a, R: AllocGlobal + Files + Wait, W: Write, E: Write>(
+pub(crate) fn continue_words<'a, R: AllocGlobal + Files, W: Write, E: Write>(
     rt: &R,
     output: &mut WatchedWriter<'_, W>,
     errors: &mut E,

@@ -79,8 +79,9 @@ pub(crate) fn run_least<R: AllocGlobal + Threads + Wait + Sync, W: Write>(
     journal: bool,
     texts: Texts<'_>,
 ) -> Result<(u8, Left), WriteFault>
-    ensures { IfOk result (λ ran. MeasuresRun Mode.Threads texts.entry.settings.now texts.entry.faults.now
-        texts.entry.operator.now journal (bytes_held W.contents output.old) (bytes_held W.contents output.new) ran.0) }
+    ensures { IfOk result (λ ran. MeasuresRun Mode.Threads texts.entry.durations texts.entry.settings.now
+        texts.entry.faults.now texts.entry.operator.now journal (bytes_held W.contents output.old)
+        (bytes_held W.contents output.new) ran.0) }
 {
     let (status, left) = run_kept(rt, texts, Mode::Threads, journal, output)?;
     let both = add_least(rt.alloc(), output, status, &left, &texts.durations)?;

@@ -205,11 +205,12 @@ fn run_with_measures<R: AllocGlobal + Threads + Wait + Sync, W: Write>(
     journal: bool,
     texts: Texts<'_>,
 ) -> Result<(u8, Left), WriteFault>
-    ensures { IfOk result (λ ran. MeasuresRun mode texts.entry.settings.now texts.entry.faults.now
-        texts.entry.operator.now journal (bytes_held W.contents output.old) (bytes_held W.contents output.new) ran.0) }
+    ensures { IfOk result (λ ran. MeasuresRun mode texts.entry.durations texts.entry.settings.now
+        texts.entry.faults.now texts.entry.operator.now journal (bytes_held W.contents output.old)
+        (bytes_held W.contents output.new) ran.0) }
 {
     match mode {
-        Mode::Rounds => run_measured(rt, texts, journal, output),
+        Mode::Rounds => run_measured(rt.alloc(), texts, journal, output),
         Mode::Threads => run_least(rt, output, journal, texts),
     }
 }

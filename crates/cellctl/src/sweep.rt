@@ -14,7 +14,6 @@ use cell_types::number::read_number;
 use std::alloc::{AllocError, Global};
 use std::io::Write;
 use std::rt::Files;
-use std::sync::Wait;
 
 /// The greatest number of motions, which is that of the script of faults.
 const MOST_MOTIONS: u32 = 1_000_000;
@@ -47,7 +46,7 @@ fn motions_of(word: Option<&str>) -> Option<Option<u32>>
 }
 
 // Sweeps by what two files say. Both are read before any is judged.
-fn sweep_files<'a, R: AllocGlobal + Files + Wait, W: Write, E: Write>(
+fn sweep_files<'a, R: AllocGlobal + Files, W: Write, E: Write>(
     rt: &R,
     output: &mut WatchedWriter<'_, W>,
     errors: &mut E,
@@ -63,12 +62,19 @@ fn sweep_files<'a, R: AllocGlobal + Files + Wait, W: Write, E: Write>(
         return Ok(tell_too_long(output));
     };
     let operator = operator.bytes.as_slice();
-    Ok(sweep_texts(rt, settings.as_slice(), operator, sweep, output, errors))
+    Ok(sweep_texts(
+        rt.alloc(),
+        settings.as_slice(),
+        operator,
+        sweep,
+        output,
+        errors,
+    ))
 }
 
 /// Runs the simulated cell once for each fault that the words of the command line ask for. With `progress` the errors
 /// tell how many runs are done.
-pub(crate) fn sweep_words<'a, R: AllocGlobal + Files + Wait, W: Write, E: Write>(
+pub(crate) fn sweep_words<'a, R: AllocGlobal + Files, W: Write, E: Write>(
     rt: &R,
     output: &mut WatchedWriter<'_, W>,
     errors: &mut E,

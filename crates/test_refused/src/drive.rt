@@ -3,6 +3,7 @@ use crate::runs::tells_memory;
 use cell_drive::DriveOptions;
 use cell_output::{WatchedWriter, WriteFault};
 use cell_runs::Texts;
+use std::alloc::Global;
 use std::process::Abort;
 use std::sync::Wait;
 use std::test::Fail;
@@ -21,17 +22,13 @@ fn one_plate() -> Texts<'static> {
 }
 
 // What is written of that run and its measures, and the status. Where it is marked, memory may be refused to it.
-fn measured<R: AllocGlobal + Wait>(
-    rt: &R,
-    marked: bool,
-) -> Result<(Vec<u8>, Result<u8, WriteFault>), Fail> {
-    let alloc = rt.alloc();
+fn measured(alloc: Global, marked: bool) -> Result<(Vec<u8>, Result<u8, WriteFault>), Fail> {
     let mut written = Vec::with_capacity(alloc, ROOM)?;
     if marked {
         call_begins(alloc);
     }
     let mut writer = WatchedWriter::new(&mut written);
-    let answer = cell_drive::run_measured(rt, one_plate(), false, &mut writer);
+    let answer = cell_drive::run_measured(alloc, one_plate(), false, &mut writer);
     let status = answer.map(|(status, _)| status);
     if marked {
         call_ends(alloc, status == Ok(4));
@@ -45,10 +42,10 @@ const LINES: &[u8] = b"finished\nadmitted 1\nforged 0\nquarantined 1\ndelivered 
 // Without memory nothing is measured, and the status says so.
 #[test]
 fn run_measured(rt: HostRuntime) -> Result<(), Fail> {
-    let (due, status) = measured(&rt, false)?;
+    let (due, status) = measured(rt.alloc(), false)?;
     let due = due.as_slice();
     assert!(rt; status == Ok(0) && due.starts_with(LINES) && due.len() > LINES.len());
-    let (written, answer) = measured(&rt, true)?;
+    let (written, answer) = measured(rt.alloc(), true)?;
     let text = written.as_slice();
     if answer == Ok(4) {
         assert!(rt; text.is_empty() || text == LINES || tells_memory(text));

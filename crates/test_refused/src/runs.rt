@@ -257,7 +257,7 @@ fn run_from_a_journal_that_was_read(rt: HostRuntime) -> Result<(), Fail> {
     let mut written = Vec::with_capacity(alloc, ROOM)?;
     let mut writer = WatchedWriter::new(&mut written);
     call_begins(alloc);
-    let answer = run_after(&rt, &before, texts, false, &mut writer);
+    let answer = run_after(alloc, &before, texts, false, &mut writer);
     let status = answer.map(|(status, _)| status);
     call_ends(alloc, status == Ok(4));
     let lines = written.as_slice();

@@ -10,7 +10,7 @@ use std::thread::Threads;
 use test_samples::STUCK_PRESS;
 
 // What is written of a run by these settings and faults, with its measures. It has to end with this status.
-fn measured<R: AllocGlobal + Abort + Wait>(
+fn measured<R: AllocGlobal + Abort>(
     rt: &R,
     [settings, faults]: [&str; 2],
     journal: bool,
@@ -18,7 +18,12 @@ fn measured<R: AllocGlobal + Abort + Wait>(
 ) -> Vec<u8> {
     let mut text = Vec::new(rt.alloc());
     let texts = Texts::new(settings.as_bytes(), faults.as_bytes(), b"");
-    let answer = run_measured(rt, texts, journal, &mut WatchedWriter::new(&mut text));
+    let answer = run_measured(
+        rt.alloc(),
+        texts,
+        journal,
+        &mut WatchedWriter::new(&mut text),
+    );
     let told = answer.map(|(told, _)| told);
     assert!(rt; told == Ok(status));
     text

@@ -3,11 +3,10 @@ use cell_output::WatchedWriter;
 use cell_sim::Fault;
 use cell_sweep::{Sweep, sweep_texts};
 use std::process::Abort;
-use std::sync::Wait;
 use std::test::Fail;
 
 /// What a sweep prints with this status, in CSV or as a table.
-pub(crate) fn printed<R: AllocGlobal + Abort + Wait>(
+pub(crate) fn printed<R: AllocGlobal + Abort>(
     rt: &R,
     texts: [&[u8]; 2],
     sweep: Sweep<'_>,
@@ -17,7 +16,14 @@ pub(crate) fn printed<R: AllocGlobal + Abort + Wait>(
     let mut output = Vec::new(rt.alloc());
     let mut errors = Vec::new(rt.alloc());
     let mut writer = WatchedWriter::new(&mut output);
-    let answer = sweep_texts(rt, settings, operator, sweep, &mut writer, &mut errors);
+    let answer = sweep_texts(
+        rt.alloc(),
+        settings,
+        operator,
+        sweep,
+        &mut writer,
+        &mut errors,
+    );
     assert!(rt; answer == Ok(status));
     assert!(rt; errors.is_empty() != sweep.progress);
     Ok(String::from_utf8(output).ok().ok_or("no text")?)

@@ -139,7 +139,7 @@ fn a_long_sweep_begins_at_once(rt: HostRuntime) -> Result<(), Fail> {
     let mut output = FailingWriter::new(Vec::new(rt.alloc()), 350);
     let mut errors = Vec::new(rt.alloc());
     let mut writer = WatchedWriter::new(&mut output);
-    let answer = sweep_texts(&rt, SETTINGS, b"", longer, &mut writer, &mut errors);
+    let answer = sweep_texts(rt.alloc(), SETTINGS, b"", longer, &mut writer, &mut errors);
     assert!(rt; answer == Err(WriteFault));
     let written = output.inner().as_slice();
     assert!(rt; written.len() == 350 && due.as_str().as_bytes().starts_with(written));

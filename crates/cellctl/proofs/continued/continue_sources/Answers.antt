@@ -9,6 +9,7 @@ use Rattle.cellctl.proofs.continued.continue_sources.Goals as goal
 
 pub returns : goal.returns
 returns g c = λ text read.
+    let timing = c.texts.result.durations in
     let settings = c.texts.result.settings.now in
     let faults = c.texts.result.faults.now in
     let operator = c.texts.result.operator.now in
@@ -16,8 +17,9 @@ returns g c = λ text read.
     let old = bytes_held g.W.Write.contents c.args.output.now in
     let new = bytes_held g.W.Write.contents c.run_after-told.new.writer in
     let whole : IfOk ran
-    (λ told. TellsRunFrom text settings faults operator c.args.running.journal old new told.0) =
+    (λ told. TellsRunFrom timing text settings faults operator c.args.running.journal old new told.0) =
     IfOk-weaker ran _ _ (λ told keeps. (kept_of told.1, keeps)) (c.run_after-told.ensures.whole text read) in (
+      timing,
       text,
       settings,
       faults,

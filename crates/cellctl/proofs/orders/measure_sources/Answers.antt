@@ -4,6 +4,7 @@ use Rattle.cellctl.proofs.orders.measure_sources.Goals as goal
 
 pub returns : goal.returns
 returns g c = (
+  c.texts.result.durations,
   c.texts.result.settings.now,
   c.texts.result.faults.now,
   c.texts.result.operator.now,

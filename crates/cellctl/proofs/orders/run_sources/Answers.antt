@@ -8,6 +8,7 @@ use Rattle.cellctl.proofs.orders.run_sources.Goals as goal
 
 pub returns : goal.returns
 returns g c =
+    let timing = c.texts.result.durations in
     let settings = c.texts.result.settings.now in
     let faults = c.texts.result.faults.now in
     let operator = c.texts.result.operator.now in
@@ -15,8 +16,9 @@ returns g c =
     let old = bytes_held g.W.Write.contents c.args.output.now in
     let new = bytes_held g.W.Write.contents c.run_kept-ran.new.writer in
     let whole : IfOk ran
-    (λ told. TellsRun settings faults operator c.args.mode c.args.running.journal old new told.0) =
+    (λ told. TellsRun timing settings faults operator c.args.mode c.args.running.journal old new told.0) =
     IfOk-weaker ran _ _ (λ told keeps. (kept_of told.1, keeps)) c.run_kept-ran.ensures.whole in (
+      timing,
       settings,
       faults,
       operator,
