@@ -61,7 +61,7 @@ only_bit true = refl
 only_bit false = refl
 
 -- the parts of a reading in which nothing disagrees
-all_agree : (u a b c l m o x y z : Bool) → u ≡ false → a ≡ false → b ≡ false → c ≡ false → l ≡ false → m ≡ false
+pub all_agree : (u a b c l m o x y z : Bool) → u ≡ false → a ≡ false → b ≡ false → c ≡ false → l ≡ false → m ≡ false
     → o ≡ false → x ≡ false → y ≡ false → z ≡ false
     → (not u && (not (a || (b || c)) && (not (l || (m || o)) && not (x || (y || z))))) ≡ true
 all_agree u a b c l m o x y z hu ha hb hc hl hm ho hx hy hz = rw (hu, ha, hb, hc, hl, hm, ho, hx, hy, hz) refl

@@ -1,21 +1,18 @@
 -- One reading more of an axis with switches, whichever it is
-use Rattle.std.proofs.Common.{◌≡◌, ◌≢◌, ℕ, ◌<◌, Bool, true, false, Option, Some, None, List, [], ◌∷◌, ◌++◌, length}
+use Rattle.std.proofs.Common.{◌≡◌, ◌≢◌, true, false, Option, Some, None, List, [], ◌∷◌, ◌++◌, length}
 use Rattle.std.proofs.Common.{refl, arith, sym, ap, ◌∙◌, length-set, if◌then◌else◌, subst}
 use Rattle.std.specs.Option.{option_map}
-use Rattle.std.specs.Prelude.{slice_index_or}
 use Rattle.cell_types.specs.declared.words.Axis.{Axis}
 use Rattle.cell_types.specs.declared.words.Axis.TheVariants as axis
 use Rattle.cell_types.specs.declared.words.Pose.{Pose}
 use Rattle.cell_types.specs.declared.words.Entry.{Entry}
 use Rattle.cell_types.specs.declared.words.Pose.TheVariants as pose
-use Rattle.cell_types.specs.Same.{same_pose, axis_number}
-use Rattle.cell_types.specs.declared.words.Command.TheVariants.{On}
+use Rattle.cell_types.specs.Same.{axis_number}
+use Rattle.cell_types.specs.declared.words.Command.{Command}
 use Rattle.cell_types.specs.Cell.{axes_of, is_pose_of, machine_of_axis}
-use Rattle.cell_types.specs.declared.words.Station.{Station}
-use Rattle.cell_types.specs.declared.words.Station.TheVariants as station
-use Rattle.cell_rules.specs.Views.{at_of}
+use Rattle.cell_rules.specs.Views.{at_of, going_of}
 use Rattle.cell_diagnosis.specs.declared.reading.Reading.{Reading}
-use Rattle.cell_diagnosis.specs.Readings.{Seen, seen, no_bits, two_bits, bit, axis_bits, six_bits, three_bits}
+use Rattle.cell_diagnosis.specs.Readings.{Seen, seen, no_bits, bit, axis_bits}
 use Rattle.cell_diagnosis.specs.declared.motion.Motion.{Motion}
 use Rattle.cell_ports.specs.declared.plan.Plan.{Plan}
 use Rattle.cell_turns.specs.Following.{Following}
@@ -25,57 +22,60 @@ use Rattle.cell_sim.specs.Moves.{switch_bit}
 use Rattle.cell_sim.specs.declared.axis.AxisInWorld.{AxisInWorld}
 use Rattle.cell_sim.specs.declared.motion.Path.TheVariants.{Poses}
 use Rattle.cell_sim.specs.declared.motion.Phase.TheVariants.{Seen as IsSeen, Between, Arrived}
-use Rattle.cell_sim.specs.Simulated.{Simulated, at_home}
-use Rattle.cell_sim.specs.Parts.{axis_at, in_turn, with_motion, with_pose, broke, plate_here}
+use Rattle.cell_sim.specs.Simulated.{Simulated}
+use Rattle.cell_sim.specs.Parts.{axis_at, in_turn, with_motion, broke}
 use Rattle.cell_sim.specs.Readings.{advanced, after_reading, is_reading_missing, read_on, shown, shown_now, shown_on}
-use Rattle.cell_sim.specs.Readings.{switches_of, by_the_hands, forged_there, forges}
-use Rattle.cell_sim.specs.declared.watch.SafetyRule.TheVariants as rule
-use Rattle.cell_sim.specs.declared.world.Plate.{Plate}
+use Rattle.cell_sim.specs.Readings.{switches_of, by_the_hands}
+use Rattle.cell_sim.specs.declared.watch.SafetyRule.{SafetyRule}
 use Rattle.cell_sim.specs.Looks.{is_belt}
 use Rattle.cell_world.specs.Tied.{Given, none, one, two, phase_of, motion_along, only, noted_of, motion_by, Goes}
 use Rattle.cell_world.specs.Tied.{Rests, RestsBy}
 use Rattle.cell_world.proofs.Verdicts.{first_pending, second_pending, third_arrived}
 use Rattle.cell_world.proofs.Steps.{unless, readings_of, followed_as, seen_of, at_same, at_other, went, went_watch}
-use Rattle.cell_world.proofs.Steps.{goes_on, stays, rest_silent}
-use Rattle.cell_world.specs.Going.{AxisGoes, AxisCame, AxisStays, AxisGoesOn}
+use Rattle.cell_world.proofs.Steps.{goes_on, stays, rest_silent, axes_at, below_nine, made, rests_as, went_left}
+use Rattle.cell_world.specs.Agreeing.{bits_at}
+use Rattle.cell_world.specs.Going.{AxisGoes, AxisCame, AxisStays, AxisGoesOn, IsPlain, OthersRest}
 
--- the axes after the reading, whatever a press forges
-pub made : Axis → Pose → Pose → Given → Simulated → Simulated
-made a at to none w = with_motion a (Some (motion_along (Poses at to) IsSeen)) w
-made a at to one w = with_motion a (Some (motion_along (Poses at to) (Between 0))) w
-made a at to two w = with_pose a to (with_motion a (Some (motion_along (Poses at to) Arrived)) w)
-
-forged_if : (b : Bool) (v w : Simulated) (xs : List AxisInWorld) → v.axes ≡ xs → w.axes ≡ xs
-    → (if b then v else w).axes ≡ xs
-forged_if true v w xs h k = h
-forged_if false v w xs h k = k
-
-there_axes : (a : Axis) (s : Station) (o : Option Plate) (w : Simulated) → (forged_there a s o w).axes ≡ w.axes
+broke_axes : (r : SafetyRule) (c : Option Command) (w : Simulated) → (broke r c w).axes ≡ w.axes
 unfolding broke
-there_axes a s None w = refl
-there_axes a s (Some p) w =
-    forged_if p.is_forged (broke rule.ForgedTwice (Some (On a pose.Top)) w) _ w.axes refl refl
-
-forges_axes : (a : Axis) (w : Simulated) → (forges a w).axes ≡ w.axes
-unfolding forges
-forges_axes axis.PressOne w = there_axes axis.PressOne station.Press1 (plate_here w station.Press1) w
-forges_axes axis.PressTwo w = there_axes axis.PressTwo station.Press2 (plate_here w station.Press2) w
-forges_axes a w = refl
-
-either_axes : (b : Bool) (v w : Simulated) → v.axes ≡ w.axes → (if b then v else w).axes ≡ w.axes
-either_axes true v w h = h
-either_axes false v w h = refl
+broke_axes r c w = refl
 
 went_axes : (a : Axis) (at to : Pose) (g : Given) (w : Simulated) → (went a at to g w).axes ≡ (made a at to g w).axes
-unfolding made
-went_axes a at to none w = refl
-went_axes a at to one w = refl
-went_axes a at to two w =
-    let v = with_pose a to (with_motion a (Some (motion_along (Poses at to) Arrived)) w) in
-    either_axes (same_pose to pose.Top) (forges a v) v (forges_axes a v)
+went_axes a at to g w =
+    went_left (λ (v : Simulated). v.axes) (record { broken = broke_axes; plates = λ s o n v. refl }) a at to g w
 
-axes_at : (v w : Simulated) (a : Axis) → v.axes ≡ w.axes → axis_at v a ≡ axis_at w a
-axes_at v w a h = ap (λ (xs : List AxisInWorld). slice_index_or xs (axis_number a) (at_home a)) h
+broke_long : (r : SafetyRule) (c : Option Command) (w : Simulated) → (broke r c w).durations ≡ w.durations
+unfolding broke
+broke_long r c w = refl
+
+made_long : (a : Axis) (at to : Pose) (g : Given) (w : Simulated) → (made a at to g w).durations ≡ w.durations
+unfolding made
+made_long a at to none w = refl
+made_long a at to one w = refl
+made_long a at to two w = refl
+
+went_long : (a : Axis) (at to : Pose) (g : Given) (w : Simulated) → (went a at to g w).durations ≡ w.durations
+went_long a at to g w =
+    went_left (λ (v : Simulated). v.durations) (record { broken = broke_long; plates = λ s o n v. refl }) a at to g w
+    ∙ made_long a at to g w
+
+broke_stations : (r : SafetyRule) (c : Option Command) (w : Simulated) → length (broke r c w).plates ≡ length w.plates
+unfolding broke
+broke_stations r c w = refl
+
+made_stations : (a : Axis) (at to : Pose) (g : Given) (w : Simulated)
+    → length (made a at to g w).plates ≡ length w.plates
+unfolding made
+made_stations a at to none w = refl
+made_stations a at to one w = refl
+made_stations a at to two w = refl
+
+went_stations : (a : Axis) (at to : Pose) (g : Given) (w : Simulated)
+    → length (went a at to g w).plates ≡ length w.plates
+went_stations a at to g w =
+    went_left (λ (v : Simulated). length v.plates)
+    (record { broken = broke_stations; plates = λ s o n v. length-set _ _ _ }) a at to g w
+    ∙ made_stations a at to g w
 
 nine_made : (a : Axis) (at to : Pose) (g : Given) (w : Simulated) → length (made a at to g w).axes ≡ length w.axes
 unfolding made
@@ -104,17 +104,6 @@ moved at to none x = record x { motion = Some (motion_along (Poses at to) IsSeen
 moved at to one x = record x { motion = Some (motion_along (Poses at to) (Between 0)) }
 moved at to two x = record x { pose = to; motion = Some (motion_along (Poses at to) Arrived) }
 
-below_nine : (a : Axis) (n : ℕ) → n ≡ 9 → axis_number a < n
-below_nine axis.FeedBelt n h = omega (arith, h)
-below_nine axis.TableLift n h = omega (arith, h)
-below_nine axis.TableTurn n h = omega (arith, h)
-below_nine axis.RobotTurn n h = omega (arith, h)
-below_nine axis.ArmOne n h = omega (arith, h)
-below_nine axis.ArmTwo n h = omega (arith, h)
-below_nine axis.PressOne n h = omega (arith, h)
-below_nine axis.PressTwo n h = omega (arith, h)
-below_nine axis.DepositBelt n h = omega (arith, h)
-
 same_made : (a : Axis) (at to : Pose) (g : Given) (w : Simulated) → length w.axes ≡ 9
     → axis_at (made a at to g w) a ≡ moved at to g (axis_at w a)
 unfolding made
@@ -131,10 +120,13 @@ pub same_went : (a : Axis) (at to : Pose) (g : Given) (w : Simulated) → length
 same_went a at to g w nine = axes_at (went a at to g w) (made a at to g w) a (went_axes a at to g w)
     ∙ same_made a at to g w nine
 
--- all other axes of its machine rest
-abbrev Others : List Entry → Axis → Simulated → Type 0
+-- all other axes of its machine rest in the world
+abbrev pub Others : List Entry → Axis → Simulated → Type 0
 Others J a w = (b : Axis) → machine_of_axis b ≡ machine_of_axis a → axis_number b ≢ axis_number a
     → Rests (at_of J b) (axis_at w b)
+
+pub others_of : (J : List Entry) (a : Axis) (w : Simulated) → OthersRest J w a → Others J a w
+others_of J a w o b m h = (o b m h).rests
 
 abbrev Way : Pose → Pose → Given → Axis → Simulated → Type 0
 Way at to g a w = (axis_at w a).motion ≡ Some (motion_along (Poses at to) (phase_of g))
@@ -186,8 +178,8 @@ all_advance J axis.PressOne at to g w u s o h =
 all_advance J axis.PressTwo at to g w u s o h =
     goes_on axis.PressTwo w at to g u h
 
-none_silent : (J : List Entry) (a : Axis) (at to : Pose) (g : Given) (w : Simulated) → is_belt a ≡ false → Others J a w
-    → Way at to g a w → is_reading_missing w (machine_of_axis a) ≡ false
+pub none_silent : (J : List Entry) (a : Axis) (at to : Pose) (g : Given) (w : Simulated) → is_belt a ≡ false
+    → Others J a w → Way at to g a w → is_reading_missing w (machine_of_axis a) ≡ false
 none_silent J axis.FeedBelt at to g w s o h = cc s
 none_silent J axis.DepositBelt at to g w s o h = cc s
 none_silent J axis.TableLift at to g w s o h =
@@ -249,13 +241,6 @@ shown_any J a at to g w u s o h =
     ∙ (unless (is_reading_missing w (machine_of_axis a)) _ _ (none_silent J a at to g w s o h)
     ∙ ap (λ (v : Simulated). Some (shown_now v (machine_of_axis a))) (read_any J a at to g w u s o h))
 
--- the switches of an axis as truth values
-abbrev bits_at : Axis → ℕ → List Bool
-bits_at axis.RobotTurn byte = six_bits byte
-bits_at axis.PressOne byte = three_bits byte
-bits_at axis.PressTwo byte = three_bits byte
-bits_at _ byte = two_bits byte
-
 bits_shown : (a : Axis) (to : Pose) (w : Simulated) → is_belt a ≡ false
     → axis_bits a to (shown_now w (machine_of_axis a)) ≡ bits_at a (switches_of w a)
 bits_shown axis.FeedBelt to w s = cc s
@@ -274,7 +259,7 @@ no_bit axis.PressOne = refl
 no_bit axis.PressTwo = refl
 no_bit axis.DepositBelt = refl
 
-bits_only : (a : Axis) (p : Pose) → is_belt a ≡ false → is_pose_of a p ≡ true → bits_at a (switch_bit p) ≡ only p
+pub bits_only : (a : Axis) (p : Pose) → is_belt a ≡ false → is_pose_of a p ≡ true → bits_at a (switch_bit p) ≡ only p
 unfolding bit
 bits_only axis.FeedBelt p s h = cc s
 bits_only axis.DepositBelt p s h = cc s
@@ -325,6 +310,24 @@ unfolding seen
 seen_any J p a to g w s nine h k =
     ap (λ x. Some x) (bits_shown a to (went a (at_of J a) to g w) s) ∙ switch_moved a (at_of J a) to g w s nine h k
 
+-- the axis alone of its machine goes in the book
+pub moves_as : (J : List Entry) (p : Plan) (a : Axis) (to : Pose) (w : Simulated) → is_belt a ≡ false
+    → going_of J a ≡ Some to → OthersRest J w a → motion_of_machine J p (machine_of_axis a) ≡ Some (motion_by J p a to)
+moves_as J p axis.FeedBelt to w s h o = cc s
+moves_as J p axis.DepositBelt to w s h o = cc s
+moves_as J p axis.TableLift to w s h o = rw h refl
+moves_as J p axis.TableTurn to w s h o =
+    let b = (o axis.TableLift refl (omega arith)).booked in rw (b, h) refl
+moves_as J p axis.RobotTurn to w s h o = rw h refl
+moves_as J p axis.ArmOne to w s h o =
+    let b = (o axis.RobotTurn refl (omega arith)).booked in rw (b, h) refl
+moves_as J p axis.ArmTwo to w s h o =
+    let b = (o axis.RobotTurn refl (omega arith)).booked in
+    let c = (o axis.ArmOne refl (omega arith)).booked in
+    rw (b, c, h) refl
+moves_as J p axis.PressOne to w s h o = rw h refl
+moves_as J p axis.PressTwo to w s h o = rw h refl
+
 noted_any : (J : List Entry) (p : Plan) (a : Axis) (to : Pose) (g : Given) (f : Option Following) (w : Simulated)
     → is_belt a ≡ false → AxisGoes J p a to g f w
     → axis_noted J (machine_of_axis a) p f (shown w (machine_of_axis a))
@@ -335,17 +338,28 @@ noted_any : (J : List Entry) (p : Plan) (a : Axis) (to : Pose) (g : Given) (f : 
 noted_any J p a to g f w s t =
     let m = motion_by J p a to in let n = machine_of_axis a in
     ap (λ (x : Option Following). option_map (with_reading (shown w n)) (followed x (motion_of_machine J p n))) t.noted
-    ∙ (ap (λ (x : Option Motion). option_map (with_reading (shown w n)) (followed (noted_of m g) x)) t.books
+    ∙ (ap (λ (x : Option Motion). option_map (with_reading (shown w n)) (followed (noted_of m g) x))
+    (moves_as J p a to w s t.booked t.others)
     ∙ (ap (λ (x : Option Following). option_map (with_reading (shown w n)) x) (followed_as m g)
     ∙ (ap (λ (r : Option Reading). Some (with_reading r (record { motion = m; readings = readings_of m g })))
-    (shown_any J a (at_of J a) to g w t.unwatched s t.others t.goes.motion)
+    (shown_any J a (at_of J a) to g w t.plain.unwatched s (others_of J a w t.others) t.goes.motion)
     ∙ ap (λ (x : Seen). Some (record { motion = m; readings = readings_of m g ++ x ∷ [] }))
-    (seen_any J p a to g w s t.nine t.from_pose t.to_pose))))
+    (seen_any J p a to g w s t.plain.axes t.from_pose t.to_pose))))
 
-others_then : (J : List Entry) (a : Axis) (at to : Pose) (g : Given) (w : Simulated) → Others J a w
-    → Others J a (went a at to g w)
+-- the world is as plain as before, and the others rest as before
+went_plain : (a : Axis) (at to : Pose) (g : Given) (w : Simulated) → IsPlain w → IsPlain (went a at to g w)
+went_plain a at to g w t =
+    record {
+      unwatched = went_watch a at to g w ∙ t.unwatched;
+      axes = went_nine a at to g w ∙ t.axes;
+      stations = went_stations a at to g w ∙ t.stations;
+      short = went_long a at to g w ∙ t.short;
+    }
+
+others_then : (J : List Entry) (a : Axis) (at to : Pose) (g : Given) (w : Simulated) → OthersRest J w a
+    → OthersRest J (went a at to g w) a
 others_then J a at to g w o b m h =
-    subst (λ (x : AxisInWorld). Rests (at_of J b) x) (sym (other_went a b at to g w h)) (o b m h)
+    rests_as J J (went a at to g w) w b refl refl (other_went a b at to g w h) (o b m h)
 
 goes_any : (J : List Entry) (p : Plan) (a : Axis) (to : Pose) (g g' : Given) (f f' : Option Following) (w : Simulated)
     → AxisGoes J p a to g f w → f' ≡ noted_of (motion_by J p a to) g'
@@ -353,12 +367,12 @@ goes_any : (J : List Entry) (p : Plan) (a : Axis) (to : Pose) (g g' : Given) (f 
     → AxisGoes J p a to g' f' (went a (at_of J a) to g w)
 goes_any J p a to g g' f f' w t e goes =
     record {
-      books = t.books;
+      plain = went_plain a (at_of J a) to g w t.plain;
+      booked = t.booked;
       from_pose = t.from_pose;
       to_pose = t.to_pose;
-      unwatched = went_watch a (at_of J a) to g w ∙ t.unwatched;
-      nine = went_nine a (at_of J a) to g w ∙ t.nine;
-      goes = subst (λ (x : AxisInWorld). Goes (at_of J a) to g' x) (sym (same_went a (at_of J a) to g w t.nine)) goes;
+      goes = subst (λ (x : AxisInWorld). Goes (at_of J a) to g' x) (sym (same_went a (at_of J a) to g w t.plain.axes))
+          goes;
       others = others_then J a (at_of J a) to g w t.others;
       noted = e;
     }
@@ -366,7 +380,7 @@ goes_any J p a to g g' f f' w t e goes =
 pub any_goes : AxisGoesOn
 any_goes J p a to none f w s fair t =
     let n = noted_any J p a to none f w s t in
-    let v = after_any J a (at_of J a) to none w t.unwatched s t.others t.goes.motion in
+    let v = after_any J a (at_of J a) to none w t.plain.unwatched s (others_of J a w t.others) t.goes.motion in
     subst (λ (y : Simulated). AxisStays J p a to one (axis_noted J (machine_of_axis a) p f (shown w
     (machine_of_axis a))) y) (sym v)
     (subst (λ (x : Option Following). AxisStays J p a to one x (went a (at_of J a) to none w)) (sym n)
@@ -376,7 +390,7 @@ any_goes J p a to none f w s fair t =
     }))
 any_goes J p a to one f w s fair t =
     let n = noted_any J p a to one f w s t in
-    let v = after_any J a (at_of J a) to one w t.unwatched s t.others t.goes.motion in
+    let v = after_any J a (at_of J a) to one w t.plain.unwatched s (others_of J a w t.others) t.goes.motion in
     subst (λ (y : Simulated). AxisStays J p a to two (axis_noted J (machine_of_axis a) p f (shown w
     (machine_of_axis a))) y) (sym v)
     (subst (λ (x : Option Following). AxisStays J p a to two x (went a (at_of J a) to one w)) (sym n)
@@ -386,15 +400,16 @@ any_goes J p a to one f w s fair t =
     }))
 any_goes J p a to two f w s fair t =
     let n = noted_any J p a to two f w s t in
-    let v = after_any J a (at_of J a) to two w t.unwatched s t.others t.goes.motion in
+    let v = after_any J a (at_of J a) to two w t.plain.unwatched s (others_of J a w t.others) t.goes.motion in
     subst (λ (y : Simulated). AxisCame J p a to (axis_noted J (machine_of_axis a) p f (shown w
     (machine_of_axis a))) y) (sym v)
     (subst (λ (x : Option Following). AxisCame J p a to x (went a (at_of J a) to two w)) (sym n)
     (record {
-      verdict = third_arrived (motion_by J p a to) fair;
-      unwatched = went_watch a (at_of J a) to two w ∙ t.unwatched;
-      nine = went_nine a (at_of J a) to two w ∙ t.nine;
-      rests = subst (λ (x : AxisInWorld). Rests to x) (sym (same_went a (at_of J a) to two w t.nine))
+      plain = went_plain a (at_of J a) to two w t.plain;
+      booked = t.booked;
+      to_pose = t.to_pose;
+      came = subst (λ (x : AxisInWorld). Rests to x) (sym (same_went a (at_of J a) to two w t.plain.axes))
           (record { pose = refl; motion = (at_of J a, refl) });
       others = others_then J a (at_of J a) to two w t.others;
+      verdict = third_arrived (motion_by J p a to) fair;
     }))

@@ -1,161 +1,179 @@
--- One reading more of the deposit belt
-use Rattle.std.proofs.Common.{◌≡◌, ℕ, ◌==◌, Bool, true, false, ◌&&◌, Option, Some, None, List, [], ◌∷◌, ◌++◌, length}
-use Rattle.std.proofs.Common.{refl, arith, sym, ap, ◌∙◌, length-set, if◌then◌else◌, subst, get_or-set_same}
-use Rattle.std.proofs.Common.{get_or-set_other}
+-- One reading more of a belt
+use Rattle.std.proofs.Common.{◌≡◌, ◌≢◌, Bool, true, false, not, ◌&&◌, ◌||◌, Option, Some, None, List, [], ◌∷◌, ◌++◌}
+use Rattle.std.proofs.Common.{is_some, refl, arith, sym, ap, ◌∙◌, length-set, if◌then◌else◌, subst}
 use Rattle.std.specs.Option.{option_map}
-use Rattle.std.specs.Prelude.{◌+◌, not, is_some}
-use Rattle.std.proofs.lemmas.Bool.Decides.{nat_tests}
+use Rattle.std.specs.Prelude.{◌+◌}
 use Rattle.cell_types.specs.declared.words.Axis.TheVariants as axis
-use Rattle.cell_types.specs.declared.words.Machine.TheVariants as machine
-use Rattle.cell_types.specs.declared.words.Pose.{Pose}
+use Rattle.cell_types.specs.declared.words.Colour.TheVariants as colour
 use Rattle.cell_types.specs.declared.words.Entry.{Entry}
+use Rattle.cell_types.specs.declared.words.Pose.{Pose}
 use Rattle.cell_types.specs.declared.words.Pose.TheVariants as pose
 use Rattle.cell_types.specs.declared.words.Station.{Station}
-use Rattle.cell_types.specs.declared.words.Command.TheVariants.{On}
 use Rattle.cell_types.specs.declared.words.Station.TheVariants as station
-use Rattle.cell_types.specs.declared.words.Colour.TheVariants as colour
-use Rattle.cell_types.specs.Same.{same_colour}
-use Rattle.cell_rules.specs.Views.{at_of}
+use Rattle.cell_types.specs.Cell.{axes_of}
+use Rattle.cell_types.specs.Same.{same_colour, station_number}
+use Rattle.cell_rules.specs.Views.{at_of, going_of}
 use Rattle.cell_diagnosis.specs.declared.reading.Reading.{Reading}
-use Rattle.cell_diagnosis.specs.Readings.{Seen, seen, bit, station_bits}
+use Rattle.cell_diagnosis.specs.Readings.{Seen, seen, bit}
 use Rattle.cell_diagnosis.specs.declared.motion.Motion.{Motion}
 use Rattle.cell_ports.specs.declared.plan.Plan.{Plan}
 use Rattle.cell_turns.specs.Following.{Following}
 use Rattle.cell_turns.specs.Moving.{motion_of_machine}
 use Rattle.cell_turns.specs.Observed.{axis_noted, followed, with_reading}
 use Rattle.cell_sim.specs.declared.axis.AxisInWorld.{AxisInWorld}
-use Rattle.cell_sim.specs.declared.motion.Phase.TheVariants.{Seen as IsSeen, Between, Arrived}
-use Rattle.cell_sim.specs.Simulated.{Simulated}
-use Rattle.cell_sim.specs.Parts.{axis_at, with_motion, plate_here, with_plate, has_plate, plate_at, plate_moved}
-use Rattle.cell_sim.specs.Readings.{advanced, after_reading, is_reading_missing, left_with, plate_taken, read_on}
-use Rattle.cell_sim.specs.Readings.{shown, shown_now, shown_on, arrived, by_the_hands, bit_if, senses}
-use Rattle.cell_sim.specs.declared.world.Plate.{Plate}
-use Rattle.cell_sim.specs.Looks.{can_lie, carrying_looked, looked}
-use Rattle.cell_sim.specs.Moves.{same_number}
 use Rattle.cell_sim.specs.declared.motion.Phase.{Phase}
+use Rattle.cell_sim.specs.declared.motion.Phase.TheVariants.{Seen as IsSeen, Between, Arrived}
+use Rattle.cell_sim.specs.declared.world.Plate.{Plate}
+use Rattle.cell_sim.specs.Simulated.{Simulated}
+use Rattle.cell_sim.specs.Parts.{axis_at, has_plate, in_turn, plate_at, plate_here, plate_moved, with_motion}
+use Rattle.cell_sim.specs.Parts.{with_plate}
+use Rattle.cell_sim.specs.Readings.{advanced, after_reading, arrived, bit_if, by_the_hands, command_of, is_feed_empty}
+use Rattle.cell_sim.specs.Readings.{is_plate_left, is_reading_missing, left_with, plate_laid, plate_taken, read_on}
+use Rattle.cell_sim.specs.Readings.{senses}
+use Rattle.cell_sim.specs.Readings.{shown, shown_now, shown_on}
+use Rattle.cell_sim.specs.Looks.{can_lie, carrying_looked, looked}
+use Rattle.cell_sim.specs.Moves.{goal_of, same_number as same_plate}
 use Rattle.cell_world.specs.Tied.{Given, none, one, two, phase_of, motion_along, noted_of, motion_by}
+use Rattle.cell_world.specs.Going.{IsPlain}
+use Rattle.cell_world.specs.Belts.{Conveying, to_feed_end, to_table, to_deposit_end, belt_of, name_of, from_of}
+use Rattle.cell_world.specs.Belts.{dest_of}
+use Rattle.cell_world.specs.Belts.{machine_of, light_of, path_with, BeltCame, BeltGoes, BeltGoesOn, BeltStays}
 use Rattle.cell_world.proofs.Verdicts.{first_pending, second_pending, third_arrived}
-use Rattle.cell_world.proofs.Steps.{unless, readings_of, followed_as, seen_of, at_same, unlooked}
+use Rattle.cell_world.proofs.Steps.{unless, readings_of, followed_as, seen_of, at_same, below_nine, unlooked}
 use Rattle.cell_world.proofs.Agreeing.{first_bit, second_bit}
-use Rattle.cell_world.specs.Belts.{out_of_cell, DepositGoes, DepositCame, DepositStays, DepositGoesOn}
-
-same_nat : (n : ℕ) → (n == n) ≡ true
-same_nat n = grind (arith, nat_tests)
+use Rattle.cell_world.proofs.Plates.{here_before, here_now, number_of, other_station, same_number}
 
 -- the world after the reading
-abbrev gone_to : Plate → Given → Simulated → Simulated
-gone_to k none w = with_motion axis.DepositBelt (Some (motion_along (out_of_cell k) IsSeen)) w
-gone_to k one w = with_motion axis.DepositBelt (Some (motion_along (out_of_cell k) (Between 0))) w
-gone_to k two w =
-    with_plate station.DepEnd (plate_here w station.DepIn) (with_plate station.DepIn None
-    (with_motion axis.DepositBelt (Some (motion_along (out_of_cell k) Arrived)) w))
+abbrev pub gone_to : Conveying → Plate → Given → Simulated → Simulated
+gone_to c k none w = with_motion (belt_of c) (Some (motion_along (path_with c k) IsSeen)) w
+gone_to c k one w = with_motion (belt_of c) (Some (motion_along (path_with c k) (Between 0))) w
+gone_to c k two w =
+    with_plate (dest_of c) (plate_here w (from_of c)) (with_plate (from_of c) None
+    (with_motion (belt_of c) (Some (motion_along (path_with c k) Arrived)) w))
 
 when : {X : Type 0} (b : Bool) (x y : X) → b ≡ true → (if b then x else y) ≡ x
 when true x y h = refl
 when false x y h = cc h
 
 -- a world that isn't watched doesn't look where the plate comes to lie
-unlooked_carrying : (from to : Station) (w : Simulated) → w.watch.is_on ≡ false → carrying_looked from to w ≡ w
+pub unlooked_carrying : (from to : Station) (w : Simulated) → w.watch.is_on ≡ false → carrying_looked from to w ≡ w
 unfolding carrying_looked
 unlooked_carrying from to w u =
     unless (w.watch.is_on && not (can_lie w to)) _ w (ap (λ b. b && not (can_lie w to)) u)
 
 -- the plate is brought to the empty end
-brought : (k : Plate) (w : Simulated) → w.watch.is_on ≡ false → plate_here w station.DepIn ≡ Some k
-    → plate_here w station.DepEnd ≡ None
-    → arrived axis.DepositBelt (out_of_cell k) w
-    ≡ with_plate station.DepEnd (plate_here w station.DepIn) (with_plate station.DepIn None w)
+brought : (c : Conveying) (k : Plate) (w : Simulated) → w.watch.is_on ≡ false → plate_here w (from_of c) ≡ Some k
+    → plate_here w (dest_of c) ≡ None
+    → arrived (belt_of c) (path_with c k) w
+    ≡ with_plate (dest_of c) (plate_here w (from_of c)) (with_plate (from_of c) None w)
 unfolding arrived
-brought k w u a b =
-    when (same_number (plate_at w station.DepIn) (Some k.number)) _ w
-    (ap (λ (o : Option Plate). same_number (option_map (λ (p : Plate). p.number) o) (Some k.number)) a
-    ∙ same_nat k.number)
-    ∙ (ap (λ (v : Simulated). plate_moved station.DepIn station.DepEnd v)
-    (unlooked_carrying station.DepIn station.DepEnd w u)
-    ∙ unless (has_plate w station.DepEnd) w _
-    (ap (λ (o : Option Plate). is_some (option_map (λ (p : Plate). p.number) o)) b))
+brought c k w u a b =
+    when (same_plate (plate_at w (from_of c)) (Some k.number)) _ w
+    (ap (λ (o : Option Plate). same_plate (number_of o) (Some k.number)) a ∙ same_number k.number k.number refl)
+    ∙ (ap (λ (v : Simulated). plate_moved (from_of c) (dest_of c) v) (unlooked_carrying (from_of c) (dest_of c) w u)
+    ∙ unless (has_plate w (dest_of c)) w _ (ap (λ (o : Option Plate). is_some (number_of o)) b))
 
-belt_goes : (k : Plate) (g : Given) (w : Simulated) → w.watch.is_on ≡ false
-    → (axis_at w axis.DepositBelt).motion ≡ Some (motion_along (out_of_cell k) (phase_of g))
-    → plate_here w station.DepIn ≡ Some k → plate_here w station.DepEnd ≡ None
-    → advanced axis.DepositBelt w ≡ gone_to k g w
+abbrev Way : Conveying → Plate → Given → Simulated → Type 0
+Way c k g w = (axis_at w (belt_of c)).motion ≡ Some (motion_along (path_with c k) (phase_of g))
+
+belt_goes : (c : Conveying) (k : Plate) (g : Given) (w : Simulated) → w.watch.is_on ≡ false → Way c k g w
+    → plate_here w (from_of c) ≡ Some k → plate_here w (dest_of c) ≡ None → advanced (belt_of c) w ≡ gone_to c k g w
 unfolding advanced left_with
-belt_goes k none w u h a b = rw h refl
-belt_goes k one w u h a b = rw h refl
-belt_goes k two w u h a b =
-    let c = Some (On axis.DepositBelt pose.ToEnd) in
-    let v = with_motion axis.DepositBelt (Some (motion_along (out_of_cell k) Arrived)) w in
-    let e = ap (λ (x : Simulated). looked c x) (brought k v u a b) ∙ unlooked c (gone_to k two w) u in rw h e
+belt_goes c k none w u h a b = rw h refl
+belt_goes c k one w u h a b = rw h refl
+belt_goes c k two w u h a b =
+    let m = motion_along (path_with c k) (Between 0) in
+    let o = command_of (belt_of c) (goal_of (belt_of c) m) in
+    let v = with_motion (belt_of c) (Some (motion_along (path_with c k) Arrived)) w in
+    let e = ap (λ (x : Simulated). looked o x) (brought c k v u a b) ∙ unlooked o (gone_to c k two w) u in rw h e
 
--- under the red light no plate is taken
-none_taken : (w : Simulated) → w.deposit_light ≡ colour.Red → by_the_hands w machine.Deposit ≡ w
-unfolding plate_taken
-none_taken w red =
+-- under the red light no plate is laid in or taken
+no_green : (x : Bool) (c : Conveying) (w : Simulated) → light_of c w ≡ colour.Red
+    → (same_colour (light_of c w) colour.Green && x) ≡ false
+no_green x c w red = ap (λ l. same_colour l colour.Green && x) red
+
+pub none_by_hand : (c : Conveying) (w : Simulated) → light_of c w ≡ colour.Red → by_the_hands w (machine_of c) ≡ w
+unfolding plate_laid plate_taken
+none_by_hand to_feed_end w red =
+    unless (same_colour w.feed_light colour.Green && (is_plate_left w && (is_feed_empty w || w.is_trusting))) _ w
+    (no_green (is_plate_left w && (is_feed_empty w || w.is_trusting)) to_feed_end w red)
+none_by_hand to_table w red =
+    unless (same_colour w.feed_light colour.Green && (is_plate_left w && (is_feed_empty w || w.is_trusting))) _ w
+    (no_green (is_plate_left w && (is_feed_empty w || w.is_trusting)) to_table w red)
+none_by_hand to_deposit_end w red =
     unless (same_colour w.deposit_light colour.Green && has_plate w station.DepEnd) _ w
-    (ap (λ c. same_colour c colour.Green && has_plate w station.DepEnd) red)
+    (no_green (has_plate w station.DepEnd) to_deposit_end w red)
 
-abbrev Way : Plate → Given → Simulated → Type 0
-Way k g w = (axis_at w axis.DepositBelt).motion ≡ Some (motion_along (out_of_cell k) (phase_of g))
+is_read : (c : Conveying) (k : Plate) (g : Given) (w : Simulated) → Way c k g w
+    → is_reading_missing w (machine_of c) ≡ false
+is_read to_feed_end k g w h = rw h refl
+is_read to_table k g w h = rw h refl
+is_read to_deposit_end k g w h = rw h refl
 
-is_read : (k : Plate) (g : Given) (w : Simulated) → Way k g w → is_reading_missing w machine.Deposit ≡ false
-is_read k g w h = rw h refl
+pub one_axis : (c : Conveying) (w : Simulated) → in_turn advanced (axes_of (machine_of c)) w ≡ advanced (belt_of c) w
+one_axis to_feed_end w = refl
+one_axis to_table w = refl
+one_axis to_deposit_end w = refl
 
-read_belt : (k : Plate) (g : Given) (w : Simulated) → w.watch.is_on ≡ false → Way k g w
-    → plate_here w station.DepIn ≡ Some k
-    → plate_here w station.DepEnd ≡ None → read_on machine.Deposit w ≡ gone_to k g w
+read_belt : (c : Conveying) (k : Plate) (g : Given) (w : Simulated) → w.watch.is_on ≡ false → Way c k g w
+    → plate_here w (from_of c) ≡ Some k
+    → plate_here w (dest_of c) ≡ None → read_on (machine_of c) w ≡ gone_to c k g w
 unfolding read_on
-read_belt k g w u h a b = unless (is_reading_missing w machine.Deposit) _ _ (is_read k g w h) ∙ belt_goes k g w u h a b
+read_belt c k g w u h a b =
+    unless (is_reading_missing w (machine_of c)) _ _ (is_read c k g w h) ∙ (one_axis c w ∙ belt_goes c k g w u h a b)
 
-after_belt : (k : Plate) (g : Given) (w : Simulated) → w.watch.is_on ≡ false → w.deposit_light ≡ colour.Red → Way k g w
-    → plate_here w station.DepIn ≡ Some k → plate_here w station.DepEnd ≡ None
-    → after_reading w machine.Deposit ≡ gone_to k g w
+pub after_belt : (J : List Entry) (p : Plan) (c : Conveying) (k : Plate) (g : Given) (f : Option Following)
+    (w : Simulated) → BeltGoes J p c k g f w → after_reading w (machine_of c) ≡ gone_to c k g w
 unfolding after_reading
-after_belt k g w u red h a b =
-    ap (λ (v : Simulated). read_on machine.Deposit v) (none_taken w red) ∙ read_belt k g w u h a b
+after_belt J p c k g f w t =
+    ap (λ (v : Simulated). read_on (machine_of c) v) (none_by_hand c w t.red)
+    ∙ read_belt c k g w t.plain.unwatched t.goes t.here t.empty
 
-shown_belt : (k : Plate) (g : Given) (w : Simulated) → w.watch.is_on ≡ false → w.deposit_light ≡ colour.Red → Way k g w
-    → plate_here w station.DepIn ≡ Some k → plate_here w station.DepEnd ≡ None
-    → shown w machine.Deposit ≡ Some (shown_now (gone_to k g w) machine.Deposit)
+pub shown_belt : (J : List Entry) (p : Plan) (c : Conveying) (k : Plate) (g : Given) (f : Option Following)
+    (w : Simulated)
+    → BeltGoes J p c k g f w
+    → shown w (machine_of c) ≡ Some (shown_now (gone_to c k g w) (machine_of c))
 unfolding shown shown_on
-shown_belt k g w u red h a b =
-    ap (λ (v : Simulated). if is_reading_missing v machine.Deposit then None
-    else Some (shown_now (read_on machine.Deposit v) machine.Deposit)) (none_taken w red)
-    ∙ (unless (is_reading_missing w machine.Deposit) _ _ (is_read k g w h)
-    ∙ ap (λ (v : Simulated). Some (shown_now v machine.Deposit)) (read_belt k g w u h a b))
+shown_belt J p c k g f w t =
+    let m = machine_of c in
+    ap (λ (v : Simulated). if is_reading_missing v m then None else Some (shown_now (read_on m v) m))
+    (none_by_hand c w t.red)
+    ∙ (unless (is_reading_missing w m) _ _ (is_read c k g w t.goes)
+    ∙ ap (λ (v : Simulated). Some (shown_now v m)) (read_belt c k g w t.plain.unwatched t.goes t.here t.empty))
 
 -- the belt's motion and the plates then
-phase_then : Given → Phase
+abbrev phase_then : Given → Phase
 phase_then none = IsSeen
 phase_then one = Between 0
 phase_then two = Arrived
 
-motion_then : (k : Plate) (g : Given) (w : Simulated) → length w.axes ≡ 9
-    → (axis_at (gone_to k g w) axis.DepositBelt).motion ≡ Some (motion_along (out_of_cell k) (phase_then g))
-unfolding phase_then
-motion_then k none w n = ap (λ (x : AxisInWorld). x.motion) (at_same w axis.DepositBelt _ (omega (arith, n)))
-motion_then k one w n = ap (λ (x : AxisInWorld). x.motion) (at_same w axis.DepositBelt _ (omega (arith, n)))
-motion_then k two w n = ap (λ (x : AxisInWorld). x.motion) (at_same w axis.DepositBelt _ (omega (arith, n)))
+motion_then : (c : Conveying) (k : Plate) (g : Given) (w : Simulated) → IsPlain w
+    → (axis_at (gone_to c k g w) (belt_of c)).motion ≡ Some (motion_along (path_with c k) (phase_then g))
+motion_then c k none w t =
+    ap (λ (x : AxisInWorld). x.motion) (at_same w (belt_of c) _ (below_nine (belt_of c) _ t.axes))
+motion_then c k one w t =
+    ap (λ (x : AxisInWorld). x.motion) (at_same w (belt_of c) _ (below_nine (belt_of c) _ t.axes))
+motion_then c k two w t =
+    ap (λ (x : AxisInWorld). x.motion) (at_same w (belt_of c) _ (below_nine (belt_of c) _ t.axes))
 
-end_then : (k : Plate) (w : Simulated) → length w.plates ≡ 9 → plate_here w station.DepIn ≡ Some k
-    → plate_here (gone_to k two w) station.DepEnd ≡ Some k
-end_then k w n a =
-    let m : length (with_plate station.DepIn None w).plates ≡ 9 = length-set _ _ _ ∙ n in
-    get_or-set_same (with_plate station.DepIn None w).plates 8 _ _ (omega (arith, m)) ∙ a
+ends_apart : (c : Conveying) → station_number (from_of c) ≢ station_number (dest_of c)
+ends_apart to_feed_end = omega arith
+ends_apart to_table = omega arith
+ends_apart to_deposit_end = omega arith
 
-in_then : (k : Plate) (w : Simulated) → length w.plates ≡ 9 → plate_here (gone_to k two w) station.DepIn ≡ None
-in_then k w n =
-    get_or-set_other (with_plate station.DepIn None w).plates 8 7 _ _ (omega arith)
-    ∙ get_or-set_same w.plates 7 _ _ (omega (arith, n))
+end_then : (c : Conveying) (k : Plate) (w : Simulated) → IsPlain w → plate_here w (from_of c) ≡ Some k
+    → plate_here (gone_to c k two w) (dest_of c) ≡ Some k
+end_then c k w t a =
+    let v = with_motion (belt_of c) (Some (motion_along (path_with c k) Arrived)) w in
+    here_now (dest_of c) (plate_here w (from_of c)) (with_plate (from_of c) None v) (length-set _ _ _ ∙ t.stations) ∙ a
 
-motion_then_none : (k : Plate) (w : Simulated) → length w.axes ≡ 9
-    → (axis_at (gone_to k none w) axis.DepositBelt).motion ≡ Some (motion_along (out_of_cell k) (phase_of one))
-motion_then_none k w n = ap (λ (x : AxisInWorld). x.motion) (at_same w axis.DepositBelt _ (omega (arith, n)))
+in_then : (c : Conveying) (k : Plate) (w : Simulated) → IsPlain w → plate_here (gone_to c k two w) (from_of c) ≡ None
+in_then c k w t =
+    let v = with_motion (belt_of c) (Some (motion_along (path_with c k) Arrived)) w in
+    here_before (dest_of c) (from_of c) (plate_here w (from_of c)) (with_plate (from_of c) None v) (ends_apart c)
+    ∙ here_now (from_of c) None v t.stations
 
-motion_then_one : (k : Plate) (w : Simulated) → length w.axes ≡ 9
-    → (axis_at (gone_to k one w) axis.DepositBelt).motion ≡ Some (motion_along (out_of_cell k) (phase_of two))
-motion_then_one k w n = ap (λ (x : AxisInWorld). x.motion) (at_same w axis.DepositBelt _ (omega (arith, n)))
-
--- what both sensors show
+-- what the sensors at both ends show
 abbrev first_shown : Given → Bool
 first_shown none = true
 first_shown one = false
@@ -166,118 +184,175 @@ last_shown none = false
 last_shown one = false
 last_shown two = true
 
-first_then : (k : Plate) (g : Given) (w : Simulated) → length w.axes ≡ 9 → length w.plates ≡ 9
-    → plate_here w station.DepIn ≡ Some k → plate_here w station.DepEnd ≡ None
-    → senses (gone_to k g w) axis.DepositBelt station.DepIn ≡ first_shown g
-unfolding phase_then
-first_then k none w n m a b = let h = motion_then k none w n in rw h (rw a refl)
-first_then k one w n m a b = let h = motion_then k one w n in let e = same_nat k.number in rw h (rw (a, e) refl)
-first_then k two w n m a b = let h = motion_then k two w n in let e = in_then k w m in rw h (rw e refl)
+and_false : (b : Bool) → (b && false) ≡ false
+and_false true = refl
+and_false false = refl
 
-last_then : (k : Plate) (g : Given) (w : Simulated) → length w.axes ≡ 9 → length w.plates ≡ 9
-    → plate_here w station.DepIn ≡ Some k → plate_here w station.DepEnd ≡ None
-    → senses (gone_to k g w) axis.DepositBelt station.DepEnd ≡ last_shown g
-unfolding phase_then
-last_then k none w n m a b = let h = motion_then k none w n in rw h (rw b refl)
-last_then k one w n m a b = let h = motion_then k one w n in rw h (rw b refl)
-last_then k two w n m a b = let h = motion_then k two w n in let e = end_then k w m a in rw h (rw e refl)
+first_then : (c : Conveying) (k : Plate) (g : Given) (w : Simulated) → IsPlain w
+    → plate_here w (from_of c) ≡ Some k → senses (gone_to c k g w) (belt_of c) (from_of c) ≡ first_shown g
+first_then c k none w t a = let h = motion_then c k none w t in rw h (rw a refl)
+first_then c k one w t a =
+    let h = motion_then c k one w t in let e = same_number k.number k.number refl in
+    let s = same_number (station_number (from_of c)) (station_number (from_of c)) refl in
+    rw h (rw (a, e, s) refl)
+first_then c k two w t a = let h = motion_then c k two w t in let e = in_then c k w t in rw h (rw e refl)
 
-belt_bits : (x y : Bool) → station_bits 0 (bit_if x 1 + bit_if y 2) ≡ (x ∷ y ∷ false ∷ false ∷ false ∷ false ∷ [])
-belt_bits x y =
-    ap (λ (b : Bool). b ∷ bit (bit_if x 1 + bit_if y 2) 1 ∷ false ∷ false ∷ false ∷ false ∷ []) (first_bit x y)
-    ∙ ap (λ (b : Bool). x ∷ b ∷ false ∷ false ∷ false ∷ false ∷ []) (second_bit x y)
+last_then : (c : Conveying) (k : Plate) (g : Given) (w : Simulated) → IsPlain w
+    → plate_here w (from_of c) ≡ Some k → plate_here w (dest_of c) ≡ None
+    → senses (gone_to c k g w) (belt_of c) (dest_of c) ≡ last_shown g
+last_then c k none w t a b = let h = motion_then c k none w t in rw h (rw b refl)
+last_then c k one w t a b =
+    let h = motion_then c k one w t in let s = other_station (dest_of c) (from_of c) (ends_apart c) in
+    rw h (rw b (and_false _))
+last_then c k two w t a b = let h = motion_then c k two w t in let e = end_then c k w t a in rw h (rw e refl)
 
-both_shown : (g : Given) → Some (first_shown g ∷ last_shown g ∷ false ∷ false ∷ false ∷ false ∷ []) ≡ seen_of
-    pose.Rest pose.ToEnd g
-both_shown none = refl
-both_shown one = refl
-both_shown two = refl
+-- the bits of three sensors
+pub bits_of_three : (x y z : Bool) → (bit (bit_if x 1 + (bit_if y 2 + bit_if z 4)) 0 ≡ x)
+    × (bit (bit_if x 1 + (bit_if y 2 + bit_if z 4)) 1 ≡ y)
+    × (bit (bit_if x 1 + (bit_if y 2 + bit_if z 4)) 2 ≡ z)
+unfolding bit
+bits_of_three true true true = (refl, refl, refl)
+bits_of_three true true false = (refl, refl, refl)
+bits_of_three true false true = (refl, refl, refl)
+bits_of_three true false false = (refl, refl, refl)
+bits_of_three false true true = (refl, refl, refl)
+bits_of_three false true false = (refl, refl, refl)
+bits_of_three false false true = (refl, refl, refl)
+bits_of_three false false false = (refl, refl, refl)
 
-seen_belt : (J : List Entry) (p : Plan) (k : Plate) (g : Given) (w : Simulated) → length w.axes ≡ 9
-    → length w.plates ≡ 9
-    → plate_here w station.DepIn ≡ Some k → plate_here w station.DepEnd ≡ None
-    → seen (motion_by J p axis.DepositBelt pose.ToEnd) (Some (shown_now (gone_to k g w) machine.Deposit))
-    ≡ seen_of pose.Rest pose.ToEnd g
+two_shown : (b c x y : Bool) → b ≡ x → c ≡ y
+    → Some (b ∷ c ∷ false ∷ false ∷ false ∷ false ∷ []) ≡ Some (x ∷ y ∷ false ∷ false ∷ false ∷ false ∷ [])
+two_shown b c x y h k = rw (h, k) refl
+
+seen_by : (J : List Entry) (p : Plan) (c : Conveying) (v : Simulated)
+    → seen (motion_by J p (belt_of c) (name_of c)) (Some (shown_now v (machine_of c)))
+    ≡ Some (senses v (belt_of c) (from_of c) ∷ senses v (belt_of c) (dest_of c) ∷ false ∷ false ∷ false ∷ false ∷ [])
 unfolding seen
-seen_belt J p k g w n m a b =
-    let x = senses (gone_to k g w) axis.DepositBelt station.DepIn in
-    let y = senses (gone_to k g w) axis.DepositBelt station.DepEnd in
-    ap (λ (v : List Bool). Some v) (belt_bits x y)
-    ∙ (ap (λ (v : Bool). Some (v ∷ y ∷ false ∷ false ∷ false ∷ false ∷ [])) (first_then k g w n m a b)
-    ∙ (ap (λ (v : Bool). Some (first_shown g ∷ v ∷ false ∷ false ∷ false ∷ false ∷ [])) (last_then k g w n m a b)
-    ∙ both_shown g))
+seen_by J p to_feed_end v =
+    let b = bits_of_three (senses v axis.FeedBelt station.FeedIn) (senses v axis.FeedBelt station.FeedEnd)
+    (senses v axis.FeedBelt station.Table) in two_shown _ _ _ _ b.0 b.1
+seen_by J p to_table v =
+    let b = bits_of_three (senses v axis.FeedBelt station.FeedIn) (senses v axis.FeedBelt station.FeedEnd)
+    (senses v axis.FeedBelt station.Table) in two_shown _ _ _ _ b.1 b.2
+seen_by J p to_deposit_end v =
+    let x = senses v axis.DepositBelt station.DepIn in let y = senses v axis.DepositBelt station.DepEnd in
+    two_shown _ _ _ _ (first_bit x y) (second_bit x y)
 
-abbrev belt_motion : List Entry → Plan → Motion
-belt_motion J p = motion_by J p axis.DepositBelt pose.ToEnd
+both_shown : (c : Conveying) (g : Given)
+    → Some (first_shown g ∷ last_shown g ∷ false ∷ false ∷ false ∷ false ∷ []) ≡ seen_of pose.Rest (name_of c) g
+both_shown c none = refl
+both_shown c one = refl
+both_shown to_feed_end two = refl
+both_shown to_table two = refl
+both_shown to_deposit_end two = refl
 
-noted_belt : (J : List Entry) (p : Plan) (k : Plate) (g : Given) (f : Option Following) (w : Simulated)
-    → DepositGoes J p k g f w
-    → axis_noted J machine.Deposit p f (shown w machine.Deposit)
+abbrev belt_motion : List Entry → Plan → Conveying → Motion
+belt_motion J p c = motion_by J p (belt_of c) (name_of c)
+
+seen_belt : (J : List Entry) (p : Plan) (c : Conveying) (k : Plate) (g : Given) (f : Option Following) (w : Simulated)
+    → BeltGoes J p c k g f w
+    → seen (belt_motion J p c) (Some (shown_now (gone_to c k g w) (machine_of c))) ≡ seen_of pose.Rest (name_of c) g
+seen_belt J p c k g f w t =
+    seen_by J p c (gone_to c k g w)
+    ∙ (two_shown _ _ _ _ (first_then c k g w t.plain t.here) (last_then c k g w t.plain t.here t.empty)
+    ∙ both_shown c g)
+
+moves_as : (J : List Entry) (p : Plan) (c : Conveying) → going_of J (belt_of c) ≡ Some (name_of c)
+    → motion_of_machine J p (machine_of c) ≡ Some (belt_motion J p c)
+moves_as J p to_feed_end h = rw h refl
+moves_as J p to_table h = rw h refl
+moves_as J p to_deposit_end h = rw h refl
+
+noted_belt : (J : List Entry) (p : Plan) (c : Conveying) (k : Plate) (g : Given) (f : Option Following) (w : Simulated)
+    → BeltGoes J p c k g f w
+    → axis_noted J (machine_of c) p f (shown w (machine_of c))
     ≡ Some (record {
-      motion = belt_motion J p;
-      readings = readings_of (belt_motion J p) g ++ seen_of (at_of J axis.DepositBelt) pose.ToEnd g ∷ [];
+      motion = belt_motion J p c;
+      readings = readings_of (belt_motion J p c) g ++ seen_of (at_of J (belt_of c)) (name_of c) g ∷ [];
     })
-noted_belt J p k g f w t =
-    let m = belt_motion J p in let n = machine.Deposit in
+noted_belt J p c k g f w t =
+    let m = belt_motion J p c in let n = machine_of c in
     ap (λ (x : Option Following). option_map (with_reading (shown w n)) (followed x (motion_of_machine J p n))) t.noted
-    ∙ (ap (λ (x : Option Motion). option_map (with_reading (shown w n)) (followed (noted_of m g) x)) t.books
+    ∙ (ap (λ (x : Option Motion). option_map (with_reading (shown w n)) (followed (noted_of m g) x))
+    (moves_as J p c t.booked)
     ∙ (ap (λ (x : Option Following). option_map (with_reading (shown w n)) x) (followed_as m g)
     ∙ (ap (λ (r : Option Reading). Some (with_reading r (record { motion = m; readings = readings_of m g })))
-    (shown_belt k g w t.unwatched t.red t.goes t.here t.empty)
+    (shown_belt J p c k g f w t)
     ∙ ap (λ (x : Seen). Some (record { motion = m; readings = readings_of m g ++ x ∷ [] }))
-    (seen_belt J p k g w t.nine t.nine_plates t.here t.empty
-    ∙ ap (λ (q : Pose). seen_of q pose.ToEnd g) (sym t.home)))))
+    (seen_belt J p c k g f w t ∙ ap (λ (q : Pose). seen_of q (name_of c) g) (sym t.home)))))
 
-pub belt_goes_on : DepositGoesOn
-belt_goes_on J p k none f w fair t =
-    let n = noted_belt J p k none f w t in let v = after_belt k none w t.unwatched t.red t.goes t.here t.empty in
-    subst (λ (y : Simulated). DepositStays J p k one (axis_noted J machine.Deposit p f
-    (shown w machine.Deposit)) y) (sym v)
-    (subst (λ (x : Option Following). DepositStays J p k one x (gone_to k none w)) (sym n)
-    (record {
-      pending = first_pending (belt_motion J p) fair;
-      goes = record {
-        books = t.books;
-        home = t.home;
-        red = t.red;
-        unwatched = t.unwatched;
-        nine = length-set _ _ _ ∙ t.nine;
-        nine_plates = t.nine_plates;
-        here = t.here;
-        empty = t.empty;
-        goes = motion_then_none k w t.nine;
-        noted = refl;
-      };
-    }))
-belt_goes_on J p k one f w fair t =
-    let n = noted_belt J p k one f w t in let v = after_belt k one w t.unwatched t.red t.goes t.here t.empty in
-    subst (λ (y : Simulated). DepositStays J p k two (axis_noted J machine.Deposit p f
-    (shown w machine.Deposit)) y) (sym v)
-    (subst (λ (x : Option Following). DepositStays J p k two x (gone_to k one w)) (sym n)
-    (record {
-      pending = second_pending (belt_motion J p) fair;
-      goes = record {
-        books = t.books;
-        home = t.home;
-        red = t.red;
-        unwatched = t.unwatched;
-        nine = length-set _ _ _ ∙ t.nine;
-        nine_plates = t.nine_plates;
-        here = t.here;
-        empty = t.empty;
-        goes = motion_then_one k w t.nine;
-        noted = refl;
-      };
-    }))
-belt_goes_on J p k two f w fair t =
-    let n = noted_belt J p k two f w t in let v = after_belt k two w t.unwatched t.red t.goes t.here t.empty in
-    subst (λ (y : Simulated). DepositCame k (axis_noted J machine.Deposit p f (shown w machine.Deposit)) y) (sym v)
-    (subst (λ (x : Option Following). DepositCame k x (gone_to k two w)) (sym n)
-    (record {
-      verdict = third_arrived (belt_motion J p) fair;
+-- the world is as plain as before, and the lights are
+pub gone_plain : (c : Conveying) (k : Plate) (g : Given) (w : Simulated) → IsPlain w → IsPlain (gone_to c k g w)
+gone_plain c k none w t =
+    record { unwatched = t.unwatched; axes = length-set _ _ _ ∙ t.axes; stations = t.stations; short = t.short }
+gone_plain c k one w t =
+    record { unwatched = t.unwatched; axes = length-set _ _ _ ∙ t.axes; stations = t.stations; short = t.short }
+gone_plain c k two w t =
+    record {
       unwatched = t.unwatched;
-      nine = length-set _ _ _ ∙ t.nine;
-      nine_plates = length-set _ _ _ ∙ (length-set _ _ _ ∙ t.nine_plates);
-      gone = in_then k w t.nine_plates;
-      there = end_then k w t.nine_plates t.here;
+      axes = length-set _ _ _ ∙ t.axes;
+      stations = length-set _ _ _ ∙ (length-set _ _ _ ∙ t.stations);
+      short = t.short;
+    }
+
+gone_light : (c : Conveying) (k : Plate) (g : Given) (w : Simulated) → light_of c (gone_to c k g w) ≡ light_of c w
+gone_light to_feed_end k none w = refl
+gone_light to_feed_end k one w = refl
+gone_light to_feed_end k two w = refl
+gone_light to_table k none w = refl
+gone_light to_table k one w = refl
+gone_light to_table k two w = refl
+gone_light to_deposit_end k none w = refl
+gone_light to_deposit_end k one w = refl
+gone_light to_deposit_end k two w = refl
+
+abbrev Noted : List Entry → Plan → Conveying → Option Following → Simulated → Option Following
+Noted J p c f w = axis_noted J (machine_of c) p f (shown w (machine_of c))
+
+pub belt_goes_on : BeltGoesOn
+belt_goes_on J p c k none f w fair t =
+    let v = gone_to c k none w in
+    subst (λ (y : Simulated). BeltStays J p c k one (Noted J p c f w) y) (sym (after_belt J p c k none f w t))
+    (subst (λ (x : Option Following). BeltStays J p c k one x v) (sym (noted_belt J p c k none f w t))
+    (record {
+      pending = first_pending (belt_motion J p c) fair;
+      goes = record {
+        plain = gone_plain c k none w t.plain;
+        booked = t.booked;
+        home = t.home;
+        red = gone_light c k none w ∙ t.red;
+        here = t.here;
+        empty = t.empty;
+        goes = motion_then c k none w t.plain;
+        noted = refl;
+      };
+    }))
+belt_goes_on J p c k one f w fair t =
+    let v = gone_to c k one w in
+    subst (λ (y : Simulated). BeltStays J p c k two (Noted J p c f w) y) (sym (after_belt J p c k one f w t))
+    (subst (λ (x : Option Following). BeltStays J p c k two x v) (sym (noted_belt J p c k one f w t))
+    (record {
+      pending = second_pending (belt_motion J p c) fair;
+      goes = record {
+        plain = gone_plain c k one w t.plain;
+        booked = t.booked;
+        home = t.home;
+        red = gone_light c k one w ∙ t.red;
+        here = t.here;
+        empty = t.empty;
+        goes = motion_then c k one w t.plain;
+        noted = refl;
+      };
+    }))
+belt_goes_on J p c k two f w fair t =
+    let v = gone_to c k two w in
+    subst (λ (y : Simulated). BeltCame J c k (Noted J p c f w) y) (sym (after_belt J p c k two f w t))
+    (subst (λ (x : Option Following). BeltCame J c k x v) (sym (noted_belt J p c k two f w t))
+    (record {
+      plain = gone_plain c k two w t.plain;
+      booked = t.booked;
+      red = gone_light c k two w ∙ t.red;
+      gone = in_then c k w t.plain;
+      there = end_then c k w t.plain t.here;
+      verdict = third_arrived (belt_motion J p c) fair;
     }))

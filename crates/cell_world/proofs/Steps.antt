@@ -1,19 +1,23 @@
 -- One reading more of an axis that goes, and of one that rests
 use Rattle.std.proofs.Common.{◌≡◌, ◌≢◌, ◌<◌, Bool, true, false, Option, Some, None, List, [], ◌∷◌, length, refl}
-use Rattle.std.proofs.Common.{arith, ◌∙◌, get_or-set_same, get_or-set_other, if◌then◌else◌}
+use Rattle.std.proofs.Common.{ℕ, arith, sym, ap, subst, ◌∙◌, get_or-set_same, get_or-set_other, if◌then◌else◌}
 use Rattle.std.proofs.lemmas.Bool.Decides.{nat_tests}
-use Rattle.std.specs.Prelude.{nat_lt}
+use Rattle.std.specs.Prelude.{slice_index_or}
 use Rattle.cell_types.specs.declared.words.Axis.{Axis}
 use Rattle.cell_types.specs.declared.words.Axis.TheVariants as axis
 use Rattle.cell_types.specs.declared.words.Pose.{Pose}
 use Rattle.cell_types.specs.declared.words.Pose.TheVariants as pose
+use Rattle.cell_types.specs.declared.words.Entry.{Entry}
+use Rattle.cell_types.specs.Cell.{is_pose_of}
 use Rattle.cell_types.specs.Same.{axis_number, same_axis, same_pose}
 use Rattle.cell_types.specs.declared.words.Command.{Command}
 use Rattle.cell_types.specs.declared.words.Command.TheVariants.{On}
 use Rattle.cell_types.specs.declared.words.Station.{Station}
 use Rattle.cell_types.specs.declared.words.Station.TheVariants as station
+use Rattle.cell_rules.specs.Views.{at_of, going_of}
+use Rattle.cell_rules.proofs.Safe.Facts.{axis_same}
 use Rattle.cell_diagnosis.specs.declared.motion.Motion.{Motion}
-use Rattle.cell_diagnosis.specs.Readings.{Seen, bit, no_bits, place_in_axis, two_bits}
+use Rattle.cell_diagnosis.specs.Readings.{Seen, no_bits}
 use Rattle.cell_turns.specs.Observed.{followed, same_motion}
 use Rattle.cell_sim.specs.declared.axis.AxisInWorld.{AxisInWorld}
 use Rattle.cell_sim.specs.declared.motion.Moving.{Moving}
@@ -24,11 +28,13 @@ use Rattle.cell_sim.specs.declared.watch.SafetyRule.TheVariants as rule
 use Rattle.cell_sim.specs.declared.watch.Watch.{Watch}
 use Rattle.cell_sim.specs.declared.world.Plate.{Plate}
 use Rattle.cell_sim.specs.Looks.{looked}
-use Rattle.cell_sim.specs.Moves.{moves, switch_bit}
-use Rattle.cell_sim.specs.Parts.{axis_at, broke, plate_here, with_axis, with_motion, with_pose}
-use Rattle.cell_sim.specs.Readings.{advanced, arrived, at_its_end, forged_there, forges, is_silent_in, left_with}
+use Rattle.cell_sim.specs.Moves.{moves}
+use Rattle.cell_sim.specs.Parts.{axis_at, broke, counted, plate_here, with_axis, with_motion, with_plate, with_pose}
+use Rattle.cell_sim.specs.Readings.{advanced, arrived, at_its_end, forged_plate, forged_there, forges, is_silent_in}
+use Rattle.cell_sim.specs.Readings.{left_with}
 use Rattle.cell_sim.specs.Simulated.{Simulated, at_home}
-use Rattle.cell_world.specs.Tied.{Given, none, one, two, phase_of, motion_along, RestsBy, only, noted_of}
+use Rattle.cell_world.specs.Tied.{Given, none, one, two, phase_of, motion_along, Rests, RestsBy, only, noted_of}
+use Rattle.cell_world.specs.Going.{IsAtRest}
 
 pub at_same : (w : Simulated) (a : Axis) (x : AxisInWorld) → axis_number a < length w.axes
     → axis_at (with_axis a x w) a ≡ x
@@ -38,50 +44,112 @@ pub at_other : (w : Simulated) (a b : Axis) (x : AxisInWorld) → axis_number b 
     → axis_at (with_axis a x w) b ≡ axis_at w b
 at_other w a b x h = get_or-set_other w.axes (axis_number a) (axis_number b) x (at_home b) h
 
--- what a reading makes of the world where an axis goes
+pub axes_at : (v w : Simulated) (a : Axis) → v.axes ≡ w.axes → axis_at v a ≡ axis_at w a
+axes_at v w a h = ap (λ (xs : List AxisInWorld). slice_index_or xs (axis_number a) (at_home a)) h
+
+pub below_nine : (a : Axis) (n : ℕ) → n ≡ 9 → axis_number a < n
+below_nine axis.FeedBelt n h = omega (arith, h)
+below_nine axis.TableLift n h = omega (arith, h)
+below_nine axis.TableTurn n h = omega (arith, h)
+below_nine axis.RobotTurn n h = omega (arith, h)
+below_nine axis.ArmOne n h = omega (arith, h)
+below_nine axis.ArmTwo n h = omega (arith, h)
+below_nine axis.PressOne n h = omega (arith, h)
+below_nine axis.PressTwo n h = omega (arith, h)
+below_nine axis.DepositBelt n h = omega (arith, h)
+
+-- what holds of an axis and of all others holds of each
+pub other_axis : (a b : Axis) → axis_number b ≢ axis_number a → same_axis a b ≡ false
+other_axis a b h = grind (arith, nat_tests)
+
+pub different : (a b : Axis) → same_axis b a ≡ false → axis_number b ≢ axis_number a
+different a b h = grind (arith, nat_tests)
+
+each_by : (P : Axis → Type 0) (a b : Axis) (t : Bool) → same_axis b a ≡ t → P a
+    → (axis_number b ≢ axis_number a → P b) → P b
+each_by P a b true h x y = subst P (sym (axis_same b a h)) x
+each_by P a b false h x y = y (different a b h)
+
+pub each_axis : (P : Axis → Type 0) (a b : Axis) → P a → (axis_number b ≢ axis_number a → P b) → P b
+each_axis P a b x y = each_by P a b (same_axis b a) refl x y
+
+-- an axis is at rest as before where book and world have it as before
+pub rests_as : (J J' : List Entry) (v w : Simulated) (a : Axis) → at_of J' a ≡ at_of J a → going_of J' a ≡ going_of J a
+    → axis_at v a ≡ axis_at w a → IsAtRest J w a → IsAtRest J' v a
+rests_as J J' v w a at going h t =
+    record {
+      booked = going ∙ t.booked;
+      own_pose = ap (λ (q : Pose). is_pose_of a q) at ∙ t.own_pose;
+      rests = subst (λ (x : AxisInWorld). Rests (at_of J' a) x) (sym h)
+          (subst (λ (q : Pose). Rests q (axis_at w a)) (sym at) t.rests);
+    }
+
+-- what a reading makes of the world where an axis goes, and the same but for what a press forges
 abbrev pub went : Axis → Pose → Pose → Given → Simulated → Simulated
 went a at to none w = with_motion a (Some (motion_along (Poses at to) IsSeen)) w
 went a at to one w = with_motion a (Some (motion_along (Poses at to) (Between 0))) w
 went a at to two w = at_its_end a to (with_motion a (Some (motion_along (Poses at to) Arrived)) w)
+
+unfoldable pub made : Axis → Pose → Pose → Given → Simulated → Simulated
+made a at to none w = with_motion a (Some (motion_along (Poses at to) IsSeen)) w
+made a at to one w = with_motion a (Some (motion_along (Poses at to) (Between 0))) w
+made a at to two w = with_pose a to (with_motion a (Some (motion_along (Poses at to) Arrived)) w)
+
+pub either : {A X : Type 0} (part : A → X) (b : Bool) (v w : A) (x : X) → part v ≡ x → part w ≡ x
+    → part (if b then v else w) ≡ x
+either part true v w x h k = h
+either part false v w x h k = k
+
+-- a part of the world that no forging changes
+pub record IsLeft {X : Type 0} (part : Simulated → X) : Type 0 where
+  pub broken : (rule : SafetyRule) (c : Option Command) (w : Simulated) → part (broke rule c w) ≡ part w
+  pub plates : (s : Station) (o : Option Plate) (n : ℕ) (w : Simulated)
+      → part (record (with_plate s o w) { forged = n }) ≡ part w
+
+there_left : {X : Type 0} (part : Simulated → X) → IsLeft part → (a : Axis) (s : Station) (o : Option Plate)
+    (w : Simulated) → part (forged_there a s o w) ≡ part w
+there_left part l a s None w = refl
+there_left part l a s (Some p) w =
+    either part p.is_forged (broke rule.ForgedTwice (Some (On a pose.Top)) w) _ (part w)
+    (l.broken rule.ForgedTwice (Some (On a pose.Top)) w) (l.plates s (Some (forged_plate p)) (counted w.forged) w)
+
+forges_left : {X : Type 0} (part : Simulated → X) → IsLeft part → (a : Axis) (w : Simulated)
+    → part (forges a w) ≡ part w
+unfolding forges
+forges_left part l axis.PressOne w = there_left part l axis.PressOne station.Press1 (plate_here w station.Press1) w
+forges_left part l axis.PressTwo w = there_left part l axis.PressTwo station.Press2 (plate_here w station.Press2) w
+forges_left part l a w = refl
+
+pub went_left : {X : Type 0} (part : Simulated → X) → IsLeft part → (a : Axis) (at to : Pose) (g : Given)
+    (w : Simulated) → part (went a at to g w) ≡ part (made a at to g w)
+unfolding made
+went_left part l a at to none w = refl
+went_left part l a at to one w = refl
+went_left part l a at to two w =
+    let v = with_pose a to (with_motion a (Some (motion_along (Poses at to) Arrived)) w) in
+    either part (same_pose to pose.Top) (forges a v) v (part v) (forges_left part l a v) refl
 
 -- a world that isn't watched looks at nothing, and whatever happens in it doesn't turn its watch on
 pub unlooked : (c : Option Command) (w : Simulated) → w.watch.is_on ≡ false → looked c w ≡ w
 unfolding looked
 unlooked c w u = rw u refl
 
-either_on : (b : Bool) (v w : Watch) (x : Bool) → v.is_on ≡ x → w.is_on ≡ x → (if b then v else w).is_on ≡ x
-either_on true v w x h k = h
-either_on false v w x h k = k
-
-broke_on : (rule : SafetyRule) (c : Option Command) (w : Simulated) → (broke rule c w).watch.is_on ≡ w.watch.is_on
+pub broke_on : (rule : SafetyRule) (c : Option Command) (w : Simulated) → (broke rule c w).watch.is_on ≡ w.watch.is_on
 unfolding broke
-broke_on rule c w = either_on w.watch.is_on _ w.watch w.watch.is_on refl refl
+broke_on rule c w = either (λ (t : Watch). t.is_on) w.watch.is_on _ w.watch w.watch.is_on refl refl
 
-either_watch : (b : Bool) (v w : Simulated) (x : Bool) → v.watch.is_on ≡ x → w.watch.is_on ≡ x
-    → (if b then v else w).watch.is_on ≡ x
-either_watch true v w x h k = h
-either_watch false v w x h k = k
+on_left : IsLeft (λ (w : Simulated). w.watch.is_on)
+on_left = record { broken = broke_on; plates = λ s o n w. refl }
 
-there_watch : (a : Axis) (s : Station) (o : Option Plate) (w : Simulated)
-    → (forged_there a s o w).watch.is_on ≡ w.watch.is_on
-there_watch a s None w = refl
-there_watch a s (Some p) w =
-    either_watch p.is_forged (broke rule.ForgedTwice (Some (On a pose.Top)) w) _ w.watch.is_on
-    (broke_on rule.ForgedTwice (Some (On a pose.Top)) w) refl
-
-forges_watch : (a : Axis) (w : Simulated) → (forges a w).watch.is_on ≡ w.watch.is_on
-unfolding forges
-forges_watch axis.PressOne w = there_watch axis.PressOne station.Press1 (plate_here w station.Press1) w
-forges_watch axis.PressTwo w = there_watch axis.PressTwo station.Press2 (plate_here w station.Press2) w
-forges_watch a w = refl
+made_on : (a : Axis) (at to : Pose) (g : Given) (w : Simulated) → (made a at to g w).watch.is_on ≡ w.watch.is_on
+unfolding made
+made_on a at to none w = refl
+made_on a at to one w = refl
+made_on a at to two w = refl
 
 pub went_watch : (a : Axis) (at to : Pose) (g : Given) (w : Simulated)
     → (went a at to g w).watch.is_on ≡ w.watch.is_on
-went_watch a at to none w = refl
-went_watch a at to one w = refl
-went_watch a at to two w =
-    let v = with_pose a to (with_motion a (Some (motion_along (Poses at to) Arrived)) w) in
-    either_watch (same_pose to pose.Top) (forges a v) v w.watch.is_on (forges_watch a v) refl
+went_watch a at to g w = went_left (λ (v : Simulated). v.watch.is_on) on_left a at to g w ∙ made_on a at to g w
 
 pub goes_on : (a : Axis) (w : Simulated) (at to : Pose) (g : Given) → w.watch.is_on ≡ false
     → (axis_at w a).motion ≡ Some (motion_along (Poses at to) (phase_of g)) → advanced a w ≡ went a at to g w
@@ -106,33 +174,15 @@ pub stays : (a : Axis) (w : Simulated) (p : Pose) → RestsBy p (axis_at w a).mo
 unfolding advanced
 stays a w p r = let h = rest_moves p (axis_at w a).motion r in rw h refl
 
-pub either_same : {X : Type 0} (b : Bool) (x : X) → (if b then x else x) ≡ x
-either_same true x = refl
-either_same false x = refl
-
 pub same_poses : (p : Pose) → same_pose p p ≡ true
 same_poses p = grind (arith, nat_tests)
 
 pub same_axes : (a : Axis) → same_axis a a ≡ true
 same_axes a = grind (arith, nat_tests)
 
--- the two switches of an axis, one of which is shown alone
-pub two_only : (p : Pose) → nat_lt (place_in_axis p) 2 ≡ true → two_bits (switch_bit p) ≡ only p
-unfolding bit
-two_only pose.Rest h = refl
-two_only pose.ToEnd h = refl
-two_only pose.ToTable h = refl
-two_only pose.Low h = refl
-two_only pose.High h = refl
-two_only pose.Belt h = refl
-two_only pose.Robot h = refl
-two_only pose.Table1 h = refl
-two_only pose.P1Load h = refl
-two_only pose.In h = refl
-two_only pose.Out h = refl
-two_only pose.Middle h = refl
-two_only pose.Top h = refl
-two_only p h = cc h
+pub not_true : (b : Bool) → (b ≡ true → ⊥) → b ≡ false
+not_true true h = absurd (h refl)
+not_true false h = refl
 
 pub unless : {X : Type 0} (b : Bool) (x y : X) → b ≡ false → (if b then x else y) ≡ y
 unless true x y h = cc h

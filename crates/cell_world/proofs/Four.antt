@@ -1,0 +1,158 @@
+-- The machines with switches together, through the turns of each
+use Rattle.std.proofs.Common.{◌≡◌, ◌≢◌, Bool, true, false, inl, inr, Option, Some, None, List, [], ◌++◌}
+use Rattle.std.proofs.Common.{is_none, refl, sym, ap, ◌∙◌, subst, arith, IfSome, if◌then◌else◌}
+use Rattle.std.proofs.lemmas.Bool.Decides.{nat_tests}
+use Rattle.std.proofs.lemmas.List.{append-nil}
+use Rattle.std.specs.Prelude.{option_to_list, unwrap_or}
+use Rattle.cell_types.specs.declared.words.Axis.{Axis}
+use Rattle.cell_types.specs.declared.words.Entry.{Entry}
+use Rattle.cell_types.specs.declared.words.Entry.TheVariants.{Declared, Repaired, StopAsked}
+use Rattle.cell_types.specs.declared.words.Machine.{Machine}
+use Rattle.cell_types.specs.declared.words.Machine.TheVariants as machine
+use Rattle.cell_types.specs.declared.words.Pose.{Pose}
+use Rattle.cell_types.specs.Cell.{machine_of_axis}
+use Rattle.cell_types.specs.Entries.{machine_of_entry}
+use Rattle.cell_types.specs.Same.{same_machine}
+use Rattle.cell_rules.specs.declared.limits.BookLimits.{BookLimits}
+use Rattle.cell_rules.specs.declared.refusal.Refusal.{Refusal}
+use Rattle.cell_rules.specs.Legal.{allowed, first_of, legal}
+use Rattle.cell_rules.specs.Views.{asks, at_of, fails, going_of, is_asked, is_failed}
+use Rattle.cell_rules.proofs.Safe.Bridge.{legal_snoc}
+use Rattle.cell_rules.proofs.Safe.Facts.{machine_same}
+use Rattle.cell_rules.proofs.Safe.Views.{view_snoc}
+use Rattle.cell_ports.specs.declared.plan.Plan.{Plan}
+use Rattle.cell_turns.specs.Minds.{Mind}
+use Rattle.cell_turns.specs.Turns.{mind_after}
+use Rattle.cell_sim.specs.Parts.{axis_at}
+use Rattle.cell_sim.specs.Readings.{after_reading, shown}
+use Rattle.cell_sim.specs.Simulated.{Simulated}
+use Rattle.cell_turns.specs.Following.{Following}
+use Rattle.cell_world.specs.Going.{AxisGoes, IsAtRest, IsPlain}
+use Rattle.cell_world.specs.Tie.{IsTied}
+use Rattle.cell_world.specs.Sparing.{IsSpared}
+use Rattle.cell_world.specs.Starting.{RobotStands, after_entry, one_more}
+use Rattle.cell_world.specs.Switched.{AxisAsBooked, BookIsWorld, OthersKept, SwitchesKept}
+use Rattle.cell_world.specs.Tied.{Given, Goes}
+use Rattle.cell_world.specs.Turning.{IsAsBooked, after_turn}
+use Rattle.cell_world.proofs.Begins.{some_not}
+use Rattle.cell_world.proofs.Machines.{tied_stands}
+use Rattle.cell_world.proofs.Read.{reading_spares}
+use Rattle.cell_world.proofs.Spared.{entry_spares, some_same, spared_stays}
+use Rattle.cell_world.proofs.Steps.{each_axis, not_true}
+use Rattle.cell_world.proofs.Turns.{tied_plain, turn_keeps}
+
+-- a machine's entry fails no other machine, and asks none to stop
+other_no : (k m n : Machine) → Some k ≡ Some m → m ≢ n → same_machine k n ≡ false
+other_no k m n h d = not_true (same_machine k n) (λ e. d (sym (some_same k m h) ∙ machine_same k n e))
+
+no_failure : (x : Entry) (m n : Machine) → machine_of_entry x ≡ Some m → m ≢ n → fails n x ≡ None
+no_failure (Declared k why) m n h d = let e = other_no k m n h d in rw e refl
+no_failure (Repaired k) m n h d = cc h
+no_failure x m n h d = refl
+
+no_asking : (x : Entry) (m n : Machine) → machine_of_entry x ≡ Some m → m ≢ n → asks n x ≡ None
+no_asking (Declared k why) m n h d = let e = other_no k m n h d in rw e refl
+no_asking (StopAsked k) m n h d = cc h
+no_asking (Repaired k) m n h d = cc h
+no_asking x m n h d = refl
+
+kept_by : (J K : List Entry) (p : Plan) (n : Machine) (s : Mind) (w v : Simulated) → IsSpared n J K w v
+    → is_failed K n ≡ is_failed J n → is_asked K n ≡ is_asked J n → IsAsBooked J p n s w → IsAsBooked K p n s v
+kept_by J K p n s w v i f a t =
+    record {
+      healthy = f ∙ t.healthy;
+      unasked = a ∙ t.unasked;
+      was_healthy = t.was_healthy;
+      was_obeyed = t.was_obeyed;
+      tied = spared_stays J K p n s.axis w v i t.tied;
+      agreed = t.agreed;
+    }
+
+read_kept : (J : List Entry) (p : Plan) (m n : Machine) (s : Mind) (w : Simulated) → IsPlain w → m ≢ n
+    → IsAsBooked J p n s w → IsAsBooked J p n s (after_reading w m)
+read_kept J p m n s w t d i = kept_by J J p n s w (after_reading w m) (reading_spares J w n m t d) refl refl i
+
+entry_kept : (J : List Entry) (p : Plan) (m n : Machine) (s : Mind) (w : Simulated) (x : Entry) → IsPlain w → m ≢ n
+    → machine_of_entry x ≡ Some m → IsAsBooked J p n s w → IsAsBooked (one_more J x) p n s (after_entry w x)
+entry_kept J p m n s w x t d h i =
+    kept_by J (one_more J x) p n s w (after_entry w x) (entry_spares J w x n m t h d)
+    (view_snoc (fails n) false J x ∙ ap (λ (o : Option Bool). unwrap_or o (is_failed J n)) (no_failure x m n h d))
+    (view_snoc (asks n) false J x ∙ ap (λ (o : Option Bool). unwrap_or o (is_asked J n)) (no_asking x m n h d)) i
+
+pub others_kept : OthersKept
+others_kept J p m n s w None t d h i =
+    subst (λ (K : List Entry). IsAsBooked K p n s (after_reading w m)) (sym (append-nil J))
+    (read_kept J p m n s w t d i)
+others_kept J p m n s w (Some x) t d h i =
+    entry_kept J p m n s (after_reading w m) x (reading_spares J w n m t d).plain d h (read_kept J p m n s w t d i)
+
+-- the turn's own machine, and each other one
+same_machines : (m : Machine) → same_machine m m ≡ true
+same_machines m = grind (arith, nat_tests)
+
+apart : (m n : Machine) → same_machine m n ≡ false → m ≢ n
+apart m n h e =
+    let c : true ≡ false = sym (same_machines m) ∙ (ap (λ (x : Machine). same_machine m x) e ∙ h) in cc c
+
+each_kept : (J K : List Entry) (p : Plan) (m n : Machine) (s : Mind) (minds : Machine → Mind) (v : Simulated)
+    (b : Bool)
+    → same_machine m n ≡ b → IsAsBooked K p m s v → (m ≢ n → IsAsBooked K p n (minds n) v)
+    → IsAsBooked K p n (if b then s else minds n) v
+each_kept J K p m n s minds v true h i o = subst (λ (x : Machine). IsAsBooked K p x s v) (machine_same m n h) i
+each_kept J K p m n s minds v false h i o = o (apart m n h)
+
+legal_then : (l : BookLimits) (J : List Entry) (e : Option Entry) → legal l J ≡ true
+    → IfSome e (λ x. first_of l J x ≡ None) → legal l (J ++ option_to_list e) ≡ true
+legal_then l J None h free = ap (λ (K : List Entry). legal l K) (append-nil J) ∙ h
+legal_then l J (Some x) h free =
+    let ok : allowed l J x ≡ true = ap (λ (o : Option Refusal). is_none o) free in legal_snoc l [] J x h ok
+
+pub switches_kept : SwitchesKept
+switches_kept l J p minds w m e b t d free own =
+    let s = minds m in let v = after_turn w m e in let K = J ++ option_to_list e in
+    let it = t.each m b in
+    let plain = tied_plain J p m s.axis w it.tied in
+    let robot : RobotStands J w = tied_stands J p machine.Robot (minds machine.Robot).axis w
+    (t.each machine.Robot refl).tied in
+    let left = turn_keeps l J p m s w e b
+    (record { legal = t.legal; fair = t.fair; as_booked = it; plates = t.plates; robot = robot }) d free in (
+      record {
+        legal = legal_then l J e t.legal free;
+        fair = t.fair;
+        each = λ n c. each_kept J K p m n (mind_after J m p s (shown w m) e) minds v (same_machine m n) refl
+            left.as_booked
+            (λ o. others_kept J p m n (minds n) w e plain o own (t.each n c));
+        plates = λ u h. left.plates u (t.plates u h);
+      },
+      left.collisions,
+    )
+
+-- the axes of a machine that is tied
+some_one : {A : Type 0} (o : Option A) (x y : A) → o ≡ Some x → o ≡ Some y → x ≡ y
+some_one o x y h k = some_same x y (sym h ∙ k)
+
+rests_as_booked : (J : List Entry) (w : Simulated) (a : Axis) → IsAtRest J w a → AxisAsBooked J w a
+rests_as_booked J w a t =
+    record { rests = λ h. t.rests; goes = λ to h. absurd (some_not (going_of J a) to h t.booked) }
+
+goes_as_booked : (J : List Entry) (p : Plan) (w : Simulated) (a : Axis) (to : Pose) (g : Given) (f : Option Following)
+    → AxisGoes J p a to g f w → AxisAsBooked J w a
+goes_as_booked J p w a to g f t =
+    record {
+      rests = λ h. absurd (some_not (going_of J a) to t.booked h);
+      goes = λ q h. (
+        g,
+        subst (λ (x : Pose). Goes (at_of J a) x g (axis_at w a)) (some_one (going_of J a) to q t.booked h)
+            t.goes,
+      );
+    }
+
+tied_as_booked : (J : List Entry) (p : Plan) (m : Machine) (f : Option Following) (w : Simulated) → IsTied J p m f w
+    → (a : Axis) → machine_of_axis a ≡ m → AxisAsBooked J w a
+tied_as_booked J p m f w (inl t) a e = rests_as_booked J w a (t.rest a e)
+tied_as_booked J p m f w (inr t) a e =
+    each_axis (AxisAsBooked J w) t.mover a (goes_as_booked J p w t.mover t.to t.given f t.goes)
+    (λ d. rests_as_booked J w a (t.goes.others a (e ∙ sym t.of) d))
+
+pub book_is_world : BookIsWorld
+book_is_world J p m s w t a e = tied_as_booked J p m s.axis w t.tied a e
