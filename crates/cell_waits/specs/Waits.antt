@@ -2,7 +2,9 @@
 use Rattle.std.specs.Prelude.{Bool, true, false, not, ◌&&◌, Option, Some, None, is_some, if◌then◌else◌}
 use Rattle.std.specs.List.{find}
 use Rattle.std.specs.Option.{option_map, option_or}
+use Rattle.cell_types.specs.declared.words.Arm.TheVariants as arm
 use Rattle.cell_types.specs.declared.words.Machine.{Machine}
+use Rattle.cell_types.specs.declared.words.Machine.TheVariants as machine
 use Rattle.cell_types.specs.declared.words.Station.TheVariants as station
 use Rattle.cell_types.specs.declared.words.Axis.{Axis}
 use Rattle.cell_types.specs.declared.words.Axis.TheVariants as axis
@@ -62,11 +64,24 @@ can_go_on l c m = is_some (first_useful l c m sought.Any)
 abbrev pub no_room : BookLimits
 no_room = record { entries = 0; plates = 0 }
 
--- what a machine wants next: the end of its motion, or else a zone that it doesn't hold, or else a motion
+-- the drop of arm 1's plate at press 2, where both presses are failed
+abbrev pub stranded : Situation → Option Entry
+stranded c =
+    if c.failed machine.Press1 && c.failed machine.Press2
+    then option_map (λ k. Dropped arm.Arm1 k station.Press2) (c.plate station.Arm1) else None
+
+-- the drop of a plate that no press is left for; only the robot has one
+abbrev pub stranded_drop : Situation → Machine → Option Entry
+stranded_drop c machine.Robot = stranded c
+stranded_drop c m = None
+
+-- what a machine wants next: the end of its motion, or else a zone that it doesn't hold, or else a motion, or else the
+-- drop of a plate that no press is left for
 abbrev pub next_wanted : Situation → Machine → Option Entry
 next_wanted c m =
     option_or (end_of_motion c m)
-    (option_or (first_useful no_room c m sought.Claims) (first_useful no_room c m sought.Motions))
+    (option_or (first_useful no_room c m sought.Claims)
+    (option_or (first_useful no_room c m sought.Motions) (stranded_drop c m)))
 
 -- an entry with its first refusal, if it is refused
 abbrev pub refused : BookLimits → Situation → Entry → Option Waiting

@@ -25,8 +25,8 @@ type Case = (
     Option<(&'static str, Refusal)>,
 );
 
-// Thirteen of them, by the rules of docs/CELL.md.
-const CASES: [Case; 13] = [
+// Fifteen of them, by the rules of docs/CELL.md.
+const CASES: [Case; 15] = [
     // Nothing is laid in: the feed belt wants no motion. Then it moves, and gives its plate to the table.
     (0, &[], Machine::Feed, None),
     (3, &[], Machine::Feed, None),
@@ -66,6 +66,25 @@ const CASES: [Case; 13] = [
         &["declared,table,operator_stop,"],
         Machine::Table,
         Some(("claimed,table,z1,", Refusal::MachineFailed(Machine::Table))),
+    ),
+    // No press is left for the plate that arm 1 has; or one is.
+    (
+        23,
+        &[
+            "declared,press1,operator_stop,",
+            "declared,press2,operator_stop,",
+        ],
+        Machine::Robot,
+        Some((
+            "dropped,arm1,1,press2",
+            Refusal::OwnerFailed(Machine::Press2),
+        )),
+    ),
+    (
+        23,
+        &["declared,press2,operator_stop,"],
+        Machine::Robot,
+        None,
     ),
     // The robot is still in the press's zone, and then gives it up; and so in the deposit belt's.
     (
