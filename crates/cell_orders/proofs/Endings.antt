@@ -7,24 +7,15 @@ use Rattle.cell_explain.specs.Explained.{EndsAsAudit, EndsAsFaults, EndsAsScript
 use Rattle.cell_rows.specs.declared.script.LineError.TheVariants as line
 
 -- an explanation of a record that was cut ends as the one that was made, or for want of memory
-pub cut-ends : (r explained : Result ℕ WriteFault) (P : ℕ → Type 0)
-    → IfOk r (λ s. (s ≡ 4) ⊎ (explained ≡ Ok s)) → IfOk explained P → P 4 → IfOk r P
-cut-ends (Ok s) explained P (inl is) ended four = subst P (sym is) four
-cut-ends (Ok s) explained P (inr is) ended four = subst (λ (v : Result ℕ WriteFault). IfOk v P) is ended
-cut-ends (Err e) explained P is ended four = tt
-
--- the same, where there is a text of which that holds
-pub cut-ends-of : (r explained : Result ℕ WriteFault) (P : List ℕ → ℕ → Type 0) (x : List ℕ)
-    → IfOk r (λ s. (s ≡ 4) ⊎ (explained ≡ Ok s)) → IfOk explained (P x) → P x 4 → IfOk r (λ s. (y : List ℕ) × P y s)
-cut-ends-of (Ok s) explained P x is ended four = (x, cut-ends (Ok s) explained (P x) is ended four)
-cut-ends-of (Err e) explained P x is ended four = tt
+pub cut-ends : (s : ℕ) (explained : Result ℕ WriteFault) (P : ℕ → Type 0)
+    → (s ≡ 4) ⊎ (explained ≡ Ok s) → IfOk explained P → P 4 → P s
+cut-ends s explained P (inl is) ended four = subst P (sym is) four
+cut-ends s explained P (inr is) ended four = subst (λ (v : Result ℕ WriteFault). IfOk v P) is ended
 
 -- explaining judges the text again, which ends as the first judging did, or for want of memory
-pub as-ends : (r : Result ℕ WriteFault) (due : ℕ) (P : ℕ → Type 0) → IfOk r (λ s. (s ≡ due) ⊎ (s ≡ 4)) → P due → P 4
-    → IfOk r P
-as-ends (Ok s) due P (inl is) ended four = subst P (sym is) ended
-as-ends (Ok s) due P (inr is) ended four = subst P (sym is) four
-as-ends (Err e) due P is ended four = tt
+pub as-ends : (s due : ℕ) (P : ℕ → Type 0) → (s ≡ due) ⊎ (s ≡ 4) → P due → P 4 → P s
+as-ends s due P (inl is) ended four = subst P (sym is) ended
+as-ends s due P (inr is) ended four = subst P (sym is) four
 
 -- want of memory is an answer to any text
 pub audit-wants : (text : List ℕ) → EndsAsAudit text 4

@@ -1,5 +1,5 @@
-mod Arguments
 mod Endings
+mod Outcomes
 mod Showing
 pub mod Measuring
 pub mod Counted

@@ -2,7 +2,7 @@
 use Rattle.std.proofs.Common.{◌≡◌, ◌≢◌, ◌≤◌, ◌<◌, ℕ, List, Option, None, Some, Result, Ok, Err}
 use Rattle.std.proofs.Common.{ap, arith, refl, inl, inr, unwrap_or}
 use Rattle.std.specs.Prelude.{IfOk, IfSome, ⊤}
-use Rattle.cell_output.specs.declared.watched.WriteFault.{WriteFault}
+use Rattle.std.proofs.lemmas.Result.{IfOk-weaker}
 use Rattle.cell_command.specs.Counts.{Counts, IsNumber}
 use Rattle.cell_command.specs.declared.count.Count.{Count}
 use Rattle.cell_audit.specs.Migrated.{rows_in}
@@ -14,20 +14,14 @@ use Rattle.cell_show.specs.declared.error.ShowError.TheVariants as error
 use Rattle.cell_orders.specs.Shows.{HasNone, IsAsked, ShowsSome}
 use Rattle.cell_orders.specs.Texts.{IsWrong}
 
-pub shown-of : {X : Type 0} (r : Result (Result ℕ WriteFault) X) (P Q : ℕ → Type 0) → ((s : ℕ) → P s → Q s)
-    → IfOk r (λ w. IfOk w P) → IfOk r (λ w. IfOk w Q)
-shown-of (Ok (Ok s)) P Q give p = give s p
-shown-of (Ok (Err e)) P Q give p = tt
-shown-of (Err e) P Q give p = tt
-
 -- the count of a word is one of the number that it writes
-pub shown-for : {X : Type 0} (r : Result (Result ℕ WriteFault) X) (word : List ℕ) (count : Count) (P : Option ℕ → ℕ
-    → Type 0) (Q : ℕ → Type 0)
+pub shown-for : {X : Type 0} (r : Result ℕ X) (word : List ℕ) (count : Count) (P : Option ℕ → ℕ → Type 0) (Q : ℕ
+    → Type 0)
     → ((n : ℕ) × IsNumber word n × Counts count n)
-    → ((entry : Option ℕ) → IsAsked (Some count) entry → IfOk r (λ w. IfOk w (P entry)))
-    → ((n s : ℕ) → IsNumber word n → P (Some n) s → Q s) → IfOk r (λ w. IfOk w Q)
+    → ((entry : Option ℕ) → IsAsked (Some count) entry → IfOk r (P entry))
+    → ((n s : ℕ) → IsNumber word n → P (Some n) s → Q s) → IfOk r Q
 shown-for r word count P Q (n, is, counts) shows give =
-    shown-of r (P (Some n)) Q (λ s p. give n s is p) (shows (Some n) (n, refl, counts))
+    IfOk-weaker r (P (Some n)) Q (λ s p. give n s is p) (shows (Some n) (n, refl, counts))
 
 -- a text that has the entry of the greatest number has too many for a page
 many-entries : (rows : Option (List Row)) (start : ℕ) → IfSome rows (HasEntry (Some 4294967295) start)

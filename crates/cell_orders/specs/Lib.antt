@@ -1,4 +1,5 @@
 pub mod Asked
+pub mod Commands
 pub mod Explains
 pub mod Explores
 pub mod Measured

@@ -1,9 +1,8 @@
 -- What the status says of journals that are measured
-use Rattle.std.specs.Prelude.{ℕ, ◌≡◌, ⊤, All, IfOk, List, Result, length}
+use Rattle.std.specs.Prelude.{ℕ, ◌≡◌, ⊤, All, List, length}
 use Rattle.cell_types.specs.declared.words.Totals.{Totals}
 use Rattle.cell_rows.specs.Rows.{rows_of}
 use Rattle.cell_audit.specs.Meaning.{SpellsLegal}
-use Rattle.cell_output.specs.declared.watched.WriteFault.{WriteFault}
 use Rattle.cell_command.specs.declared.order.Measuring.{Measuring}
 use Rattle.cell_orders.specs.declared.measure.Found.{Found}
 use Rattle.cell_orders.specs.declared.measure.Found.TheVariants as found
@@ -26,5 +25,5 @@ abbrev pub AreLegal : ℕ → Type 0
 AreLegal count = (texts : List (List ℕ)) × (length texts ≡ count) × All IsLegalText texts
 
 -- status 0 comes only where the files that are named had legal texts
-abbrev pub MeasuresJournals : Measuring → Result ℕ WriteFault → Type 0
-MeasuresJournals measuring written = IfOk written (λ status. status ≡ 0 → AreLegal (length measuring.journals.items))
+abbrev pub MeasuresJournals : Measuring → ℕ → Type 0
+MeasuresJournals measuring status = status ≡ 0 → AreLegal (length measuring.journals.items)

@@ -3,15 +3,15 @@ ghost use Rattle.std.specs.Prelude.{◌≡◌, IfOk};
 ghost use Rattle.cell_output.specs.Watched.{bytes_held};
 ghost use Rattle.cell_orders.specs.Explains.{Explains, ExplainsSettings, ExplainsText, text_of};
 
-use crate::failure::Failure;
+use crate::error::CommandError;
 use crate::mistaken::wrong;
 use crate::texts::{
-    about_input, explain_faults_in, explain_input, explain_journal_in, explain_operator_in,
-    settings_in, tell_too_long,
+    explain_faults_in, explain_input, explain_journal_in, explain_operator_in, settings_in,
+    tell_too_long,
 };
 use cell_command::Explaining;
 use cell_explain::explain_settings;
-use cell_output::{WatchedWriter, WriteFault};
+use cell_output::WatchedWriter;
 use std::io::{Read, Write};
 use std::rt::Files;
 
@@ -54,13 +54,13 @@ fn explain_settings_in<'a, R: AllocGlobal + Files, W: Write>(
     rt: &R,
     path: &'a str,
     output: &mut WatchedWriter<'_, W>,
-) -> Result<Result<u8, WriteFault>, Failure<'a>>
-    ensures { IfOk result (λ written. IfOk written (ExplainsSettings (bytes_held W.contents output.old)
-        (bytes_held W.contents output.new))) }
+) -> Result<u8, CommandError<'a>>
+    ensures { IfOk result (ExplainsSettings (bytes_held W.contents output.old)
+        (bytes_held W.contents output.new)) }
 {
     match settings_in(rt, path)? {
-        Some(text) => Ok(explain_settings(rt.alloc(), text.as_slice(), output)),
-        None => Ok(tell_too_long(output)),
+        Some(text) => Ok(explain_settings(rt.alloc(), text.as_slice(), output)?),
+        None => Ok(tell_too_long(output)?),
     }
 }
 
@@ -70,13 +70,13 @@ fn explain_text<'a, R: AllocGlobal + Files, I: Read + Drop, W: Write>(
     input: I,
     output: &mut WatchedWriter<'_, W>,
     text: Text<'a>,
-) -> Result<Result<u8, WriteFault>, Failure<'a>>
-    ensures { IfOk result (λ written. IfOk written (ExplainsText text.entry (I.remaining input)
+) -> Result<u8, CommandError<'a>>
+    ensures { IfOk result (ExplainsText text.entry (I.remaining input)
         (bytes_held W.contents output.old)
-        (bytes_held W.contents output.new))) }
+        (bytes_held W.contents output.new)) }
 {
     match text {
-        Text::Input => about_input(explain_input(rt.alloc(), input, output)),
+        Text::Input => explain_input(rt.alloc(), input, output),
         Text::Journal(path) => explain_journal_in(rt, path, output),
         Text::Settings(path) => explain_settings_in(rt, path, output),
         Text::Faults(path) => explain_faults_in(rt, path, output),
@@ -91,11 +91,10 @@ pub fn explain_words<'a, R: AllocGlobal + Files, I: Read + Drop, W: Write, E: Wr
     output: &mut WatchedWriter<'_, W>,
     errors: &mut E,
     explaining: Explaining<'a>,
-) -> Result<Result<u8, WriteFault>, Failure<'a>>
-    ensures { IfOk result (λ written. IfOk written
-        (Explains explaining.entry (I.remaining input) (bytes_held W.contents output.old)
+) -> Result<u8, CommandError<'a>>
+    ensures { IfOk result (Explains explaining.entry (I.remaining input) (bytes_held W.contents output.old)
         (bytes_held W.contents output.new)
-        (E.contents errors.old) (E.contents errors.new))) }
+        (E.contents errors.old) (E.contents errors.new)) }
 {
     match text_of(explaining) {
         Some(text) => explain_text(rt, input, output, text),

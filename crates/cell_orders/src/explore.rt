@@ -1,14 +1,15 @@
 //! The command that looks at every order of events of the cell.
-ghost use Rattle.std.specs.Prelude.{IfOk};
 ghost use Rattle.cell_output.specs.Watched.{bytes_held};
+ghost use Rattle.cell_orders.specs.Commands.{IfTold};
 ghost use Rattle.cell_orders.specs.Explores.{ExploresWords};
 
 use crate::asked::{limit_of, named, number_in, stranger};
-use crate::failure::Failure;
+use crate::error::CommandError;
 use crate::mistaken::wrong;
+use crate::texts::told;
 use cell_command::{Escaped, Exploring};
 use cell_explore::{MOST_PLATES, ProgressLine, Question, explore_lines};
-use cell_output::{WatchedWriter, WriteFault};
+use cell_output::WatchedWriter;
 use std::alloc::Global;
 use std::io::Write;
 
@@ -20,8 +21,8 @@ pub fn explore_words<'a, W: Write, E: Write>(
     errors: &mut E,
     exploring: &Exploring<'a>,
     progress: bool,
-) -> Result<Result<u8, WriteFault>, Failure<'a>>
-    ensures { IfOk result (ExploresWords exploring.now (bytes_held W.contents output.old)
+) -> Result<u8, CommandError<'a>>
+    ensures { IfTold result (ExploresWords exploring.now (bytes_held W.contents output.old)
         (bytes_held W.contents output.new)
         (E.contents errors.old) (E.contents errors.new)) }
 {
@@ -45,7 +46,7 @@ pub fn explore_words<'a, W: Write, E: Write>(
         repairs: exploring.repairs,
     };
     let mut line = ProgressLine::new(errors, progress);
-    Ok(explore_lines(
+    told(explore_lines(
         alloc,
         &question,
         limit,

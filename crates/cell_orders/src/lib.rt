@@ -4,6 +4,7 @@
 #![tactic(auto)]
 
 mod asked;
+mod error;
 mod explain;
 mod explore;
 mod failure;
@@ -16,6 +17,7 @@ mod texts;
 mod times;
 mod windows;
 
+pub use error::CommandError;
 pub use explain::{Text, explain_words};
 pub use explore::explore_words;
 pub use failure::Failure;
@@ -24,5 +26,5 @@ pub use measure::measure_words;
 pub use mistaken::wrong;
 pub use reading::{JournalText, ScriptText, journal_text, script_text, settings_text};
 pub use show::show_words;
-pub use texts::{book_in, journal_in, script_in, settings_in, tell_too_long};
+pub use texts::{book_in, journal_in, script_in, settings_in, tell_too_long, told};
 pub use times::{durations_in, tell_times};

@@ -3,6 +3,7 @@ ghost use Rattle.std.specs.Prelude.{◌≡◌, Err, IfOk, false, length};
 ghost use Rattle.cell_audit.specs.Lines.{lines_of};
 ghost use Rattle.cell_orders.specs.Measured.{AreLegal, HasLegalText, IsFound, MeasuresJournals};
 
+use crate::error::CommandError;
 use crate::failure::Failure;
 use crate::texts::book_in;
 use crate::times::{durations_in, tell_times};
@@ -11,7 +12,6 @@ use cell_command::{Escaped, Measuring};
 use cell_measures::{Durations, Measured, Measures, csv_of, measure, table_of};
 use cell_output::{WatchedWriter, WriteFault, status};
 use std::alloc::{AllocError, Global};
-use std::io;
 use std::io::Write;
 use std::rt::Files;
 
@@ -148,35 +148,25 @@ fn sort<'a, R: AllocGlobal + Files>(
     Ok(sorted)
 }
 
-// A status, where the writer took all.
-fn written(answer: Result<(), WriteFault>, status: u8) -> Result<u8, WriteFault>
-    ensures { IfOk result (λ told. told ≡ status) }
-{
-    match answer {
-        Ok(()) => Ok(status),
-        Err(WriteFault) => Err(WriteFault),
-    }
-}
-
 // Writes what was found of all journals: the lines of those that are refused to the errors, where there are several.
-fn tell<W: Write, E: Write>(
+fn tell<'a, W: Write, E: Write>(
     alloc: Global,
     output: &mut WatchedWriter<'_, W>,
     errors: &mut E,
     measuring: &Measuring<'_>,
     sorted: &Sorted,
-) -> io::Result<Result<u8, WriteFault>>
-    ensures { IfOk result (λ written. IfOk written (λ status. status ≡ 0 → sorted.now.refused ≡ false)) }
+) -> Result<u8, CommandError<'a>>
+    ensures { IfOk result (λ status. status ≡ 0 → sorted.now.refused ≡ false) }
 {
     if measuring.journals.len() > 1 {
         errors.write_all(sorted.lines.as_slice())?;
     } else if sorted.refused {
-        let told = output.write_bytes(sorted.lines.as_slice());
-        return Ok(written(told, sorted.status()));
+        output.write_bytes(sorted.lines.as_slice())?;
+        return Ok(sorted.status());
     }
     let text = sorted.text(alloc, measuring.csv)?;
-    let told = output.write_bytes(text.as_str().as_bytes());
-    Ok(written(told, sorted.status()))
+    output.write_bytes(text.as_str().as_bytes())?;
+    Ok(sorted.status())
 }
 
 /// Measures the journals that the words of the command line name. All are read before anything is written.
@@ -185,14 +175,14 @@ pub fn measure_words<'a, R: AllocGlobal + Files, W: Write, E: Write>(
     output: &mut WatchedWriter<'_, W>,
     errors: &mut E,
     measuring: &Measuring<'a>,
-) -> Result<Result<u8, WriteFault>, Failure<'a>>
+) -> Result<u8, CommandError<'a>>
     ensures { IfOk result (MeasuresJournals measuring.now) }
 {
     match durations_in(rt, measuring.times)? {
         Ok(durations) => {
             let sorted = sort(rt, measuring, &durations)?;
-            Ok(tell(rt.alloc(), output, errors, measuring, &sorted)?)
+            tell(rt.alloc(), output, errors, measuring, &sorted)
         }
-        Err(line) => Ok(tell_times(output, line.as_str())),
+        Err(line) => Ok(tell_times(output, line.as_str())?),
     }
 }

@@ -4,13 +4,15 @@ ghost use Rattle.cell_rows.specs.Rows.{rows_of};
 ghost use Rattle.cell_audit.specs.Migrated.{rows_in};
 ghost use Rattle.cell_output.specs.Watched.{bytes_held};
 ghost use Rattle.cell_show.specs.Shown.{AsksPast, HasEntry, ShownOf, TellsEntries, TellsStatus, start_of};
+ghost use Rattle.cell_orders.specs.Commands.{IfTold};
 ghost use Rattle.cell_orders.specs.Shows.{HasTimes, IsAlone, IsAsked, IsMixed, IsTimed, Plays, Shows, ShowsEntry};
 ghost use Rattle.cell_orders.specs.Shows.{ShowsSome, ShowsStill, ShowsWindow, ShowsWords, form_of, takes_times};
 ghost use Rattle.cell_orders.specs.Texts.{OfText};
 
+use crate::error::CommandError;
 use crate::failure::Failure;
 use crate::mistaken::wrong;
-use crate::texts::{open_watched, unless_failed, unless_wanting};
+use crate::texts::{ended_in, open_watched};
 use crate::times::{durations_in, tell_times};
 use crate::windows::windowed;
 use cell_command::{Count, Escaped, Showing, read_count};
@@ -71,71 +73,66 @@ fn show_with<I: TellsFault + Drop, O: TellsFault + Drop, W: Write>(
 
 // Shows so many entries of a journal's text, or all of them. An entry that isn't there, or a picture of too many, is
 // told among the errors.
-fn show_entries<I: TellsFault + Drop, O: TellsFault + Drop, W: Write, E: Write>(
+fn show_entries<'a, I: TellsFault + Drop, O: TellsFault + Drop, W: Write, E: Write>(
     alloc: Global,
     input: I,
     output: &mut W,
     errors: &mut E,
     show: Show<u32, Beside<'_, O>>,
-) -> io::Result<Result<u8, WriteFault>>
-    ensures shown { IfOk result (λ written. IfOk written
-        (Shows show.entry.count (start_of show.entry.form) (I.remaining input) (W.contents output.old)
-        (W.contents output.new) (E.contents errors.old) (E.contents errors.new))) }
-    ensures some { IfOk result (λ written. IfOk written
-        (ShowsSome show.entry.count (start_of show.entry.form) (W.contents output.old) (W.contents output.new)
-        (E.contents errors.old) (E.contents errors.new))) }
+) -> Result<u8, CommandError<'a>>
+    ensures shown { IfOk result (Shows show.entry.count (start_of show.entry.form) (I.remaining input)
+        (W.contents output.old) (W.contents output.new) (E.contents errors.old) (E.contents errors.new)) }
+    ensures some { IfOk result (ShowsSome show.entry.count (start_of show.entry.form) (W.contents output.old)
+        (W.contents output.new) (E.contents errors.old) (E.contents errors.new)) }
 {
     match show_with(alloc, input, output, show.form, show.count, show.beside) {
-        Ok(status) => Ok(Ok(status)),
-        Err(ShowError::WriteFault) => Ok(Err(WriteFault)),
+        Ok(status) => Ok(status),
+        Err(ShowError::WriteFault) => Err(CommandError::Write(WriteFault)),
         Err(error) => {
             writeln!(errors, "error: {error}")?;
-            Ok(Ok(status::WRONG_ARGUMENTS))
+            Ok(status::WRONG_ARGUMENTS)
         }
     }
 }
 
 // Tells among the errors that a journal's text hasn't so many entries as no journal has. Nothing is shown.
-fn show_beyond<I: TellsFault + Drop, E: Write>(
+fn show_beyond<'a, I: TellsFault + Drop, E: Write>(
     alloc: Global,
     input: I,
     errors: &mut E,
     form: Form,
-) -> io::Result<Result<u8, WriteFault>>
+) -> Result<u8, CommandError<'a>>
     ensures shown { (n : ℕ) (old : Option (List ℕ)) → 2 ^ 32 ≤ n
-        → IfOk result (λ written. IfOk written (Shows (Some n) (start_of form) (I.remaining input) old old
-        (E.contents errors.old) (E.contents errors.new))) }
+        → IfOk result (Shows (Some n) (start_of form) (I.remaining input) old old (E.contents errors.old)
+        (E.contents errors.new)) }
     ensures some { (n : ℕ) (old : Option (List ℕ)) → 2 ^ 32 ≤ n
-        → IfOk result (λ written. IfOk written (ShowsSome (Some n) (start_of form) old old (E.contents errors.old)
-        (E.contents errors.new))) }
+        → IfOk result (ShowsSome (Some n) (start_of form) old old (E.contents errors.old) (E.contents errors.new)) }
 {
     let error = match show_journal(alloc, input, form, Some(u32::MAX), &mut io::sink()) {
-        Ok(status) if status > status::REFUSED => return Ok(Ok(status)),
+        Ok(status) if status > status::REFUSED => return Ok(status),
         // More entries than a picture shows.
         Ok(_) => ShowError::TooManyEntries,
-        Err(ShowError::WriteFault) => return Ok(Err(WriteFault)),
+        Err(ShowError::WriteFault) => return Err(CommandError::Write(WriteFault)),
         Err(error) => error,
     };
     writeln!(errors, "error: {error}")?;
-    Ok(Ok(status::WRONG_ARGUMENTS))
+    Ok(status::WRONG_ARGUMENTS)
 }
 
 // Shows so many entries of a journal's text, or all of them where there is no count.
-fn show_count<I: TellsFault + Drop, O: TellsFault + Drop, W: Write, E: Write>(
+fn show_count<'a, I: TellsFault + Drop, O: TellsFault + Drop, W: Write, E: Write>(
     alloc: Global,
     input: I,
     output: &mut W,
     errors: &mut E,
     show: Show<Count, Beside<'_, O>>,
-) -> io::Result<Result<u8, WriteFault>>
+) -> Result<u8, CommandError<'a>>
     ensures shown { (entry : Option ℕ) → IsAsked show.entry.count entry
-        → IfOk result (λ written. IfOk written
-        (Shows entry (start_of show.entry.form) (I.remaining input) (W.contents output.old) (W.contents output.new)
-        (E.contents errors.old) (E.contents errors.new))) }
+        → IfOk result (Shows entry (start_of show.entry.form) (I.remaining input) (W.contents output.old)
+        (W.contents output.new) (E.contents errors.old) (E.contents errors.new)) }
     ensures some { (entry : Option ℕ) → IsAsked show.entry.count entry
-        → IfOk result (λ written. IfOk written
-        (ShowsSome entry (start_of show.entry.form) (W.contents output.old) (W.contents output.new)
-        (E.contents errors.old) (E.contents errors.new))) }
+        → IfOk result (ShowsSome entry (start_of show.entry.form) (W.contents output.old) (W.contents output.new)
+        (E.contents errors.old) (E.contents errors.new)) }
 {
     let Show {
         form,
@@ -170,18 +167,14 @@ fn show_in<'a, R: AllocGlobal + Files, O: TellsFault + Drop, W: Write, E: Write>
     output: &mut W,
     errors: &mut E,
     show: Show<Count, Beside<'_, O>>,
-) -> Result<Result<u8, WriteFault>, Failure<'a>>
+) -> Result<u8, CommandError<'a>>
     ensures { (entry : Option ℕ) → IsAsked show.entry.count entry
-        → IfOk result (λ written. IfOk written
-        (ShowsSome entry (start_of show.entry.form) (W.contents output.old) (W.contents output.new)
-        (E.contents errors.old) (E.contents errors.new))) }
+        → IfOk result (ShowsSome entry (start_of show.entry.form) (W.contents output.old) (W.contents output.new)
+        (E.contents errors.old) (E.contents errors.new)) }
 {
     let mut reader = open_watched(rt, path)?;
-    let shown = match show_count(rt.alloc(), &mut reader, output, errors, show) {
-        Ok(told) => unless_wanting(told),
-        Err(error) => Err(error),
-    };
-    unless_failed(path, shown, reader.error())
+    let shown = show_count(rt.alloc(), &mut reader, output, errors, show);
+    ended_in(path, shown, reader.error())
 }
 
 // Shows so many entries of the journal in a file, or of that on the input where no file is named, beside that of
@@ -200,15 +193,31 @@ fn show_text<
     errors: &mut E,
     file: Option<&'a str>,
     show: Show<Count, Beside<'_, O>>,
-) -> Result<Result<u8, WriteFault>, Failure<'a>>
+) -> Result<u8, CommandError<'a>>
     ensures { (entry : Option ℕ) → IsAsked show.entry.count entry
-        → IfOk result (λ written. IfOk written (λ status. OfText file.entry (I.remaining input)
+        → IfOk result (λ status. OfText file.entry (I.remaining input)
         (λ text. Shows entry (start_of show.entry.form) text (W.contents output.old) (W.contents output.new)
-        (E.contents errors.old) (E.contents errors.new) status))) }
+        (E.contents errors.old) (E.contents errors.new) status)) }
 {
     match file {
-        None => Ok(show_count(rt.alloc(), input, output, errors, show)?),
+        None => show_count(rt.alloc(), input, output, errors, show),
         Some(path) => show_in(rt, path, output, errors, show),
+    }
+}
+
+// What comes of a journal that is shown beside that in another file, unless a read of that one failed.
+fn unless_beside_failed<'a>(
+    path: &'a str,
+    shown: Result<u8, CommandError<'a>>,
+    noted: Option<io::Error>,
+) -> Result<u8, CommandError<'a>>
+    ensures { IfTold result (λ _. result ≡ shown.entry) }
+{
+    match noted {
+        Some(error) if !matches!(shown, Err(CommandError::System(_))) => {
+            Err(CommandError::at(path, error))
+        }
+        _ => shown,
     }
 }
 
@@ -220,11 +229,11 @@ fn show_files<'a, R: AllocGlobal + Files, I: TellsFault + Drop, W: Write, E: Wri
     errors: &mut E,
     file: Option<&'a str>,
     show: Show<Count, &'a str>,
-) -> Result<Result<u8, WriteFault>, Failure<'a>>
+) -> Result<u8, CommandError<'a>>
     ensures { (entry : Option ℕ) → IsAsked show.entry.count entry
-        → IfOk result (λ written. IfOk written (λ status. OfText file.entry (I.remaining input)
+        → IfOk result (λ status. OfText file.entry (I.remaining input)
         (λ text. Shows entry (start_of show.entry.form) text (W.contents output.old) (W.contents output.new)
-        (E.contents errors.old) (E.contents errors.new) status))) }
+        (E.contents errors.old) (E.contents errors.new) status)) }
 {
     let Show {
         form,
@@ -249,8 +258,8 @@ fn show_files<'a, R: AllocGlobal + Files, I: TellsFault + Drop, W: Write, E: Wri
             first_name: file.unwrap_or("standard input"),
         }),
     };
-    let shown = show_text(rt, input, output, errors, file, both)?;
-    unless_failed(path, Ok(shown), other.error())
+    let shown = show_text(rt, input, output, errors, file, both);
+    unless_beside_failed(path, shown, other.error())
 }
 
 // The form that is shown, and whether durations go with it.
@@ -308,9 +317,9 @@ fn show_entry<'a, R: AllocGlobal + Files, I: TellsFault + Drop, W: Write, E: Wri
     errors: &mut E,
     form: Form,
     showing: Showing<'a>,
-) -> Result<Result<u8, WriteFault>, Failure<'a>>
-    ensures { IfOk result (λ written. IfOk written (ShowsEntry showing.entry (start_of form) (I.remaining input)
-        (W.contents output.old) (W.contents output.new) (E.contents errors.old) (E.contents errors.new))) }
+) -> Result<u8, CommandError<'a>>
+    ensures { IfOk result (ShowsEntry showing.entry (start_of form) (I.remaining input) (W.contents output.old)
+        (W.contents output.new) (E.contents errors.old) (E.contents errors.new)) }
 {
     let Some(word) = showing.entry else {
         let all = Show {
@@ -323,7 +332,7 @@ fn show_entry<'a, R: AllocGlobal + Files, I: TellsFault + Drop, W: Write, E: Wri
     let Some(count) = read_count(word) else {
         let word = Escaped(word);
         writeln!(errors, "error: ENTRY is a whole number, and not '{word}'")?;
-        return Ok(Ok(status::WRONG_ARGUMENTS));
+        return Ok(status::WRONG_ARGUMENTS);
     };
     let first = Show {
         form,
@@ -353,9 +362,9 @@ fn show_windowed<'a, R: AllocGlobal + Files, I: TellsFault + Drop, W: Write, E: 
     errors: &mut E,
     form: Form,
     showing: Showing<'a>,
-) -> Result<Result<u8, WriteFault>, Failure<'a>>
-    ensures { IfOk result (λ written. IfOk written (ShowsWindow showing.entry form (I.remaining input)
-        (W.contents output.old) (W.contents output.new) (E.contents errors.old) (E.contents errors.new))) }
+) -> Result<u8, CommandError<'a>>
+    ensures { IfOk result (ShowsWindow showing.entry form (I.remaining input) (W.contents output.old)
+        (W.contents output.new) (E.contents errors.old) (E.contents errors.new)) }
 {
     match windowed(form, showing.from, showing.count) {
         Ok(form) => show_entry(rt, input, output, errors, form, showing),
@@ -370,10 +379,9 @@ fn show_still<'a, R: AllocGlobal + Files, I: TellsFault + Drop, W: Write, E: Wri
     output: &mut WatchedWriter<'_, W>,
     errors: &mut E,
     showing: Showing<'a>,
-) -> Result<Result<u8, WriteFault>, Failure<'a>>
-    ensures { IfOk result (λ written. IfOk written (ShowsStill showing.entry (I.remaining input)
-        (bytes_held W.contents output.old)
-        (bytes_held W.contents output.new) (E.contents errors.old) (E.contents errors.new))) }
+) -> Result<u8, CommandError<'a>>
+    ensures { IfOk result (ShowsStill showing.entry (I.remaining input) (bytes_held W.contents output.old)
+        (bytes_held W.contents output.new) (E.contents errors.old) (E.contents errors.new)) }
 {
     let Some(form) = form_of(&showing) else {
         return Ok(wrong(
@@ -386,7 +394,7 @@ fn show_still<'a, R: AllocGlobal + Files, I: TellsFault + Drop, W: Write, E: Wri
     }
     match timed_form(rt, form, showing.times)? {
         Timed::Form(form) => show_windowed(rt, input, output, errors, form, showing),
-        Timed::Refused(line) => Ok(tell_times(output, line.as_str())),
+        Timed::Refused(line) => Ok(tell_times(output, line.as_str())?),
         Timed::Loose => Ok(wrong(errors, "--times goes with --svg or --html")?),
     }
 }
@@ -423,10 +431,9 @@ fn show_moving<'a, R: AllocGlobal + Files, I: TellsFault + Drop, W: Write, E: Wr
     errors: &mut E,
     showing: Showing<'a>,
     path: &'a str,
-) -> Result<Result<u8, WriteFault>, Failure<'a>>
-    ensures { IfOk result (λ written. IfOk written (Plays path.entry showing.entry (I.remaining input)
-        (bytes_held W.contents output.old) (bytes_held W.contents output.new) (E.contents errors.old)
-        (E.contents errors.new))) }
+) -> Result<u8, CommandError<'a>>
+    ensures { IfOk result (Plays path.entry showing.entry (I.remaining input) (bytes_held W.contents output.old)
+        (bytes_held W.contents output.new) (E.contents errors.old) (E.contents errors.new)) }
 {
     let form = form_of(&showing);
     if is_mixed(
@@ -453,10 +460,9 @@ pub fn show_words<'a, R: AllocGlobal + Files, I: TellsFault + Drop, W: Write, E:
     output: &mut WatchedWriter<'_, W>,
     errors: &mut E,
     showing: Showing<'a>,
-) -> Result<Result<u8, WriteFault>, Failure<'a>>
-    ensures { IfOk result (λ written. IfOk written (ShowsWords showing.entry (I.remaining input)
-        (bytes_held W.contents output.old)
-        (bytes_held W.contents output.new) (E.contents errors.old) (E.contents errors.new))) }
+) -> Result<u8, CommandError<'a>>
+    ensures { IfOk result (ShowsWords showing.entry (I.remaining input) (bytes_held W.contents output.old)
+        (bytes_held W.contents output.new) (E.contents errors.old) (E.contents errors.new)) }
 {
     match showing.animate {
         None => show_still(rt, input, output, errors, showing),

@@ -3,8 +3,10 @@ ghost use Rattle.std.specs.Prelude.{◌≡◌, ◌⊎◌, ℕ, List, Ok, Some, I
 ghost use Rattle.cell_explain.specs.Explained.{EndsAsAudit, EndsAsFaults, EndsAsScript};
 ghost use Rattle.cell_audit.specs.Reading.{IsBefore, IsSomeReading};
 ghost use Rattle.cell_output.specs.Watched.{bytes_held};
+ghost use Rattle.cell_orders.specs.Commands.{IfTold, NamesFile, outcome_of};
 ghost use Rattle.cell_orders.specs.Texts.{TellsTooLong};
 
+use crate::error::CommandError;
 use crate::failure::Failure;
 use crate::reading::{JournalText, ScriptText, journal_text, script_text, settings_text};
 use cell_audit::{AuditError, Audited, read_rows, status_of};
@@ -13,7 +15,7 @@ use cell_output::{WatchedWriter, WriteFault, status};
 use cell_rows::{RowReader, TellsFault, Watched};
 use cell_sim::PlannedFault;
 use operator_desk::Line;
-use std::alloc::{AllocError, Global};
+use std::alloc::Global;
 use std::fs::File;
 use std::io;
 use std::io::{ErrorKind, Read, Write};
@@ -33,9 +35,9 @@ fn about<'a, T>(path: &'a str, answer: io::Result<T>) -> Result<T, Failure<'a>>
     }
 }
 
-/// An answer of the system about the text on standard input. That it is too large names the input, of which no read
-/// failed.
-pub(crate) fn about_input<'a, T>(answer: io::Result<T>) -> Result<T, Failure<'a>>
+// An answer of the system about the text on standard input. That it is too large names the input, of which no read
+// failed.
+fn about_input<'a, T>(answer: io::Result<T>) -> Result<T, Failure<'a>>
     ensures { IfOk result (λ value. answer ≡ Ok value) }
 {
     match answer {
@@ -95,14 +97,33 @@ pub(crate) fn unless_failed<'a, T: Drop>(
     }
 }
 
-/// What was told, unless its status is that of memory that was refused, which is an error here.
-pub(crate) fn unless_wanting(told: Result<u8, WriteFault>) -> io::Result<Result<u8, WriteFault>>
-    ensures { IfOk result (λ same. same ≡ told) }
+/// What was told by a call that writes, as a command ends with it.
+pub fn told<'a>(written: Result<u8, WriteFault>) -> Result<u8, CommandError<'a>>
+    ensures { outcome_of result ≡ Some written }
 {
-    if told == Ok(status::OUT_OF_MEMORY) {
-        Err(io::Error::from(ErrorKind::OutOfMemory))
-    } else {
-        Ok(told)
+    Ok(written?)
+}
+
+/// What a command about the text in a file ends with, unless a read of it failed or memory was refused. An error of the
+/// system names that file.
+pub(crate) fn ended_in<'a>(
+    path: &'a str,
+    ended: Result<u8, CommandError<'a>>,
+    noted: Option<io::Error>,
+) -> Result<u8, CommandError<'a>>
+    ensures same { IfTold result (λ _. result ≡ ended.entry) }
+    ensures named { IfErr result (NamesFile path.entry) }
+{
+    if let Some(error) = noted {
+        return Err(CommandError::at(path, error));
+    }
+    match ended {
+        Ok(status::OUT_OF_MEMORY) => {
+            Err(CommandError::at(path, io::Error::from(ErrorKind::OutOfMemory)))
+        }
+        Ok(status) => Ok(status),
+        Err(CommandError::Write(fault)) => Err(CommandError::Write(fault)),
+        Err(CommandError::System(failure)) => Err(CommandError::at(path, failure.error)),
     }
 }
 
@@ -188,18 +209,18 @@ pub(crate) fn explain_faults_in<'a, R: AllocGlobal + Files, W: Write>(
     rt: &R,
     path: &'a str,
     output: &mut WatchedWriter<'_, W>,
-) -> Result<Result<u8, WriteFault>, Failure<'a>>
-    ensures { IfOk result (λ written. IfOk written (λ status. (faults : List ℕ) × EndsAsFaults faults status)) }
+) -> Result<u8, CommandError<'a>>
+    ensures { IfOk result (λ status. (faults : List ℕ) × EndsAsFaults faults status) }
 {
     let alloc = rt.alloc();
     let script = script_in(rt, path)?;
     let bytes = script.bytes.as_slice();
     if !script.cuts_record::<PlannedFault>(alloc)? {
-        return Ok(explain_faults(alloc, bytes, output));
+        return Ok(explain_faults(alloc, bytes, output)?);
     }
     let mut said = Vec::new(alloc);
     let explained = explain_faults(alloc, bytes, &mut WatchedWriter::new(&mut said));
-    Ok(tell_cut(output, said.as_slice(), explained))
+    Ok(tell_cut(output, said.as_slice(), explained)?)
 }
 
 /// Explains the operator's script in a file.
@@ -207,35 +228,35 @@ pub(crate) fn explain_operator_in<'a, R: AllocGlobal + Files, W: Write>(
     rt: &R,
     path: &'a str,
     output: &mut WatchedWriter<'_, W>,
-) -> Result<Result<u8, WriteFault>, Failure<'a>>
-    ensures { IfOk result (λ written. IfOk written (λ status. (operator : List ℕ) × EndsAsScript operator status)) }
+) -> Result<u8, CommandError<'a>>
+    ensures { IfOk result (λ status. (operator : List ℕ) × EndsAsScript operator status) }
 {
     let alloc = rt.alloc();
     let script = script_in(rt, path)?;
     let bytes = script.bytes.as_slice();
     if !script.cuts_record::<Line>(alloc)? {
-        return Ok(explain_operator(alloc, bytes, output));
+        return Ok(explain_operator(alloc, bytes, output)?);
     }
     let mut said = Vec::new(alloc);
     let explained = explain_operator(alloc, bytes, &mut WatchedWriter::new(&mut said));
-    Ok(tell_cut(output, said.as_slice(), explained))
+    Ok(tell_cut(output, said.as_slice(), explained)?)
 }
 
 // Explains a journal by what was read of it.
-fn explain_read<W: Write>(
+fn explain_read<'a, W: Write>(
     alloc: Global,
     read: &JournalText,
     output: &mut WatchedWriter<'_, W>,
-) -> Result<Result<u8, WriteFault>, AllocError>
-    ensures { IfOk result (λ written. IfOk written (EndsAsAudit read.now.bytes.items)) }
+) -> Result<u8, CommandError<'a>>
+    ensures { IfOk result (EndsAsAudit read.now.bytes.items) }
 {
     let bytes = read.bytes.as_slice();
     if !read.cuts_record(alloc)? {
-        return Ok(explain_journal(alloc, bytes, output));
+        return Ok(explain_journal(alloc, bytes, output)?);
     }
     let mut said = Vec::new(alloc);
     let explained = explain_journal(alloc, bytes, &mut WatchedWriter::new(&mut said));
-    Ok(tell_cut(output, said.as_slice(), explained))
+    Ok(tell_cut(output, said.as_slice(), explained)?)
 }
 
 /// Explains the journal in a file.
@@ -243,38 +264,37 @@ pub(crate) fn explain_journal_in<'a, R: AllocGlobal + Files, W: Write>(
     rt: &R,
     path: &'a str,
     output: &mut WatchedWriter<'_, W>,
-) -> Result<Result<u8, WriteFault>, Failure<'a>>
-    ensures { IfOk result (λ written. IfOk written (λ status. (journal : List ℕ) × EndsAsAudit journal status)) }
+) -> Result<u8, CommandError<'a>>
+    ensures { IfOk result (λ status. (journal : List ℕ) × EndsAsAudit journal status) }
 {
     let read = journal_in(rt, path)?;
-    Ok(explain_read(rt.alloc(), &read, output)?)
+    explain_read(rt.alloc(), &read, output)
 }
 
 // An explanation's status, which is that of the audit before it, unless memory was refused.
-fn as_audited(due: u8, explained: Result<u8, WriteFault>) -> Result<u8, WriteFault>
-    ensures { IfOk result (λ status. (status ≡ due) ⊎ (status ≡ 4)) }
+fn as_audited(due: u8, explained: u8) -> u8
+    ensures { (result ≡ due) ⊎ (result ≡ 4) }
 {
-    match explained {
-        Ok(status) if status == due => Ok(due),
-        Ok(_) => Ok(status::OUT_OF_MEMORY),
-        Err(WriteFault) => Err(WriteFault),
+    if explained == due {
+        due
+    } else {
+        status::OUT_OF_MEMORY
     }
 }
 
 /// Explains the journal on the input. The part that was read is judged again as it is explained, with the same answer
 /// unless memory is refused.
-pub(crate) fn explain_input<I: Read + Drop, W: Write>(
+pub(crate) fn explain_input<'a, I: Read + Drop, W: Write>(
     alloc: Global,
     input: I,
     output: &mut WatchedWriter<'_, W>,
-) -> io::Result<Result<u8, WriteFault>>
-    ensures { IfOk result (λ written. IfOk written
-        (λ status. IfSome (I.remaining input) (λ text. EndsAsAudit text status))) }
+) -> Result<u8, CommandError<'a>>
+    ensures { IfOk result (λ status. IfSome (I.remaining input) (λ text. EndsAsAudit text status)) }
 {
-    let read = journal_text(alloc, input)?;
+    let read = about_input(journal_text(alloc, input))?;
     let due = status_of(&read.answer);
     if due > status::REFUSED {
-        return Ok(Ok(due));
+        return Ok(due);
     }
     let explained = explain_read(alloc, &read, output)?;
     Ok(as_audited(due, explained))

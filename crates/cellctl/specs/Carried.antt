@@ -183,7 +183,8 @@ CarriesOut (order.Show showing) input old new old_errors new_errors written =
     IfOk written (ShowsWords showing input old new old_errors new_errors)
 CarriesOut (order.Explain explaining) input old new old_errors new_errors written =
     IfOk written (Explains explaining input old new old_errors new_errors)
-CarriesOut (order.Measure measuring) input old new old_errors new_errors written = MeasuresJournals measuring written
+CarriesOut (order.Measure measuring) input old new old_errors new_errors written =
+    IfOk written (MeasuresJournals measuring)
 CarriesOut (order.Check path) input old new old_errors new_errors written =
     ChecksSettings old new written × (new_errors ≡ old_errors)
 CarriesOut (order.Sim running) input old new old_errors new_errors written =

@@ -4,8 +4,8 @@ use cell_audit::{AuditError, write_answer};
 use cell_command::Controlling;
 use cell_control::{ControlOptions, Orders, Streams, control_cell, read_orders};
 use cell_journal_file::{JournalFile, Past, PastError, read_past};
-use cell_orders::{Failure, script_in, settings_in, tell_too_long, wrong};
-use cell_output::{WatchedWriter, WriteFault, status};
+use cell_orders::{CommandError, Failure, script_in, settings_in, tell_too_long, wrong};
+use cell_output::{WatchedWriter, status};
 use cell_plant::Unkept;
 use cell_rows::TellsFault;
 use cell_runs::{empty_book, refuse_input};
@@ -43,19 +43,19 @@ fn options_of(controlling: &Controlling<'_>) -> ControlOptions {
 }
 
 // Tells that no run can go on from a journal's file, and why, and gives the status.
-fn refuse_past<E: Write>(
+fn refuse_past<'a, E: Write>(
     errors: &mut WatchedWriter<'_, E>,
     why: PastError,
-) -> io::Result<Result<u8, WriteFault>> {
+) -> Result<u8, CommandError<'a>> {
     match why {
-        PastError::Refused(AuditError::ReadFault) => Ok(Ok(status::DEVICE_FAULT)),
-        PastError::Refused(why) => Ok(write_answer(errors, Err(why))),
+        PastError::Refused(AuditError::ReadFault) => Ok(status::DEVICE_FAULT),
+        PastError::Refused(why) => Ok(write_answer(errors, Err(why))?),
         PastError::OtherProfile => {
             writeln!(
                 errors,
                 "the journal is of profile 1, which cellctl migrate writes in profile 2"
             )?;
-            Ok(Ok(status::REFUSED))
+            Ok(status::REFUSED)
         }
     }
 }
@@ -79,23 +79,6 @@ fn begin_in<'a, R: Files>(rt: &R, path: &'a str) -> Result<Option<Opened<R::File
         Ok(file) => Ok(Some(Opened { file, past: None })),
         Err(error) if error.kind() == ErrorKind::AlreadyExists => Ok(None),
         Err(error) => about(path, Err(error)),
-    }
-}
-
-// The file of a journal that is to be gone on from, as far as it is legal.
-fn past_in<'a, R: AllocGlobal + Files>(
-    rt: &R,
-    path: &'a str,
-    orders: &Orders<'_>,
-) -> Result<Result<Opened<R::File>, PastError>, Failure<'a>> {
-    let opened = File::options().read(true).append(true).open(rt, path);
-    let mut file = about(path, opened)?;
-    match about(path, read_past(rt.alloc(), &mut file, &orders.plan))? {
-        Ok(past) => Ok(Ok(Opened {
-            file,
-            past: Some(past),
-        })),
-        Err(why) => Ok(Err(why)),
     }
 }
 
@@ -130,14 +113,14 @@ fn control_kept<'a, R: AllocGlobal + Files, I: TellsFault + Drop, W: Write + Dro
     orders: Orders<'_>,
     controlling: &Controlling<'a>,
     mut streams: Streams<I, W, E>,
-) -> Result<Result<u8, WriteFault>, Failure<'a>> {
+) -> Result<u8, CommandError<'a>> {
     let started = started(rt, opened, &orders, controlling.sync, &mut streams.errors);
     let (book, mut journal) = about(path, started)?;
     let options = options_of(controlling);
     let told = control_cell(rt.alloc(), orders, book, options, &mut journal, streams);
     match journal.fault() {
-        Some(error) => about(path, Err(error)),
-        None => Ok(Ok(told.status?)),
+        Some(error) => Ok(about(path, Err(error))?),
+        None => Ok(told.status?),
     }
 }
 
@@ -147,12 +130,12 @@ fn control_unkept<'a, R: AllocGlobal, I: TellsFault + Drop, W: Write + Drop, E: 
     orders: Orders<'_>,
     controlling: &Controlling<'a>,
     streams: Streams<I, W, E>,
-) -> Result<Result<u8, WriteFault>, Failure<'a>> {
+) -> Result<u8, CommandError<'a>> {
     let alloc = rt.alloc();
     let book = empty_book(alloc, &orders.plan)?;
     let options = options_of(controlling);
     let told = control_cell(alloc, orders, book, options, &mut Unkept, streams);
-    Ok(Ok(told.status?))
+    Ok(told.status?)
 }
 
 // What comes of the file of a journal that is asked for.
@@ -166,6 +149,23 @@ enum Found<F> {
     Already,
 }
 
+// The file of a journal that is to be gone on from, as far as it is legal.
+fn past_in<'a, R: AllocGlobal + Files>(
+    rt: &R,
+    path: &'a str,
+    orders: &Orders<'_>,
+) -> Result<Found<R::File>, Failure<'a>> {
+    let opened = File::options().read(true).append(true).open(rt, path);
+    let mut file = about(path, opened)?;
+    match about(path, read_past(rt.alloc(), &mut file, &orders.plan))? {
+        Ok(past) => Ok(Found::File(Opened {
+            file,
+            past: Some(past),
+        })),
+        Err(why) => Ok(Found::Refused(why)),
+    }
+}
+
 // Finds the file of a journal, which is there exactly if a run is to go on from it.
 fn found_in<'a, R: AllocGlobal + Files>(
     rt: &R,
@@ -174,10 +174,7 @@ fn found_in<'a, R: AllocGlobal + Files>(
     resume: bool,
 ) -> Result<Found<R::File>, Failure<'a>> {
     if resume {
-        return match past_in(rt, path, orders)? {
-            Ok(opened) => Ok(Found::File(opened)),
-            Err(why) => Ok(Found::Refused(why)),
-        };
+        return past_in(rt, path, orders);
     }
     match begin_in(rt, path)? {
         Some(opened) => Ok(Found::File(opened)),
@@ -193,7 +190,7 @@ fn control_orders<'a, R: AllocGlobal + Files, I: TellsFault + Drop, W: Write, E:
     input: I,
     output: &mut WatchedWriter<'_, W>,
     errors: &mut WatchedWriter<'_, E>,
-) -> Result<Result<u8, WriteFault>, Failure<'a>> {
+) -> Result<u8, CommandError<'a>> {
     let Some(path) = controlling.journal else {
         let streams = Streams {
             input,
@@ -204,7 +201,7 @@ fn control_orders<'a, R: AllocGlobal + Files, I: TellsFault + Drop, W: Write, E:
     };
     let opened = match found_in(rt, path, &orders, controlling.resume)? {
         Found::File(opened) => opened,
-        Found::Refused(why) => return Ok(refuse_past(errors, why)?),
+        Found::Refused(why) => return refuse_past(errors, why),
         Found::Already => {
             let why = "the file of --journal is there already, and --resume goes on from it";
             return Ok(wrong(errors, why)?);
@@ -226,7 +223,7 @@ pub(crate) fn control_words<'a, R: AllocGlobal + Files, I: TellsFault + Drop, W:
     output: &mut WatchedWriter<'_, W>,
     errors: &mut WatchedWriter<'_, E>,
     controlling: Controlling<'a>,
-) -> Result<Result<u8, WriteFault>, Failure<'a>> {
+) -> Result<u8, CommandError<'a>> {
     if controlling.resume && controlling.journal.is_none() {
         return Ok(wrong(errors, "--resume goes on from the file of --journal")?);
     }
@@ -236,10 +233,10 @@ pub(crate) fn control_words<'a, R: AllocGlobal + Files, I: TellsFault + Drop, W:
     let settings = settings_in(rt, controlling.settings)?;
     let operator = script_in(rt, controlling.operator)?.bytes;
     let Some(settings) = settings else {
-        return Ok(tell_too_long(errors));
+        return Ok(tell_too_long(errors)?);
     };
     match read_orders(rt.alloc(), settings.as_slice(), operator.as_slice()) {
         Ok(orders) => control_orders(rt, orders, &controlling, input, output, errors),
-        Err(error) => Ok(refuse_input(errors, error)),
+        Err(error) => Ok(refuse_input(errors, error)?),
     }
 }

@@ -1,15 +1,16 @@
 //! The command by which a method drives the simulated cell.
-ghost use Rattle.std.specs.Prelude.{ℕ, List, IfOk, option_map};
+ghost use Rattle.std.specs.Prelude.{ℕ, List, option_map};
 ghost use Rattle.cell_output.specs.Watched.{bytes_held};
+ghost use Rattle.cell_orders.specs.Commands.{IfTold};
 ghost use Rattle.cell_runs.specs.Told.{IsRead};
 ghost use Rattle.cellctl.specs.Carried.{DrivesFiles, DrivesRead, DrivesSome};
 
-use crate::orders::{Sources, sources_in};
+use crate::orders::{Reading, Sources, sources_in};
 use cell_audit::{Audited, write_answer};
 use cell_command::Driving;
 use cell_drive::{DriveOptions, drive_texts};
 use cell_journal::Journal;
-use cell_orders::{Failure, book_in};
+use cell_orders::{CommandError, book_in, told};
 use cell_output::{WatchedWriter, WriteFault};
 use cell_rows::TellsFault;
 use std::io::Write;
@@ -80,20 +81,20 @@ pub(crate) fn drive_files<
     output: &mut WatchedWriter<'_, W>,
     errors: &mut WatchedWriter<'_, E>,
     driving: Driving<'a>,
-) -> Result<Result<u8, WriteFault>, Failure<'a>>
-    ensures { IfOk result (λ written. DrivesFiles driving.entry (I.remaining input) (bytes_held W.contents output.old)
-        (bytes_held W.contents output.new) written) }
+) -> Result<u8, CommandError<'a>>
+    ensures { IfTold result (DrivesFiles driving.entry (I.remaining input) (bytes_held W.contents output.old)
+        (bytes_held W.contents output.new)) }
 {
     let sources = match sources_in(rt, output, driving.running)? {
-        Ok(sources) => sources,
-        Err(told) => return Ok(told),
+        Reading::Fit(sources) => sources,
+        Reading::Unfit(status) => return Ok(status),
     };
     let driven = Driven { driving, sources };
     match driving.from {
         Some(path) => {
             let before = book_in(rt, path)?;
-            Ok(drive_read(rt, input, output, errors, &driven, &before))
+            told(drive_read(rt, input, output, errors, &driven, &before))
         }
-        None => Ok(drive_sources(rt, input, output, errors, &driven, None)),
+        None => Ok(drive_sources(rt, input, output, errors, &driven, None)?),
     }
 }

@@ -16,11 +16,11 @@ ghost use Rattle.std.specs.Prelude.{◌≡◌, ◌⊎◌, IfOk, map};
 ghost use Rattle.std.specs.Io.KnownBytes.{Keeps};
 ghost use Rattle.clap.specs.Words.{kind_of};
 ghost use Rattle.cell_output.specs.Watched.{bytes_held};
-ghost use Rattle.cellctl.specs.Carried.{IsTurnedAway, Obeys, ended, status_of_error};
+ghost use Rattle.cellctl.specs.Carried.{IsTurnedAway, Obeys, status_of_error};
 
 use cell_command::{Escaped, Resource, read_words};
 use cell_explain::endings::{EndedRun, write_ending};
-use cell_orders::Failure;
+use cell_orders::{CommandError, Failure};
 use cell_output::{WatchedWriter, status};
 use cell_rows::{TellsFault, Watched};
 use clap::Error;
@@ -78,26 +78,23 @@ fn refuse<W: Write, E: Write>(
     }
 }
 
-// Writes out all that was written for an order, unless the writer failed, and then explains the end of a run, where
-// that is wanted. It gives the status.
+// Writes out all that was written for an order, and then explains the end of a run, where that is wanted. It gives the
+// status.
 fn finish<W: Write, E: Write>(
     alloc: Global,
     output: &mut W,
     errors: &mut E,
     carried: Carried,
 ) -> io::Result<u8>
-    ensures status { IfOk result (λ status. status ≡ ended carried.written) }
+    ensures status { IfOk result (λ status. status ≡ carried.status) }
     ensures kept { Keeps (W.contents output.old) (W.contents output.new) }
 {
     let Carried {
-        written,
+        status,
         ending,
         is_out,
         ..
     } = carried;
-    let Ok(status) = written else {
-        return Ok(status::DEVICE_FAULT);
-    };
     if !is_out {
         output.flush()?;
     }
@@ -137,15 +134,21 @@ fn main_over<
         ⊎ IsTurnedAway (map (λ w. w.now) words.now) obeyed.status) }
 {
     match read_words(rt.alloc(), words) {
-        Ok(order) => {
-            let carried = carry_out(rt, input, output, errors, progress, order)?;
-            let lacks_thread = carried.lacks_thread;
-            let status = finish(rt.alloc(), output, errors, carried)?;
-            Ok(Obeyed {
-                status,
-                lacks_thread,
-            })
-        }
+        Ok(order) => match carry_out(rt, input, output, errors, progress, order) {
+            Ok(carried) => {
+                let lacks_thread = carried.lacks_thread;
+                let status = finish(rt.alloc(), output, errors, carried)?;
+                Ok(Obeyed {
+                    status,
+                    lacks_thread,
+                })
+            }
+            Err(CommandError::Write(_)) => Ok(Obeyed {
+                status: status::DEVICE_FAULT,
+                lacks_thread: false,
+            }),
+            Err(CommandError::System(failure)) => Err(failure),
+        },
         Err(error) => Ok(Obeyed {
             status: refuse(rt.alloc(), output, errors, &error)?,
             lacks_thread: false,

@@ -1,9 +1,11 @@
 //! What is done for an order, over any reader and writers.
-ghost use Rattle.std.specs.Prelude.{◌≡◌, ℕ, List, IfErr, IfOk, Ok};
+ghost use Rattle.std.specs.Prelude.{◌≡◌, ℕ, List, Err, IfErr, IfOk, IfSome, Ok, Some};
 ghost use Rattle.cell_output.specs.Watched.{bytes_held};
+ghost use Rattle.cell_orders.specs.Commands.{outcome_of};
 ghost use Rattle.cell_runs.specs.Told.{IsRead};
 ghost use Rattle.cellctl.specs.Carried.{CarriesOut, FollowsFiles, FollowsTexts, MeasuresFiles, MeasuresRun};
 ghost use Rattle.cellctl.specs.Carried.{MeasuresTexts, RunsFiles, RunsTexts, TellsUnfit};
+ghost use Rattle.cellctl.specs.Outcomes.{IfCarried, IfFit, carried_outcome, unfit_outcome, written_of};
 
 use crate::continued::continue_words;
 use crate::control::control_words;
@@ -15,7 +17,7 @@ use cell_command::{Order, Running};
 use cell_drive::run_measured;
 use cell_measures::Durations;
 use cell_orders::{
-    Failure, audit_file, book_in, check_file, durations_in, explain_words, explore_words,
+    CommandError, audit_file, book_in, check_file, durations_in, explain_words, explore_words,
     measure_words, migrate_file, script_in, settings_in, show_words, tell_times, tell_too_long,
 };
 use cell_output::{WatchedWriter, WriteFault};
@@ -26,11 +28,11 @@ use std::rt::Files;
 use std::sync::Wait;
 use std::thread::Threads;
 
-/// What was done for an order.
+/// What was done for an order, of which no write was refused.
 #[derive(Drop)]
 pub(crate) struct Carried {
-    /// The status, unless a writer failed.
-    pub(crate) written: Result<u8, WriteFault>,
+    /// The status.
+    pub(crate) status: u8,
     /// The run whose end is to be explained.
     pub(crate) ending: Option<Ending>,
     /// Whether there is no run, since no thread could be started.
@@ -75,26 +77,52 @@ impl Sources {
     }
 }
 
-/// Nothing is to be explained.
-pub(crate) fn without_ending(written: Result<u8, WriteFault>) -> Carried
-    ensures { result.written ≡ written }
-{
-    Carried {
-        written,
-        ending: None,
-        lacks_thread: false,
-        is_out: false,
+impl Carried {
+    /// Nothing is to be explained of an order with this status.
+    pub(crate) fn of(status: u8) -> Carried
+        ensures { result.status ≡ status }
+    {
+        Carried {
+            status,
+            ending: None,
+            lacks_thread: false,
+            is_out: false,
+        }
     }
 }
 
-// What was written is written out.
-fn written_out(written: Result<u8, WriteFault>) -> Carried
-    ensures { result.written ≡ written }
+/// What was done for an order, unless a write was refused.
+pub(crate) fn unless_refused<'a>(
+    done: Result<Carried, WriteFault>,
+) -> Result<Carried, CommandError<'a>>
+    ensures { carried_outcome result ≡ Some (written_of done) }
 {
-    Carried {
+    Ok(done?)
+}
+
+// Nothing is to be explained of what a command ended with.
+fn without_ending<'a>(told: Result<u8, CommandError<'a>>) -> Result<Carried, CommandError<'a>>
+    ensures { carried_outcome result ≡ outcome_of told.entry }
+{
+    Ok(Carried::of(told?))
+}
+
+// The same, where what was written is written out.
+fn written_out<'a>(told: Result<u8, CommandError<'a>>) -> Result<Carried, CommandError<'a>>
+    ensures { carried_outcome result ≡ outcome_of told.entry }
+{
+    Ok(Carried {
         is_out: true,
-        ..without_ending(written)
-    }
+        ..Carried::of(told?)
+    })
+}
+
+/// What comes of reading the files of a run.
+#[derive(Drop)]
+pub(crate) enum Reading {
+    Fit(Sources),
+    /// The settings are too long or the durations are refused, which was told with this status.
+    Unfit(u8),
 }
 
 /// Reads the files of a run, all before any is judged; or tells that the settings are too long or the durations are
@@ -103,26 +131,26 @@ pub(crate) fn sources_in<'a, R: AllocGlobal + Files, W: Write>(
     rt: &R,
     output: &mut WatchedWriter<'_, W>,
     running: Running<'a>,
-) -> Result<Result<Sources, Result<u8, WriteFault>>, Failure<'a>>
-    ensures same { IfOk result (λ read. IfOk read (λ _. output.new ≡ output.old)) }
-    ensures unfit { IfOk result (λ read. IfErr read
-        (TellsUnfit running.entry.times (bytes_held W.contents output.old) (bytes_held W.contents output.new))) }
+) -> Result<Reading, CommandError<'a>>
+    ensures same { IfOk result (λ reading. IfFit reading (output.new ≡ output.old)) }
+    ensures unfit { IfSome (unfit_outcome result) (TellsUnfit running.entry.times (bytes_held W.contents output.old)
+        (bytes_held W.contents output.new)) }
 {
     let settings = settings_in(rt, running.paths.settings)?;
     let faults = script_in(rt, running.paths.faults)?.bytes;
     let operator = script_in(rt, running.paths.operator)?.bytes;
     let durations = durations_in(rt, running.times)?;
     let Some(settings) = settings else {
-        return Ok(Err(tell_too_long(output)));
+        return Ok(Reading::Unfit(tell_too_long(output)?));
     };
     match durations {
-        Ok(durations) => Ok(Ok(Sources {
+        Ok(durations) => Ok(Reading::Fit(Sources {
             settings,
             faults,
             operator,
             durations,
         })),
-        Err(line) => Ok(Err(tell_times(output, line.as_str()))),
+        Err(line) => Ok(Reading::Unfit(tell_times(output, line.as_str())?)),
     }
 }
 
@@ -133,14 +161,11 @@ pub(crate) fn with_ending(
     before: u32,
     explain: bool,
     sources: Sources,
-) -> Carried
-    ensures ok { IfOk ran (λ told. result.written ≡ Ok told.0) }
-    ensures err { IfErr ran (λ e. result.written ≡ Err e) }
+) -> Result<Carried, WriteFault>
+    ensures ok { IfOk ran (λ told. written_of result ≡ Ok told.0) }
+    ensures err { IfErr ran (λ e. written_of result ≡ Err e) }
 {
-    let (status, left) = match ran {
-        Ok(ran) => ran,
-        Err(WriteFault) => return without_ending(Err(WriteFault)),
-    };
+    let (status, left) = ran?;
     let lacks_thread = matches!(&left, Left::NoThread);
     let Sources {
         faults,
@@ -156,12 +181,12 @@ pub(crate) fn with_ending(
         }),
         _ => None,
     };
-    Carried {
-        written: Ok(status),
+    Ok(Carried {
+        status,
         ending,
         lacks_thread,
         is_out: false,
-    }
+    })
 }
 
 // Runs the simulated cell by its texts, on threads or in rounds.
@@ -171,9 +196,9 @@ fn run_sources<R: AllocGlobal + Threads + Wait + Sync, W: Write>(
     mode: Mode,
     running: Running<'_>,
     sources: Sources,
-) -> Carried
+) -> Result<Carried, WriteFault>
     ensures { RunsTexts mode running.entry.journal (bytes_held W.contents output.old)
-        (bytes_held W.contents output.new) result.written }
+        (bytes_held W.contents output.new) (written_of result) }
 {
     let ran = run_kept(rt, sources.texts(), mode, running.journal, output);
     with_ending(ran, 0, running.explain, sources)
@@ -185,14 +210,13 @@ fn run_files<'a, R: AllocGlobal + Files + Threads + Wait + Sync, W: Write>(
     output: &mut WatchedWriter<'_, W>,
     mode: Mode,
     running: Running<'a>,
-) -> Result<Carried, Failure<'a>>
-    ensures { IfOk result (λ c. RunsFiles mode running.entry (bytes_held W.contents output.old)
-        (bytes_held W.contents output.new)
-        c.written) }
+) -> Result<Carried, CommandError<'a>>
+    ensures { IfCarried result (RunsFiles mode running.entry (bytes_held W.contents output.old)
+        (bytes_held W.contents output.new)) }
 {
     match sources_in(rt, output, running)? {
-        Ok(sources) => Ok(run_sources(rt, output, mode, running, sources)),
-        Err(told) => Ok(without_ending(told)),
+        Reading::Fit(sources) => unless_refused(run_sources(rt, output, mode, running, sources)),
+        Reading::Unfit(status) => Ok(Carried::of(status)),
     }
 }
 
@@ -222,10 +246,10 @@ fn measure_sources<R: AllocGlobal + Threads + Wait + Sync, W: Write>(
     mode: Mode,
     running: Running<'_>,
     sources: Sources,
-) -> Carried
+) -> Result<Carried, WriteFault>
     ensures { MeasuresTexts mode running.entry.journal (bytes_held W.contents output.old)
         (bytes_held W.contents output.new)
-        result.written }
+        (written_of result) }
 {
     let ran = run_with_measures(rt, output, mode, running.journal, sources.texts());
     with_ending(ran, 0, running.explain, sources)
@@ -238,14 +262,15 @@ fn measure_files<'a, R: AllocGlobal + Files + Threads + Wait + Sync, W: Write>(
     output: &mut WatchedWriter<'_, W>,
     mode: Mode,
     running: Running<'a>,
-) -> Result<Carried, Failure<'a>>
-    ensures { IfOk result (λ c. MeasuresFiles mode running.entry (bytes_held W.contents output.old)
-        (bytes_held W.contents output.new)
-        c.written) }
+) -> Result<Carried, CommandError<'a>>
+    ensures { IfCarried result (MeasuresFiles mode running.entry (bytes_held W.contents output.old)
+        (bytes_held W.contents output.new)) }
 {
     match sources_in(rt, output, running)? {
-        Ok(sources) => Ok(measure_sources(rt, output, mode, running, sources)),
-        Err(told) => Ok(without_ending(told)),
+        Reading::Fit(sources) => unless_refused(measure_sources(
+            rt, output, mode, running, sources,
+        )),
+        Reading::Unfit(status) => Ok(Carried::of(status)),
     }
 }
 
@@ -256,10 +281,10 @@ fn follow_sources<R: AllocGlobal + Wait, W: Write>(
     followed: &Audited,
     running: Running<'_>,
     sources: Sources,
-) -> Carried
+) -> Result<Carried, WriteFault>
     ensures { (text : List ℕ) → IsRead followed.now text
         → FollowsTexts running.entry.journal (bytes_held W.contents output.old)
-        (bytes_held W.contents output.new) result.written }
+        (bytes_held W.contents output.new) (written_of result) }
 {
     let told = follow_after(rt, followed, sources.texts(), running.journal, output);
     with_ending(told, 0, running.explain, sources)
@@ -271,16 +296,16 @@ fn follow_files<'a, R: AllocGlobal + Files + Wait, W: Write>(
     output: &mut WatchedWriter<'_, W>,
     path: &'a str,
     running: Running<'a>,
-) -> Result<Carried, Failure<'a>>
-    ensures { IfOk result (λ c. FollowsFiles running.entry (bytes_held W.contents output.old)
-        (bytes_held W.contents output.new) c.written) }
+) -> Result<Carried, CommandError<'a>>
+    ensures { IfCarried result (FollowsFiles running.entry (bytes_held W.contents output.old)
+        (bytes_held W.contents output.new)) }
 {
     let sources = match sources_in(rt, output, running)? {
-        Ok(sources) => sources,
-        Err(told) => return Ok(without_ending(told)),
+        Reading::Fit(sources) => sources,
+        Reading::Unfit(status) => return Ok(Carried::of(status)),
     };
     let followed = book_in(rt, path)?;
-    Ok(follow_sources(rt, output, &followed, running, sources))
+    unless_refused(follow_sources(rt, output, &followed, running, sources))
 }
 
 /// Does what an order says: reads the input or the files that it names, and writes to the output and the errors. What
@@ -298,37 +323,35 @@ pub(crate) fn carry_out<
     errors: &mut WatchedWriter<'_, E>,
     progress: bool,
     order: Order<'a>,
-) -> Result<Carried, Failure<'a>>
-    ensures { IfOk result (λ c. CarriesOut order.entry (I.remaining input) (bytes_held W.contents output.old)
-        (bytes_held W.contents output.new) (bytes_held E.contents errors.old)
-        (bytes_held E.contents errors.new) c.written) }
+) -> Result<Carried, CommandError<'a>>
+    ensures { IfCarried result (λ written. CarriesOut order.entry (I.remaining input)
+        (bytes_held W.contents output.old) (bytes_held W.contents output.new)
+        (bytes_held E.contents errors.old) (bytes_held E.contents errors.new) written) }
 {
     match order {
-        Order::Audit(file) => Ok(without_ending(audit_file(rt, input, output, file)?)),
-        Order::Migrate(file) => Ok(without_ending(migrate_file(rt, input, output, errors, file)?)),
-        Order::Show(showing) => Ok(without_ending(show_words(rt, input, output, errors, showing)?)),
-        Order::Explain(explaining) => Ok(without_ending(explain_words(
-            rt, input, output, errors, explaining,
-        )?)),
-        Order::Measure(measuring) => {
-            Ok(without_ending(measure_words(rt, output, errors, &measuring)?))
+        Order::Audit(file) => without_ending(audit_file(rt, input, output, file)),
+        Order::Migrate(file) => without_ending(migrate_file(rt, input, output, errors, file)),
+        Order::Show(showing) => without_ending(show_words(rt, input, output, errors, showing)),
+        Order::Explain(explaining) => {
+            without_ending(explain_words(rt, input, output, errors, explaining))
         }
-        Order::Check(path) => Ok(without_ending(check_file(rt, output, path)?)),
+        Order::Measure(measuring) => {
+            without_ending(measure_words(rt, output, errors, &measuring))
+        }
+        Order::Check(path) => without_ending(check_file(rt, output, path)),
         Order::Sim(running) => run_files(rt, output, Mode::Rounds, running),
         Order::SimMeasured(running) => measure_files(rt, output, Mode::Rounds, running),
         Order::Follow(path, running) => follow_files(rt, output, path, running),
         Order::SimFrom(continuing) => continue_words(rt, output, errors, continuing),
         Order::Sweep(sweeping) => {
-            Ok(without_ending(sweep_words(rt, output, errors, sweeping, progress)?))
+            without_ending(sweep_words(rt, output, errors, sweeping, progress))
         }
         Order::Explore(exploring) => {
-            Ok(without_ending(explore_words(rt.alloc(), output, errors, &exploring, progress)?))
+            without_ending(explore_words(rt.alloc(), output, errors, &exploring, progress))
         }
-        Order::Drive(driving) => Ok(without_ending(drive_files(
-            rt, input, output, errors, driving,
-        )?)),
+        Order::Drive(driving) => without_ending(drive_files(rt, input, output, errors, driving)),
         Order::Control(controlling) => {
-            Ok(written_out(control_words(rt, input, output, errors, controlling)?))
+            written_out(control_words(rt, input, output, errors, controlling))
         }
         Order::Run(running) => run_files(rt, output, Mode::Threads, running),
         Order::RunMeasured(running) => measure_files(rt, output, Mode::Threads, running),

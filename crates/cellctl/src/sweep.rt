@@ -1,13 +1,14 @@
 //! The command that runs the simulated cell once for each fault.
 ghost use Rattle.std.specs.Prelude.{IfErr, IfNone, IfOk, IfSome};
 ghost use Rattle.cell_output.specs.Watched.{bytes_held};
+ghost use Rattle.cell_orders.specs.Commands.{IfTold};
 ghost use Rattle.cell_sweep.specs.Sweeps.{wanted};
 ghost use Rattle.cellctl.specs.Carried.{SweepsFiles, SweepsSome};
 ghost use Rattle.cellctl.specs.Swept.{AreKinds, AreMotions, HasNoKind, IsNoCount};
 
 use cell_command::Sweeping;
-use cell_orders::{Failure, script_in, settings_in, tell_too_long, wrong};
-use cell_output::{WatchedWriter, WriteFault};
+use cell_orders::{CommandError, script_in, settings_in, tell_too_long, told, wrong};
+use cell_output::WatchedWriter;
 use cell_sim::Fault;
 use cell_sweep::{KINDS, KindsError, Sweep, read_kinds, sweep_texts};
 use cell_types::number::read_number;
@@ -52,17 +53,17 @@ fn sweep_files<'a, R: AllocGlobal + Files, W: Write, E: Write>(
     errors: &mut E,
     sweeping: Sweeping<'a>,
     sweep: Sweep<'_>,
-) -> Result<Result<u8, WriteFault>, Failure<'a>>
-    ensures { IfOk result (λ written. SweepsSome (wanted sweep.entry.kinds.now sweep.entry.motions sweep.entry.service
-        sweep.entry.csv) (bytes_held W.contents output.old) (bytes_held W.contents output.new) written) }
+) -> Result<u8, CommandError<'a>>
+    ensures { IfTold result (SweepsSome (wanted sweep.entry.kinds.now sweep.entry.motions sweep.entry.service
+        sweep.entry.csv) (bytes_held W.contents output.old) (bytes_held W.contents output.new)) }
 {
     let settings = settings_in(rt, sweeping.settings)?;
     let operator = script_in(rt, sweeping.operator)?;
     let Some(settings) = settings else {
-        return Ok(tell_too_long(output));
+        return told(tell_too_long(output));
     };
     let operator = operator.bytes.as_slice();
-    Ok(sweep_texts(
+    told(sweep_texts(
         rt.alloc(),
         settings.as_slice(),
         operator,
@@ -80,8 +81,8 @@ pub(crate) fn sweep_words<'a, R: AllocGlobal + Files, W: Write, E: Write>(
     errors: &mut E,
     sweeping: Sweeping<'a>,
     progress: bool,
-) -> Result<Result<u8, WriteFault>, Failure<'a>>
-    ensures { IfOk result (SweepsFiles sweeping.entry (bytes_held W.contents output.old)
+) -> Result<u8, CommandError<'a>>
+    ensures { IfTold result (SweepsFiles sweeping.entry (bytes_held W.contents output.old)
         (bytes_held W.contents output.new)
         (E.contents errors.old) (E.contents errors.new)) }
 {

@@ -1,15 +1,13 @@
 -- Texts that don't go together are wrong arguments, with a line of their own
 use Rattle.std.proofs.Common.{refl, sym, ◌∙◌}
 use Rattle.std.specs.Prelude.{codes}
-use Rattle.cell_orders.proofs.Arguments.{wrong-told}
 use Rattle.cell_orders.proofs.explain.explain_words.Goals as goal
 
 pub returns-in_ok-wrong-in-None : goal.returns-in_ok-wrong-in-None
 returns-in_ok-wrong-in-None g c =
-    wrong-told c.in_ok-wrong-in-None.field-0 _ c.in_ok-wrong-in-None.ensures.status
-    (rw (sym c.text_of.ensures ∙ c.in-None.is) (
-      refl,
+    rw (sym c.text_of.ensures ∙ c.in-None.is) (
+      c.in_ok-wrong-in-None.ensures.status,
       refl,
       codes "of FILE, --settings, --faults and --operator one alone can be given",
       c.in_ok-wrong-in-None.ensures.line,
-    ))
+    )

@@ -2,12 +2,13 @@
 use Rattle.std.proofs.Common.{◌∷◌, ◌++◌, [], None, Some, refl, inl, inr, append_assoc, rules}
 use Rattle.std.specs.Prelude.{codes}
 use Rattle.cell_command.specs.Escaped.{escaped}
-use Rattle.cell_orders.proofs.Showing.{shown-for, shown-of}
+use Rattle.std.proofs.lemmas.Result.{IfOk-weaker}
+use Rattle.cell_orders.proofs.Showing.{shown-for}
 use Rattle.cell_orders.proofs.show.show_entry.Goals as goal
 
 pub returns-in_default : goal.returns-in_default
 returns-in_default g c =
-    shown-of c.show_files.result _ _ (λ s shows. inl (None, rw c.in_default.is refl, shows))
+    IfOk-weaker c.show_files.result _ _ (λ s shows. inl (None, rw c.in_default.is refl, shows))
     (c.show_files.ensures None refl)
 
 pub returns-in_default-read_count : goal.returns-in_default-read_count

@@ -10,5 +10,5 @@ returns g c =
     as-ends c.as_audited.result c.status_of-due.result (λ s. IfSome known (λ text. EndsAsAudit text s))
     c.as_audited.ensures
     (of-known known _ _ _ (λ text due only. (c.in_ok-read.read.answer, (due, only), c.status_of-due.ensures))
-    c.in_ok-read.ensures.due c.in_ok-read.ensures.only)
+    (rw c.in_ok-read.ensures at c.journal_text.ensures.due) (rw c.in_ok-read.ensures at c.journal_text.ensures.only))
     (known-wants known)

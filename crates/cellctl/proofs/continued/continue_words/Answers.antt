@@ -10,9 +10,14 @@ returns-then-is_some g c =
     inr (
       inl given,
       (
-        2,
-        c.without_ending.ensures ∙ c.in_ok-wrong.ensures.status,
-        (refl, refl, codes "--from doesn't go with --follow", c.in_ok-wrong.ensures.line),
+        c.of.result.status,
+        refl,
+        (
+          c.of.ensures ∙ c.in_ok-wrong.ensures.status,
+          refl,
+          codes "--from doesn't go with --follow",
+          c.in_ok-wrong.ensures.line,
+        ),
       ),
     )
 
@@ -21,8 +26,13 @@ returns-then-continuing g c =
     inr (
       inr c.if-continuing.true,
       (
-        2,
-        c.without_ending-then-continuing.ensures ∙ c.in_ok-wrong-2.ensures.status,
-        (refl, refl, codes "--from doesn't go with --measures", c.in_ok-wrong-2.ensures.line),
+        c.of-then-continuing.result.status,
+        refl,
+        (
+          c.of-then-continuing.ensures ∙ c.in_ok-wrong-2.ensures.status,
+          refl,
+          codes "--from doesn't go with --measures",
+          c.in_ok-wrong-2.ensures.line,
+        ),
       ),
     )

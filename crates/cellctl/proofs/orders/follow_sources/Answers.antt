@@ -4,6 +4,7 @@ use Rattle.std.proofs.lemmas.Result.{IfOk-weaker}
 use Rattle.cell_output.specs.Watched.{bytes_held}
 use Rattle.cell_runs.specs.Runs.{kept_of}
 use Rattle.cell_runs.specs.Told.{TellsFollowed}
+use Rattle.cellctl.specs.Outcomes.{written_of}
 use Rattle.cellctl.proofs.Written.{as-answered}
 use Rattle.cellctl.proofs.orders.follow_sources.Goals as goal
 
@@ -22,6 +23,6 @@ returns g c = λ text read.
       settings,
       faults,
       operator,
-      as-answered ran c.with_ending.result.written _ _ c.with_ending.ensures.ok c.with_ending.ensures.err whole
+      as-answered ran (written_of c.with_ending.result) _ _ c.with_ending.ensures.ok c.with_ending.ensures.err whole
           (c.follow_after-told.ensures.part text read),
     )
