@@ -1,6 +1,5 @@
 -- A reading of a belt agrees with what is expected
 use Rattle.std.proofs.Common.{◌≡◌, ℕ, Bool, true, false, Option, Some, None, List, refl, sym, ap, ◌∙◌, subst, is_some}
-use Rattle.std.proofs.Common.{if◌then◌else◌}
 use Rattle.cell_types.specs.declared.words.Axis.{Axis}
 use Rattle.cell_types.specs.declared.words.Axis.TheVariants as axis
 use Rattle.cell_types.specs.declared.words.Colour.TheVariants as colour
@@ -9,7 +8,7 @@ use Rattle.cell_types.specs.declared.words.Machine.TheVariants as machine
 use Rattle.cell_types.specs.declared.words.Pose.{Pose}
 use Rattle.cell_types.specs.declared.words.Station.{Station}
 use Rattle.cell_types.specs.declared.words.Station.TheVariants as station
-use Rattle.cell_types.specs.Cell.{axes_of, machine_of_station}
+use Rattle.cell_types.specs.Cell.{machine_of_station}
 use Rattle.cell_rules.specs.Views.{going_of}
 use Rattle.cell_diagnosis.specs.RestFacts.{agrees, noted}
 use Rattle.cell_diagnosis.specs.declared.reading.Reading.{Reading}
@@ -18,9 +17,9 @@ use Rattle.cell_turns.specs.Expected.{expected_of}
 use Rattle.cell_turns.specs.Following.{Following}
 use Rattle.cell_sim.specs.declared.motion.Moving.{Moving}
 use Rattle.cell_sim.specs.declared.world.Plate.{Plate}
-use Rattle.cell_sim.specs.Parts.{axis_at, in_turn}
-use Rattle.cell_sim.specs.Readings.{advanced, is_reading_missing, read_on, senses, senses_by, shown, shown_now}
-use Rattle.cell_sim.specs.Readings.{shown_on}
+use Rattle.cell_sim.specs.Parts.{axis_at}
+use Rattle.cell_sim.specs.Readings.{advanced, by_the_hands, is_reading_missing, read_on, senses, senses_by, shown}
+use Rattle.cell_sim.specs.Readings.{shown_now, shown_on}
 use Rattle.cell_sim.specs.Simulated.{Simulated}
 use Rattle.cell_world.specs.Agreeing.{has_belt}
 use Rattle.cell_world.specs.Belts.{BeltGoes, BeltRests, Conveying, belt_of, light_of, machine_of, name_of}
@@ -59,17 +58,17 @@ nothing_looked : (J : List Entry) (c : Conveying) (v : Simulated) → going_of J
     → SensesBooked J (machine_of c) v
 nothing_looked J c v h s e l = let x : true ≡ false = sym l ∙ unlooked_at J c s h e in cc x
 
-its_belt : (c : Conveying) → has_belt (machine_of c) ≡ true
+pub its_belt : (c : Conveying) → has_belt (machine_of c) ≡ true
 its_belt to_feed_end = refl
 its_belt to_table = refl
 its_belt to_deposit_end = refl
 
-its_axis : (c : Conveying) → belt_axis (machine_of c) ≡ belt_of c
+pub its_axis : (c : Conveying) → belt_axis (machine_of c) ≡ belt_of c
 its_axis to_feed_end = refl
 its_axis to_table = refl
 its_axis to_deposit_end = refl
 
-agrees_at : (J : List Entry) (c : Conveying) (u : Bool) (w v : Simulated)
+pub agrees_at : (J : List Entry) (c : Conveying) (u : Bool) (w v : Simulated)
     → shown w (machine_of c) ≡ Some (shown_now v (machine_of c)) → SensesBooked J (machine_of c) v
     → ReadingAgreesAt J (machine_of c) u w
 agrees_at J c u w v h t =
@@ -83,7 +82,7 @@ goes_agrees J p c f w u k g t =
     agrees_at J c u w (gone_to c k g w) (shown_belt J p c k g f w t) (nothing_looked J c (gone_to c k g w) t.booked)
 
 -- a belt that rests is read as it is
-still_read : (c : Conveying) (w : Simulated) → (axis_at w (belt_of c)).motion ≡ None
+pub still_read : (c : Conveying) (w : Simulated) → (axis_at w (belt_of c)).motion ≡ None
     → is_reading_missing w (machine_of c) ≡ false
 still_read to_feed_end w h = rw h refl
 still_read to_table w h = rw h refl
@@ -93,26 +92,27 @@ still_stays : (a : Axis) (w : Simulated) → (axis_at w a).motion ≡ None → a
 unfolding advanced
 still_stays a w h = rw h refl
 
-read_still : (c : Conveying) (w : Simulated) → (axis_at w (belt_of c)).motion ≡ None → read_on (machine_of c) w ≡ w
+pub read_still : (c : Conveying) (w : Simulated) → (axis_at w (belt_of c)).motion ≡ None → read_on (machine_of c) w ≡ w
 unfolding read_on
 read_still c w h =
     unless (is_reading_missing w (machine_of c)) _ _ (still_read c w h) ∙ (one_axis c w ∙ still_stays (belt_of c) w h)
 
-shown_still : (c : Conveying) (w : Simulated) → light_of c w ≡ colour.Red → (axis_at w (belt_of c)).motion ≡ None
-    → shown w (machine_of c) ≡ Some (shown_now w (machine_of c))
+pub shown_still : (c : Conveying) (w : Simulated)
+    → (axis_at (by_the_hands w (machine_of c)) (belt_of c)).motion ≡ None
+    → shown w (machine_of c) ≡ Some (shown_now (by_the_hands w (machine_of c)) (machine_of c))
 unfolding shown shown_on
-shown_still c w red h =
-    let m = machine_of c in
-    ap (λ (v : Simulated). if is_reading_missing v m then None else Some (shown_now (read_on m v) m))
-    (none_by_hand c w red)
-    ∙ (unless (is_reading_missing w m) _ _ (still_read c w h)
-    ∙ ap (λ (v : Simulated). Some (shown_now v m)) (read_still c w h))
+shown_still c w h =
+    let m = machine_of c in let u = by_the_hands w m in
+    unless (is_reading_missing u m) None (Some (shown_now (read_on m u) m)) (still_read c u h)
+    ∙ ap (λ (v : Simulated). Some (shown_now v m)) (read_still c u h)
 
 rests_agrees : (J : List Entry) (c : Conveying) (f : Option Following) (w : Simulated) (u : Bool) → BeltRests J c f w
     → light_of c w ≡ colour.Red → ((s : Station) → machine_of_station s ≡ machine_of c → HasBooked J w s)
     → ReadingAgreesAt J (machine_of c) u w
 rests_agrees J c f w u t red b =
-    agrees_at J c u w w (shown_still c w red t.still)
+    let m = machine_of c in let off = none_by_hand c w red in
+    let still = ap (λ (v : Simulated). (axis_at v (belt_of c)).motion) off ∙ t.still in
+    agrees_at J c u w w (shown_still c w still ∙ ap (λ (v : Simulated). Some (shown_now v m)) off)
     (λ s e l. ap (λ (a : Axis). senses w a s) (its_axis c)
     ∙ (ap (λ (o : Option Moving). senses_by w o s) t.still ∙ ap (λ (o : Option ℕ). is_some o) (b s e)))
 

@@ -98,10 +98,10 @@ belt_starts J p c k f w t red here empty =
     })
 
 -- the command that ends the belt's motion
-stopped : Conveying → Simulated → Simulated
+unfoldable pub stopped : Conveying → Simulated → Simulated
 stopped c w = with_motion (belt_of c) None w
 
-off_does : (c : Conveying) (w : Simulated) → IsPlain w → after_command [] w (Off (belt_of c)) ≡ stopped c w
+pub off_does : (c : Conveying) (w : Simulated) → IsPlain w → after_command [] w (Off (belt_of c)) ≡ stopped c w
 unfolding after_command fails stopped
 off_does to_feed_end w t = unlooked (Some (Off (belt_of to_feed_end))) (stopped to_feed_end w) t.unwatched
 off_does to_table w t = unlooked (Some (Off (belt_of to_table))) (stopped to_table w) t.unwatched
@@ -136,7 +136,7 @@ belt_ends J c k f w t =
     })
 
 -- the plates then
-brought_plates : (c : Conveying) (k : Plate) (w : Simulated) (s : Station)
+pub brought_plates : (c : Conveying) (k : Plate) (w : Simulated) (s : Station)
     → plate_at (stopped c (gone_to c k two w)) s ≡ plate_at (moved (from_of c) (dest_of c) w) s
 unfolding stopped moved
 brought_plates c k w s = refl

@@ -14,7 +14,7 @@ use Rattle.cell_world.specs.Belts.{name_of, to_deposit_end, to_feed_end, to_tabl
 use Rattle.cell_world.specs.Sparing.{IsSpared}
 use Rattle.cell_world.specs.Tied.{Given, noted_of}
 
-its_machine : (c : Conveying) → machine_of_axis (belt_of c) ≡ machine_of c
+pub its_machine : (c : Conveying) → machine_of_axis (belt_of c) ≡ machine_of c
 its_machine to_feed_end = refl
 its_machine to_table = refl
 its_machine to_deposit_end = refl

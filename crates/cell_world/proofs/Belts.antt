@@ -156,7 +156,7 @@ motion_then c k one w t =
 motion_then c k two w t =
     ap (λ (x : AxisInWorld). x.motion) (at_same w (belt_of c) _ (below_nine (belt_of c) _ t.axes))
 
-ends_apart : (c : Conveying) → station_number (from_of c) ≢ station_number (dest_of c)
+pub ends_apart : (c : Conveying) → station_number (from_of c) ≢ station_number (dest_of c)
 ends_apart to_feed_end = omega arith
 ends_apart to_table = omega arith
 ends_apart to_deposit_end = omega arith
@@ -257,7 +257,7 @@ seen_belt J p c k g f w t =
     ∙ (two_shown _ _ _ _ (first_then c k g w t.plain t.here) (last_then c k g w t.plain t.here t.empty)
     ∙ both_shown c g)
 
-moves_as : (J : List Entry) (p : Plan) (c : Conveying) → going_of J (belt_of c) ≡ Some (name_of c)
+pub moves_as : (J : List Entry) (p : Plan) (c : Conveying) → going_of J (belt_of c) ≡ Some (name_of c)
     → motion_of_machine J p (machine_of c) ≡ Some (belt_motion J p c)
 moves_as J p to_feed_end h = rw h refl
 moves_as J p to_table h = rw h refl

@@ -30,10 +30,10 @@ use Rattle.cell_turns.specs.Following.{Following}
 use Rattle.cell_world.specs.Going.{AxisGoes, IsAtRest, IsPlain}
 use Rattle.cell_world.specs.Tie.{IsTied}
 use Rattle.cell_world.specs.Sparing.{IsSpared}
-use Rattle.cell_world.specs.Starting.{RobotStands, after_entry, one_more}
+use Rattle.cell_world.specs.Starting.{RobotStands}
 use Rattle.cell_world.specs.Switched.{AxisAsBooked, BookIsWorld, OthersKept, SwitchesKept}
 use Rattle.cell_world.specs.Tied.{Given, Goes}
-use Rattle.cell_world.specs.Turning.{IsAsBooked, after_turn}
+use Rattle.cell_world.specs.Turning.{AsBooked, IsAsBooked, after_turn}
 use Rattle.cell_world.proofs.Begins.{some_not}
 use Rattle.cell_world.proofs.Machines.{tied_stands}
 use Rattle.cell_world.proofs.Read.{reading_spares}
@@ -56,35 +56,44 @@ no_asking (StopAsked k) m n h d = cc h
 no_asking (Repaired k) m n h d = cc h
 no_asking x m n h d = refl
 
-kept_by : (J K : List Entry) (p : Plan) (n : Machine) (s : Mind) (w v : Simulated) → IsSpared n J K w v
-    → is_failed K n ≡ is_failed J n → is_asked K n ≡ is_asked J n → IsAsBooked J p n s w → IsAsBooked K p n s v
-kept_by J K p n s w v i f a t =
+-- what a turn of one machine leaves of another
+pub turn_spared : (J : List Entry) (w : Simulated) (m n : Machine) (e : Option Entry) → IsPlain w → m ≢ n
+    → IfSome e (λ x. machine_of_entry x ≡ Some m) → IsSpared n J (J ++ option_to_list e) w (after_turn w m e)
+turn_spared J w m n None t d h =
+    subst (λ (K : List Entry). IsSpared n J K w (after_reading w m)) (sym (append-nil J)) (reading_spares J w n m t d)
+turn_spared J w m n (Some x) t d h =
+    let r = reading_spares J w n m t d in let s = entry_spares J (after_reading w m) x n m r.plain h d in
+    record { plain = s.plain; at = s.at; going = s.going; axes = λ a i. s.axes a i ∙ r.axes a i }
+
+pub turn_healthy : (J : List Entry) (m n : Machine) (e : Option Entry) → m ≢ n
+    → IfSome e (λ x. machine_of_entry x ≡ Some m) → is_failed (J ++ option_to_list e) n ≡ is_failed J n
+turn_healthy J m n None d h = ap (λ (K : List Entry). is_failed K n) (append-nil J)
+turn_healthy J m n (Some x) d h =
+    view_snoc (fails n) false J x ∙ ap (λ (o : Option Bool). unwrap_or o (is_failed J n)) (no_failure x m n h d)
+
+pub turn_unasked : (J : List Entry) (m n : Machine) (e : Option Entry) → m ≢ n
+    → IfSome e (λ x. machine_of_entry x ≡ Some m) → is_asked (J ++ option_to_list e) n ≡ is_asked J n
+turn_unasked J m n None d h = ap (λ (K : List Entry). is_asked K n) (append-nil J)
+turn_unasked J m n (Some x) d h =
+    view_snoc (asks n) false J x ∙ ap (λ (o : Option Bool). unwrap_or o (is_asked J n)) (no_asking x m n h d)
+
+pub kept_as : {T U : Type 0} (J K : List Entry) (n : Machine) (s : Mind) → is_failed K n ≡ is_failed J n
+    → is_asked K n ≡ is_asked J n → (T → U) → AsBooked J n s T → AsBooked K n s U
+kept_as J K n s f a u t =
     record {
       healthy = f ∙ t.healthy;
       unasked = a ∙ t.unasked;
       was_healthy = t.was_healthy;
       was_obeyed = t.was_obeyed;
-      tied = spared_stays J K p n s.axis w v i t.tied;
+      tied = u t.tied;
       agreed = t.agreed;
     }
 
-read_kept : (J : List Entry) (p : Plan) (m n : Machine) (s : Mind) (w : Simulated) → IsPlain w → m ≢ n
-    → IsAsBooked J p n s w → IsAsBooked J p n s (after_reading w m)
-read_kept J p m n s w t d i = kept_by J J p n s w (after_reading w m) (reading_spares J w n m t d) refl refl i
-
-entry_kept : (J : List Entry) (p : Plan) (m n : Machine) (s : Mind) (w : Simulated) (x : Entry) → IsPlain w → m ≢ n
-    → machine_of_entry x ≡ Some m → IsAsBooked J p n s w → IsAsBooked (one_more J x) p n s (after_entry w x)
-entry_kept J p m n s w x t d h i =
-    kept_by J (one_more J x) p n s w (after_entry w x) (entry_spares J w x n m t h d)
-    (view_snoc (fails n) false J x ∙ ap (λ (o : Option Bool). unwrap_or o (is_failed J n)) (no_failure x m n h d))
-    (view_snoc (asks n) false J x ∙ ap (λ (o : Option Bool). unwrap_or o (is_asked J n)) (no_asking x m n h d)) i
-
 pub others_kept : OthersKept
-others_kept J p m n s w None t d h i =
-    subst (λ (K : List Entry). IsAsBooked K p n s (after_reading w m)) (sym (append-nil J))
-    (read_kept J p m n s w t d i)
-others_kept J p m n s w (Some x) t d h i =
-    entry_kept J p m n s (after_reading w m) x (reading_spares J w n m t d).plain d h (read_kept J p m n s w t d i)
+others_kept J p m n s w e t d h i =
+    let K = J ++ option_to_list e in let v = after_turn w m e in
+    kept_as J K n s (turn_healthy J m n e d h) (turn_unasked J m n e d h)
+    (λ k. spared_stays J K p n s.axis w v (turn_spared J w m n e t d h) k) i
 
 -- the turn's own machine, and each other one
 same_machines : (m : Machine) → same_machine m m ≡ true
@@ -94,14 +103,12 @@ apart : (m n : Machine) → same_machine m n ≡ false → m ≢ n
 apart m n h e =
     let c : true ≡ false = sym (same_machines m) ∙ (ap (λ (x : Machine). same_machine m x) e ∙ h) in cc c
 
-each_kept : (J K : List Entry) (p : Plan) (m n : Machine) (s : Mind) (minds : Machine → Mind) (v : Simulated)
-    (b : Bool)
-    → same_machine m n ≡ b → IsAsBooked K p m s v → (m ≢ n → IsAsBooked K p n (minds n) v)
-    → IsAsBooked K p n (if b then s else minds n) v
-each_kept J K p m n s minds v true h i o = subst (λ (x : Machine). IsAsBooked K p x s v) (machine_same m n h) i
-each_kept J K p m n s minds v false h i o = o (apart m n h)
+pub each_mind : (P : Machine → Mind → Type 0) (m n : Machine) (s : Mind) (minds : Machine → Mind) (b : Bool)
+    → same_machine m n ≡ b → (m ≡ n → P n s) → (m ≢ n → P n (minds n)) → P n (if b then s else minds n)
+each_mind P m n s minds true h i o = i (machine_same m n h)
+each_mind P m n s minds false h i o = o (apart m n h)
 
-legal_then : (l : BookLimits) (J : List Entry) (e : Option Entry) → legal l J ≡ true
+pub legal_then : (l : BookLimits) (J : List Entry) (e : Option Entry) → legal l J ≡ true
     → IfSome e (λ x. first_of l J x ≡ None) → legal l (J ++ option_to_list e) ≡ true
 legal_then l J None h free = ap (λ (K : List Entry). legal l K) (append-nil J) ∙ h
 legal_then l J (Some x) h free =
@@ -119,8 +126,9 @@ switches_kept l J p minds w m e b t d free own =
       record {
         legal = legal_then l J e t.legal free;
         fair = t.fair;
-        each = λ n c. each_kept J K p m n (mind_after J m p s (shown w m) e) minds v (same_machine m n) refl
-            left.as_booked
+        each = λ n c. each_mind (λ x y. IsAsBooked K p x y v) m n (mind_after J m p s (shown w m) e) minds
+            (same_machine m n) refl
+            (λ i. subst (λ (x : Machine). IsAsBooked K p x (mind_after J m p s (shown w m) e) v) i left.as_booked)
             (λ o. others_kept J p m n (minds n) w e plain o own (t.each n c));
         plates = λ u h. left.plates u (t.plates u h);
       },
@@ -128,7 +136,7 @@ switches_kept l J p minds w m e b t d free own =
     )
 
 -- the axes of a machine that is tied
-some_one : {A : Type 0} (o : Option A) (x y : A) → o ≡ Some x → o ≡ Some y → x ≡ y
+pub some_one : {A : Type 0} (o : Option A) (x y : A) → o ≡ Some x → o ≡ Some y → x ≡ y
 some_one o x y h k = some_same x y (sym h ∙ k)
 
 rests_as_booked : (J : List Entry) (w : Simulated) (a : Axis) → IsAtRest J w a → AxisAsBooked J w a

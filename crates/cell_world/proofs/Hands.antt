@@ -34,7 +34,7 @@ use Rattle.cell_sim.specs.Simulated.{Simulated}
 use Rattle.cell_world.proofs.Plates.{handed, moved, told_left, Left}
 use Rattle.cell_world.specs.Going.{IsPlain}
 use Rattle.cell_world.specs.Starting.{after_entry, one_more, RobotStands}
-use Rattle.cell_world.specs.Handing.{Drops, Grips, HasBooked, MovesPlate}
+use Rattle.cell_world.specs.Handing.{Drops, Grips, HasBooked, IsHanded, MovesPlate}
 use Rattle.cell_world.proofs.Steps.{unless, unlooked}
 
 -- what the book's tests say of a grip and of a drop
@@ -160,29 +160,57 @@ moved_rest J w e from to t b h =
       collisions = ap (λ (v : Simulated). v.collisions) h ∙ moved_counts from to w;
     }
 
+pub grip_hands : (l : BookLimits) (J : List Entry) (w : Simulated) (x : Arm) (k : ℕ) (s : Station)
+    → IsHanded l J w x s (Gripped x k s) → Handing J x s s (station_of_arm x) k
+grip_hands l J w x k s h =
+    let e = Gripped x k s in let g = good_when_legal l J h.legal in
+    let ok : allowed l J e ≡ true = ap (λ (o : Option Refusal). is_none o) h.allowed in
+    handing J x s s (station_of_arm x) k g
+    (neighbours (grips_at x s) (handing_tests (situation_in (after J)) x s s (station_of_arm x) k)
+    (good_passed l J e g ok).1.1)
+
+pub grip_moves : (l : BookLimits) (J : List Entry) (w : Simulated) (x : Arm) (k : ℕ) (s : Station)
+    → IsHanded l J w x s (Gripped x k s) → after_entry w (Gripped x k s) ≡ moved s (station_of_arm x) w
+grip_moves l J w x k s h =
+    let to = station_of_arm x in let n = grip_hands l J w x k s h in
+    let so = moved_so s to w (no_plate J w to (good_when_legal l J h.legal) h.arm n.free) in
+    on_grips w x (moved s to w) (gripped_so w x s (before_there J w x s s to k h.stands n) ∙ so)
+    (moved_plain s to w h.plain).unwatched
+
 pub grips : Grips
 grips l J w x k s h =
     let e = Gripped x k s in let to = station_of_arm x in
     let g = good_when_legal l J h.legal in
     let ok : allowed l J e ≡ true = ap (λ (o : Option Refusal). is_none o) h.allowed in
-    let n = handing J x s s to k g
-    (neighbours (grips_at x s) (handing_tests (situation_in (after J)) x s s to k) (good_passed l J e g ok).1.1) in
-    let so = moved_so s to w (no_plate J w to g h.arm n.free) in
+    let n = grip_hands l J w x k s h in
     moved_rest J w e s to h.plain
     (λ t. handed J w e k s to t g (good_step l J e g ok) h.plain refl n.there n.free h.there)
-    (on_grips w x (moved s to w) (gripped_so w x s (before_there J w x s s to k h.stands n) ∙ so)
-    (moved_plain s to w h.plain).unwatched)
+    (grip_moves l J w x k s h)
+
+pub drop_hands : (l : BookLimits) (J : List Entry) (w : Simulated) (x : Arm) (k : ℕ) (s : Station)
+    → IsHanded l J w x s (Dropped x k s) → Handing J x s (station_of_arm x) s k
+drop_hands l J w x k s h =
+    let e = Dropped x k s in let g = good_when_legal l J h.legal in
+    let ok : allowed l J e ≡ true = ap (λ (o : Option Refusal). is_none o) h.allowed in
+    handing J x s (station_of_arm x) s k g
+    (neighbours (drops_at x s) (handing_tests (situation_in (after J)) x s (station_of_arm x) s k)
+    (good_passed l J e g ok).1.1)
+
+pub drop_moves : (l : BookLimits) (J : List Entry) (w : Simulated) (x : Arm) (k : ℕ) (s : Station)
+    → IsHanded l J w x s (Dropped x k s) → after_entry w (Dropped x k s) ≡ moved (station_of_arm x) s w
+drop_moves l J w x k s h =
+    let from = station_of_arm x in let n = drop_hands l J w x k s h in
+    let no = no_plate J w s (good_when_legal l J h.legal) h.there n.free in
+    off_drops w x (moved from s w)
+    (laid_so w x s (before_there J w x s from s k h.stands n) no ∙ moved_so from s w no)
+    (moved_plain from s w h.plain).unwatched
 
 pub drops : Drops
 drops l J w x k s h =
     let e = Dropped x k s in let from = station_of_arm x in
     let g = good_when_legal l J h.legal in
     let ok : allowed l J e ≡ true = ap (λ (o : Option Refusal). is_none o) h.allowed in
-    let n = handing J x s from s k g
-    (neighbours (drops_at x s) (handing_tests (situation_in (after J)) x s from s k) (good_passed l J e g ok).1.1) in
-    let no = no_plate J w s g h.there n.free in
+    let n = drop_hands l J w x k s h in
     moved_rest J w e from s h.plain
     (λ t. handed J w e k from s t g (good_step l J e g ok) h.plain refl n.there n.free h.arm)
-    (off_drops w x (moved from s w)
-    (laid_so w x s (before_there J w x s from s k h.stands n) no ∙ moved_so from s w no)
-    (moved_plain from s w h.plain).unwatched)
+    (drop_moves l J w x k s h)

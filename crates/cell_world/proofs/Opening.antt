@@ -30,16 +30,16 @@ home_rests _ n = record { pose = refl; motion = tt }
 home_axis : (a : Axis) (n : ℕ) → IsAtRest [] (opening_with n) a
 home_axis a n = record { booked = refl; own_pose = home_pose a; rests = home_rests a n }
 
-no_plate : (t : Station) (n : ℕ) → HasBooked [] (opening_with n) t
+pub no_plate : (t : Station) (n : ℕ) → HasBooked [] (opening_with n) t
 unfolding plate_of
 no_plate station.FeedIn n = refl
 no_plate _ n = refl
 
-none_noted : rest [] ≡ Pending
+pub none_noted : rest [] ≡ Pending
 unfolding rest
 none_noted = refl
 
-machine_opening : (p : Plan) (m : Machine) (n : ℕ) → IsAsBooked [] p m (first_mind [] m) (opening_with n)
+pub machine_opening : (p : Plan) (m : Machine) (n : ℕ) → IsAsBooked [] p m (first_mind [] m) (opening_with n)
 machine_opening p m n =
     record {
       healthy = refl;

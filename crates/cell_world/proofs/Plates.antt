@@ -80,13 +80,13 @@ unfolding moved
 moved_from from to w n h =
     ap number_of (here_before to from (plate_here w from) (with_plate from None w) h ∙ here_now from None w n)
 
-moved_none : (from to t : Station) (w : Simulated) → station_number t ≢ station_number to
+pub moved_none : (from to t : Station) (w : Simulated) → station_number t ≢ station_number to
     → station_number t ≢ station_number from → plate_at (moved from to w) t ≡ plate_at w t
 unfolding moved
 moved_none from to t w h k =
     ap number_of (here_before to t (plate_here w from) (with_plate from None w) h ∙ here_before from t None w k)
 
-put_to : (k : ℕ) (to : Station) (f : Station → Option ℕ) → plate_put k to f to ≡ Some k
+pub put_to : (k : ℕ) (to : Station) (f : Station → Option ℕ) → plate_put k to f to ≡ Some k
 put_to k to f = let e = same_number (station_number to) (station_number to) refl in rw e refl
 
 put_from : (k : ℕ) (to t : Station) (f : Station → Option ℕ) → station_number t ≢ station_number to → f t ≡ Some k
@@ -94,7 +94,7 @@ put_from : (k : ℕ) (to t : Station) (f : Station → Option ℕ) → station_n
 put_from k to t f h e =
     let a = other_station to t h in let b = same_number k k refl in rw (a, e, b) refl
 
-put_none : (k : ℕ) (to t : Station) (f : Station → Option ℕ) → station_number t ≢ station_number to
+pub put_none : (k : ℕ) (to t : Station) (f : Station → Option ℕ) → station_number t ≢ station_number to
     → is_plate k (f t) ≡ false → plate_put k to f t ≡ f t
 put_none k to t f h e = let a = other_station to t h in rw (a, e) refl
 
@@ -105,7 +105,7 @@ Left J s = (after J).plate s
 pub told_left : (J : List Entry) (s : Station) → Good J → plate_of J s ≡ Left J s
 told_left J s g = ap (λ (c : Situation). c.plate s) (good_cell J g)
 
-some_none : {A : Type 0} (o : Option A) (x : A) → o ≡ Some x → o ≡ None → ⊥
+pub some_none : {A : Type 0} (o : Option A) (x : A) → o ≡ Some x → o ≡ None → ⊥
 some_none None x h k = cc h
 some_none (Some y) x h k = cc k
 
@@ -127,7 +127,7 @@ place_same x y e = ap place_there e
 at_one : (J : List Entry) (k : ℕ) (s t : Station) → Good J → Left J s ≡ Some k → Left J t ≡ Some k → s ≡ t
 at_one J k s t g h i = place_same s t (sym (g.safe.plates.there s k h) ∙ g.safe.plates.there t k i)
 
-not_elsewhere : (J : List Entry) (k : ℕ) (s t : Station) → Good J → Left J s ≡ Some k
+pub not_elsewhere : (J : List Entry) (k : ℕ) (s t : Station) → Good J → Left J s ≡ Some k
     → station_number t ≢ station_number s → is_plate k (Left J t) ≡ false
 not_elsewhere J k s t g h d =
     not_true (is_plate k (Left J t)) (λ y. d (ap station_number (at_one J k t s g

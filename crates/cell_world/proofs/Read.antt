@@ -118,7 +118,7 @@ taken_leaves a w t =
     })
     (leaves_all a w t)
 
-hands_leave : (n : Machine) (a : Axis) (w : Simulated) → IsPlain w → Leaves a w (by_the_hands w n)
+pub hands_leave : (n : Machine) (a : Axis) (w : Simulated) → IsPlain w → Leaves a w (by_the_hands w n)
 hands_leave machine.Feed a w t = feed_leaves a w t
 hands_leave machine.Deposit a w t = taken_leaves a w t
 hands_leave n a w t = leaves_all a w t

@@ -130,7 +130,7 @@ says_no_going (Started b to) a m n h k d =
 says_no_going e a m n h k d = ap stilled (says_no_rest e a m n h k d)
 
 -- nor does its command do anything with them
-lit_leaves : (b : Belt) (c : Colour) (a : Axis) (w : Simulated) → IsPlain w → Leaves a w (lit b c w)
+pub lit_leaves : (b : Belt) (c : Colour) (a : Axis) (w : Simulated) → IsPlain w → Leaves a w (lit b c w)
 unfolding feed_lit
 lit_leaves belt.Feed c a w t =
     record {

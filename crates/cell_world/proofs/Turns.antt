@@ -56,8 +56,6 @@ use Rattle.cell_turns.specs.Signs.{shows_sign}
 use Rattle.cell_turns.specs.Turns.{IsDecided, IsProposed, IsRuled, begins_anew, ends_motion, mind_after}
 use Rattle.cell_turns.specs.Visits.{is_unvisited}
 use Rattle.cell_sim.specs.declared.axis.AxisInWorld.{AxisInWorld}
-use Rattle.cell_sim.specs.declared.motion.Path.{Path}
-use Rattle.cell_sim.specs.Commands.{path_of, set_out, told}
 use Rattle.cell_sim.specs.Parts.{axis_at, plate_at}
 use Rattle.cell_sim.specs.Readings.{after_reading, shown}
 use Rattle.cell_sim.specs.Simulated.{Simulated}
@@ -67,10 +65,12 @@ use Rattle.cell_world.specs.Handing.{HasBooked, IsHanded, MovesPlate}
 use Rattle.cell_world.specs.Starting.{BringsTo, MachineRests, RobotStands, after_entry, one_more}
 use Rattle.cell_world.specs.Tie.{IsTied, MachineCame, WentOn}
 use Rattle.cell_world.specs.Tied.{motion_by}
-use Rattle.cell_world.specs.Turning.{IsAsBooked, TurnBegins, TurnKeeps, TurnLeaves, after_turn, is_within}
+use Rattle.cell_world.specs.Turning.{AsBooked, TurnBegins, TurnKeeps, TurnLeaves, after_turn, is_within}
 use Rattle.cell_world.proofs.Any.{moves_as}
 use Rattle.cell_world.proofs.Begins.{from_rest, some_not}
 use Rattle.cell_world.proofs.Clear.{starts_clear}
+use Rattle.cell_world.proofs.Ends.{SparesEnds, dropped_spares, gripped_spares, read_spares_ends, spares_same}
+use Rattle.cell_world.proofs.Ends.{spares_then, started_part, started_spares}
 use Rattle.cell_world.proofs.Entries.{at_before, going_before}
 use Rattle.cell_world.proofs.Hands.{drops, drops_there, grips, grips_there}
 use Rattle.cell_world.proofs.Machines.{machine_ends, machine_goes, machine_starts, no_belt, tied_stands}
@@ -79,7 +79,7 @@ use Rattle.cell_world.proofs.Read.{reading_spares}
 use Rattle.cell_world.proofs.RestPending.{agrees_pending}
 use Rattle.cell_world.proofs.Shows.{leaves_collisions, leaves_plates, reading_agrees}
 use Rattle.cell_world.proofs.Spared.{some_same, spared_stays}
-use Rattle.cell_world.proofs.Starts.{brings_same, on_does, ready, ready_part}
+use Rattle.cell_world.proofs.Starts.{brings_same}
 
 -- WHAT IS RULED
 
@@ -89,13 +89,18 @@ by_last : {a b c d v q e g : Option Ruling} → a ≡ None → b ≡ None → c 
     → first_ruling (a ∷ b ∷ c ∷ d ∷ v ∷ q ∷ e ∷ g ∷ Some Proposes ∷ []) ≡ Proposes
 by_last ha hb hc hd hv hq he hg = rw (ha, hb, hc, hd, hv, hq, he, hg) refl
 
+by_sign : {a b c d v q e g : Option Ruling} (k : Ruling) → a ≡ None → b ≡ None → c ≡ None → d ≡ None → v ≡ None
+    → q ≡ None → e ≡ None → g ≡ Some k
+    → first_ruling (a ∷ b ∷ c ∷ d ∷ v ∷ q ∷ e ∷ g ∷ Some Proposes ∷ []) ≡ k
+by_sign k ha hb hc hd hv hq he hg = rw (ha, hb, hc, hd, hv, hq, he, hg) refl
+
 by_end : {a b c d v q e : Option Ruling} (g : Option Ruling) (k : Ruling) → a ≡ None → b ≡ None
     → c ≡ None → d ≡ None → v ≡ None
     → q ≡ None → e ≡ Some k
     → first_ruling (a ∷ b ∷ c ∷ d ∷ v ∷ q ∷ e ∷ g ∷ Some Proposes ∷ []) ≡ k
 by_end g k ha hb hc hd hv hq he = rw (ha, hb, hc, hd, hv, hq, he) refl
 
-when_no : {A : Type 0} (b : Bool) (x : A) → b ≡ false → when b x ≡ None
+pub when_no : {A : Type 0} (b : Bool) (x : A) → b ≡ false → when b x ≡ None
 when_no b x h = rw h refl
 
 end_pending : (J : List Entry) (o : Option Motion) (v : Verdict) → v ≡ Pending → end_found J o v ≡ None
@@ -110,7 +115,7 @@ no_fault : (m : Machine) (v : Verdict) → (v ≡ Pending) ⊎ (v ≡ HasArrived
 no_fault m v (inl h) = rw h refl
 no_fault m v (inr h) = rw h refl
 
-and_false : (b : Bool) → (b && false) ≡ false
+pub and_false : (b : Bool) → (b && false) ≡ false
 and_false true = refl
 and_false false = refl
 
@@ -119,19 +124,22 @@ no_sign J machine.Feed r b = cc b
 no_sign J machine.Deposit r b = cc b
 no_sign J m r b = refl
 
+unsigned : (J : List Entry) (m : Machine) (s : Mind) (r : Option Reading) → has_belt m ≡ false
+    → (s.memory.sign && shows_sign J m r) ≡ false
+unsigned J m s r b = ap (λ (x : Bool). s.memory.sign && x) (no_sign J m r b) ∙ and_false s.memory.sign
+
 -- what a turn found of the machine
-abbrev Verdicts : List Entry → Plan → Machine → Mind → Option Reading → Verdict
+abbrev pub Verdicts : List Entry → Plan → Machine → Mind → Option Reading → Verdict
 Verdicts J p m s r = axis_verdict (axis_noted J m p s.axis r)
 
-abbrev Agreed : List Entry → Machine → Mind → Option Reading → Type 0
+abbrev pub Agreed : List Entry → Machine → Mind → Option Reading → Type 0
 Agreed J m s r = rest (rest_noted J m s.memory s.rest r) ≡ Pending
 
-ruled_proposes : (J : List Entry) (p : Plan) (m : Machine) (s : Mind) (w : Simulated) (r : Option Reading)
-    → has_belt m ≡ false → IsAsBooked J p m s w → Verdicts J p m s r ≡ Pending → Agreed J m s r
+pub ruled_proposes : {T : Type 0} (J : List Entry) (p : Plan) (m : Machine) (s : Mind) (r : Option Reading)
+    → AsBooked J m s T → (s.memory.sign && shows_sign J m r) ≡ false → Verdicts J p m s r ≡ Pending → Agreed J m s r
     → ruling J m p s r ≡ Proposes
 unfolding ruling
-ruled_proposes J p m s w r b t v q =
-    let n = ap (λ (x : Bool). s.memory.sign && x) (no_sign J m r b) ∙ and_false s.memory.sign in
+ruled_proposes J p m s r t n v q =
     by_last (when_no (is_failed J m) Nothing t.healthy)
     (when_no s.memory.command_failed (declares m cause.CommandFault) t.was_obeyed)
     (when_no (is_asked J m) (declares m cause.OperatorStop) t.unasked)
@@ -140,11 +148,24 @@ ruled_proposes J p m s w r b t v q =
     (end_pending J (motion_of_machine J p m) (Verdicts J p m s r) v)
     (when_no (s.memory.sign && shows_sign J m r) (signed J m) n)
 
-ruled_end : (J : List Entry) (p : Plan) (m : Machine) (s : Mind) (w : Simulated) (r : Option Reading) (n : Motion)
-    → IsAsBooked J p m s w → motion_of_machine J p m ≡ Some n → Verdicts J p m s r ≡ HasArrived → Agreed J m s r
+pub ruled_signed : {T : Type 0} (J : List Entry) (p : Plan) (m : Machine) (s : Mind) (r : Option Reading)
+    → AsBooked J m s T → (s.memory.sign && shows_sign J m r) ≡ true → Verdicts J p m s r ≡ Pending → Agreed J m s r
+    → ruling J m p s r ≡ signed J m
+unfolding ruling
+ruled_signed J p m s r t n v q =
+    by_sign (signed J m) (when_no (is_failed J m) Nothing t.healthy)
+    (when_no s.memory.command_failed (declares m cause.CommandFault) t.was_obeyed)
+    (when_no (is_asked J m) (declares m cause.OperatorStop) t.unasked)
+    (when_no s.memory.failed Proposes t.was_healthy) (no_fault m (Verdicts J p m s r) (inl v))
+    (no_fault m (rest (rest_noted J m s.memory s.rest r)) (inl q))
+    (end_pending J (motion_of_machine J p m) (Verdicts J p m s r) v)
+    (ap (λ (x : Bool). when x (signed J m)) n)
+
+pub ruled_end : {T : Type 0} (J : List Entry) (p : Plan) (m : Machine) (s : Mind) (r : Option Reading) (n : Motion)
+    → AsBooked J m s T → motion_of_machine J p m ≡ Some n → Verdicts J p m s r ≡ HasArrived → Agreed J m s r
     → ruling J m p s r ≡ books (ending J n.axis n.to)
 unfolding ruling
-ruled_end J p m s w r n t h v q =
+ruled_end J p m s r n t h v q =
     by_end (when (s.memory.sign && shows_sign J m r) (signed J m)) (books (ending J n.axis n.to))
     (when_no (is_failed J m) Nothing t.healthy)
     (when_no s.memory.command_failed (declares m cause.CommandFault) t.was_obeyed)
@@ -188,7 +209,7 @@ kind_of l c plan m e b h = cc h
 
 -- WHAT A TURN LEAVES
 
-abbrev Noted : List Entry → Plan → Machine → Mind → Simulated → Option Following
+abbrev pub Noted : List Entry → Plan → Machine → Mind → Simulated → Option Following
 Noted J p m s w = axis_noted J m p s.axis (shown w m)
 
 within_of : (t : Station) → has_belt (machine_of_station t) ≡ false → is_within t ≡ true
@@ -203,12 +224,13 @@ agreed_then l J p m s w b t =
     agrees_pending s.rest _ c.agreed (reading_agrees J p m s.axis w (is_unvisited J m s.memory) b c.tied
     (λ u e. t.plates u (within_of u (ap has_belt e ∙ b))))
 
-as_booked_then : (J K : List Entry) (p : Plan) (m : Machine) (s : Mind) (w v : Simulated) (e : Option Entry)
-    → IsAsBooked J p m s w → Agreed J m s (shown w m) → K ≡ J ++ option_to_list e → is_failed K m ≡ false
-    → is_asked K m ≡ false → IsTied K p m (if ends_motion e then None else Noted J p m s w) v
-    → IsAsBooked K p m (mind_after J m p s (shown w m) e) v
+pub as_booked_then : {T : Type 0} (J K : List Entry) (p : Plan) (m : Machine) (s : Mind) (r : Option Reading)
+    (e : Option Entry) (Tie : Option Following → Type 0) → AsBooked J m s T → Agreed J m s r
+    → K ≡ J ++ option_to_list e → is_failed K m ≡ false → is_asked K m ≡ false
+    → Tie (if ends_motion e then None else axis_noted J m p s.axis r)
+    → AsBooked K m (mind_after J m p s r e) (Tie (mind_after J m p s r e).axis)
 unfolding mind_after
-as_booked_then J K p m s w v e t q k h a i =
+as_booked_then J K p m s r e Tie t q k h a i =
     let n : begins_anew J m s.memory ≡ false =
     ap (λ (x : Bool). x && (not (is_failed J m) && (not s.memory.command_failed && not (is_asked J m))))
     t.was_healthy in
@@ -217,28 +239,42 @@ as_booked_then J K p m s w v e t q k h a i =
       unasked = a;
       was_healthy = ap (λ (L : List Entry). is_failed L m) (sym k) ∙ h;
       was_obeyed = ap (λ (x : Bool). is_none e && x) t.was_obeyed ∙ and_false (is_none e);
-      tied = subst (λ (x : Bool). IsTied K p m (if x || ends_motion e then None else Noted J p m s w) v) (sym n) i;
-      agreed = ap (λ (x : Bool). rest (if x then [] else rest_noted J m s.memory s.rest (shown w m))) n ∙ q;
+      tied = subst (λ (x : Bool). Tie (if x || ends_motion e then None else axis_noted J m p s.axis r)) (sym n) i;
+      agreed = ap (λ (x : Bool). rest (if x then [] else rest_noted J m s.memory s.rest r)) n ∙ q;
     }
 
 none_leaves : (l : BookLimits) (J : List Entry) (p : Plan) (m : Machine) (s : Mind) (w : Simulated)
     → has_belt m ≡ false → TurnBegins l J p m s w → Agreed J m s (shown w m)
     → IsTied J p m (Noted J p m s w) (after_reading w m)
     → TurnLeaves J (J ++ []) p m (mind_after J m p s (shown w m) None) w (after_reading w m)
+    × SparesEnds J w (after_reading w m)
 none_leaves l J p m s w b t q i =
-    let c = t.as_booked in
-    subst (λ (K : List Entry). TurnLeaves J K p m (mind_after J m p s (shown w m) None) w (after_reading w m))
-    (sym (append-nil J))
-    (record {
-      as_booked = as_booked_then J J p m s w (after_reading w m) None c q (sym (append-nil J)) c.healthy c.unasked i;
-      plates = λ u h. leaves_plates J p m s.axis w b c.tied u ∙ h;
-      collisions = leaves_collisions J p m s.axis w b c.tied;
-    })
+    let c = t.as_booked in (
+      subst (λ (K : List Entry). TurnLeaves J K p m (mind_after J m p s (shown w m) None) w (after_reading w m))
+          (sym (append-nil J))
+          (record {
+            as_booked = as_booked_then J J p m s (shown w m) None (λ f. IsTied J p m f (after_reading w m)) c q
+                (sym (append-nil J)) c.healthy c.unasked i;
+            plates = λ u h. leaves_plates J p m s.axis w b c.tied u ∙ h;
+            collisions = leaves_collisions J p m s.axis w b c.tied;
+          }),
+      read_spares_ends J p m s.axis w b c.tied,
+    )
 
 -- an entry that declares nothing and stops nothing
 pub record IsCalm (m : Machine) (x : Entry) : Type 0 where
   pub unfailed : fails m x ≡ None
   pub unasked : asks m x ≡ None
+
+pub still_healthy : {T : Type 0} (J : List Entry) (m : Machine) (s : Mind) (x : Entry) → AsBooked J m s T → IsCalm m x
+    → is_failed (one_more J x) m ≡ false
+still_healthy J m s x t calm =
+    view_snoc (fails m) false J x ∙ (ap (λ (o : Option Bool). unwrap_or o (is_failed J m)) calm.unfailed ∙ t.healthy)
+
+pub still_unasked : {T : Type 0} (J : List Entry) (m : Machine) (s : Mind) (x : Entry) → AsBooked J m s T → IsCalm m x
+    → is_asked (one_more J x) m ≡ false
+still_unasked J m s x t calm =
+    view_snoc (asks m) false J x ∙ (ap (λ (o : Option Bool). unwrap_or o (is_asked J m)) calm.unasked ∙ t.unasked)
 
 some_leaves : (l : BookLimits) (J : List Entry) (p : Plan) (m : Machine) (s : Mind) (w : Simulated) (x : Entry)
     → has_belt m ≡ false → TurnBegins l J p m s w → Agreed J m s (shown w m) → IsCalm m x
@@ -247,21 +283,22 @@ some_leaves : (l : BookLimits) (J : List Entry) (p : Plan) (m : Machine) (s : Mi
     → (after_entry (after_reading w m) x).collisions ≡ (after_reading w m).collisions
     → IsTied (one_more J x) p m (if ends_motion (Some x) then None else Noted J p m s w)
     (after_entry (after_reading w m) x)
+    → SparesEnds J (after_reading w m) (after_entry (after_reading w m) x)
     → TurnLeaves J (one_more J x) p m (mind_after J m p s (shown w m) (Some x)) w (after_entry (after_reading w m) x)
-some_leaves l J p m s w x b t q calm plates n i =
-    let c = t.as_booked in let v = after_entry (after_reading w m) x in
-    let h = view_snoc (fails m) false J x ∙ (ap (λ (o : Option Bool). unwrap_or o (is_failed J m)) calm.unfailed
-    ∙ c.healthy) in
-    let a = view_snoc (asks m) false J x ∙ (ap (λ (o : Option Bool). unwrap_or o (is_asked J m)) calm.unasked
-    ∙ c.unasked) in
-    record {
-      as_booked = as_booked_then J (one_more J x) p m s w v (Some x) c q refl h a i;
-      plates = λ u k. plates u (leaves_plates J p m s.axis w b c.tied u ∙ k);
-      collisions = n ∙ leaves_collisions J p m s.axis w b c.tied;
-    }
+    × SparesEnds J w (after_entry (after_reading w m) x)
+some_leaves l J p m s w x b t q calm plates n i spares =
+    let c = t.as_booked in let v = after_entry (after_reading w m) x in (
+      record {
+        as_booked = as_booked_then J (one_more J x) p m s (shown w m) (Some x) (λ f. IsTied (one_more J x) p m f v) c q
+            refl (still_healthy J m s x c calm) (still_unasked J m s x c calm) i;
+        plates = λ u k. plates u (leaves_plates J p m s.axis w b c.tied u ∙ k);
+        collisions = n ∙ leaves_collisions J p m s.axis w b c.tied;
+      },
+      spares_then J w (after_reading w m) v (read_spares_ends J p m s.axis w b c.tied) spares,
+    )
 
 -- where an entry moves no plate, and its command none
-plates_as : (J : List Entry) (x : Entry) (w v : Simulated) (u : Station) → Good J → Good (one_more J x)
+pub plates_as : (J : List Entry) (x : Entry) (w v : Simulated) (u : Station) → Good J → Good (one_more J x)
     → (step x (after J)).plate ≡ (after J).plate → plate_at v u ≡ plate_at w u → HasBooked J w u
     → HasBooked (one_more J x) v u
 plates_as J x w v u g k st h i =
@@ -280,10 +317,10 @@ rests_then J p m f w (inr t) h =
     absurd (some_not (going_of J t.mover) t.to t.goes.booked (h t.mover t.of))
 
 -- the robot stands after the reading as booked
-not_robot : (m : Machine) → same_machine m machine.Robot ≡ false → m ≢ machine.Robot
+pub not_robot : (m : Machine) → same_machine m machine.Robot ≡ false → m ≢ machine.Robot
 not_robot m h e = let c : true ≡ false = ap (λ (x : Machine). same_machine x machine.Robot) (sym e) ∙ h in cc c
 
-stands_by : (J : List Entry) (w : Simulated) (m : Machine) → IsPlain w → m ≢ machine.Robot → RobotStands J w
+pub stands_by : (J : List Entry) (w : Simulated) (m : Machine) → IsPlain w → m ≢ machine.Robot → RobotStands J w
     → RobotStands J (after_reading w m)
 stands_by J w m t d r a e =
     ap (λ (x : AxisInWorld). x.pose) ((reading_spares J w machine.Robot m t d).axes a e) ∙ r a e
@@ -298,19 +335,9 @@ stands_then J p machine.Press2 f w t r i = stands_by J w machine.Press2 t (not_r
 stands_then J p machine.Deposit f w t r i = stands_by J w machine.Deposit t (not_robot machine.Deposit refl) r
 
 -- the command of a Started moves no plate
-out_plates : (a : Axis) (to : Pose) (o : Option Path) (w : Simulated) (u : Station)
-    → plate_at (set_out a to None o w) u ≡ plate_at w u
-unfolding set_out
-out_plates a to None w u = refl
-out_plates a to (Some x) w u = refl
-
-started_plates : (a : Axis) (to : Pose) (w : Simulated) (u : Station) → IsPlain w
+pub started_plates : (a : Axis) (to : Pose) (w : Simulated) (u : Station) → IsPlain w
     → plate_at (after_entry w (Started a to)) u ≡ plate_at w u
-unfolding told
-started_plates a to w u t =
-    ap (λ (v : Simulated). plate_at v u) (on_does a to w t)
-    ∙ (out_plates a to (path_of (ready a w) a to) (ready a w) u
-    ∙ ready_part (λ (v : Simulated). plate_at v u) a w refl)
+started_plates a to w u t = started_part (λ (v : Simulated). plate_at v u) a to w t (λ b x y. refl) (λ y. refl)
 
 -- what is told of a plate, and the machine, is in the world before the entry
 record AtEntry (l : BookLimits) (J : List Entry) (p : Plan) (m : Machine) (s : Mind) (w : Simulated) : Type 0 where
@@ -327,6 +354,7 @@ booked_then l J p m s w u t h =
 abbrev LeftBy : List Entry → Plan → Machine → Mind → Simulated → Entry → Type 0
 LeftBy J p m s w x =
     TurnLeaves J (one_more J x) p m (mind_after J m p s (shown w m) (Some x)) w (after_entry (after_reading w m) x)
+    × SparesEnds J w (after_entry (after_reading w m) x)
 
 started_leaves : (l : BookLimits) (J : List Entry) (p : Plan) (m : Machine) (s : Mind) (w : Simulated) (a : Axis)
     (to : Pose) → AtEntry l J p m s w → Good J → Good (one_more J (Started a to))
@@ -343,13 +371,14 @@ started_leaves l J p m s w a to t g k free e =
     (λ u h. plates_as J x v (after_entry v x) u g k refl (started_plates a to v u plain) h)
     (starts_clear J a to v plain stands (safe_state (one_more J x) k))
     (subst (λ (n : Machine). IsTied (one_more J x) p n f (after_entry v x)) e
-    (machine_starts J p a to f v nb t.begins.fair may.own_pose may.elsewhere rested))
+    (machine_starts J p a to f v nb t.begins.fair may.own_pose may.elsewhere rested)) (started_spares J a to v plain)
 
 -- an entry that speaks of no axis, and whose command moves none
 apart_leaves : (l : BookLimits) (J : List Entry) (p : Plan) (m : Machine) (s : Mind) (w : Simulated) (x : Entry)
     → AtEntry l J p m s w → IsCalm m x → ((a : Axis) → rests a x ≡ None) → ((a : Axis) → sends a x ≡ None)
-    → ends_motion (Some x) ≡ false → MovesPlate J (after_reading w m) x → LeftBy J p m s w x
-apart_leaves l J p m s w x t calm r q e n =
+    → ends_motion (Some x) ≡ false → MovesPlate J (after_reading w m) x
+    → SparesEnds J (after_reading w m) (after_entry (after_reading w m) x) → LeftBy J p m s w x
+apart_leaves l J p m s w x t calm r q e n spares =
     let v = after_reading w m in let f = Noted J p m s w in
     some_leaves l J p m s w x t.belt t.begins t.agreed calm n.plates n.collisions
     (subst (λ (y : Bool). IsTied (one_more J x) p m (if y then None else f) (after_entry v x)) (sym e)
@@ -359,7 +388,7 @@ apart_leaves l J p m s w x t calm r q e n =
       at = λ a i. at_before J x a (r a);
       going = λ a i. going_before J x a (q a);
       axes = λ a i. n.axes a;
-    }) t.tied))
+    }) t.tied)) spares
 
 -- a claim and a yield have no command
 moves_none : (J : List Entry) (x : Entry) (v : Simulated) → Good J → Good (one_more J x) → IsPlain v
@@ -410,19 +439,21 @@ kind_leaves l J p m s w (Started a to) t g k free h = started_leaves l J p m s w
 kind_leaves l J p m s w (Claimed n z) t g k free h =
     let v = after_reading w m in
     apart_leaves l J p m s w (Claimed n z) t (record { unfailed = refl; unasked = refl }) (λ a. refl) (λ a. refl) refl
-    (moves_none J (Claimed n z) v g k (tied_plain J p m (Noted J p m s w) v t.tied) refl refl)
+    (moves_none J (Claimed n z) v g k (tied_plain J p m (Noted J p m s w) v t.tied) refl refl) (spares_same J v v refl)
 kind_leaves l J p m s w (Yielded n z) t g k free h =
     let v = after_reading w m in
     apart_leaves l J p m s w (Yielded n z) t (record { unfailed = refl; unasked = refl }) (λ a. refl) (λ a. refl) refl
-    (moves_none J (Yielded n z) v g k (tied_plain J p m (Noted J p m s w) v t.tied) refl refl)
+    (moves_none J (Yielded n z) v g k (tied_plain J p m (Noted J p m s w) v t.tied) refl refl) (spares_same J v v refl)
 kind_leaves l J p m s w (Gripped x j u) t g k free h =
     let i = within_grips x u (grips_there l J x j u g free) in
+    let h = handed_ready l J p m s w x u (Gripped x j u) t free i in
     apart_leaves l J p m s w (Gripped x j u) t (record { unfailed = refl; unasked = refl }) (λ a. refl) (λ a. refl) refl
-    (grips l J (after_reading w m) x j u (handed_ready l J p m s w x u (Gripped x j u) t free i))
+    (grips l J (after_reading w m) x j u h) (gripped_spares l J (after_reading w m) x j u g h)
 kind_leaves l J p m s w (Dropped x j u) t g k free h =
     let i = within_drops x u (drops_there l J x j u g free) in
+    let h = handed_ready l J p m s w x u (Dropped x j u) t free i in
     apart_leaves l J p m s w (Dropped x j u) t (record { unfailed = refl; unasked = refl }) (λ a. refl) (λ a. refl) refl
-    (drops l J (after_reading w m) x j u (handed_ready l J p m s w x u (Dropped x j u) t free i))
+    (drops l J (after_reading w m) x j u h) (dropped_spares l J (after_reading w m) x j u g h)
 kind_leaves l J p m s w x t g k free h = absurd h
 
 -- THE END OF A MOTION
@@ -512,26 +543,27 @@ came_leaves l J p m s w b t q g c n k =
     (λ u h. plates_as J x v (after_entry v x) u g k n.plates (ap (λ (y : Simulated). plate_at y u) same) h)
     (ap (λ (y : Simulated). y.collisions) same)
     (subst (λ (y : Bool). IsTied (one_more J x) p m (if y then None else f) (after_entry v x)) (sym n.ends)
-    (machine_ends J p m f v x b c n.brings))
+    (machine_ends J p m f v x b c n.brings)) (spares_same J v (after_entry v x) same)
 
 -- A TURN
 
-useful_wants : (l : BookLimits) (J : List Entry) (plan : ℕ) (m : Machine) (x : Entry) → is_useful l J plan m x ≡ true
-    → wants l (situation_of J) plan m x ≡ true
+pub useful_wants : (l : BookLimits) (J : List Entry) (plan : ℕ) (m : Machine) (x : Entry)
+    → is_useful l J plan m x ≡ true → wants l (situation_of J) plan m x ≡ true
 unfolding is_useful_now
 useful_wants l J plan m x h =
     (and_both (wants l (situation_of J) plan m x) (is_bookable l (situation_of J) x) h).0
 
-good_then : (l : BookLimits) (J : List Entry) (x : Entry) → Good J → first_of l J x ≡ None → Good (one_more J x)
+pub good_then : (l : BookLimits) (J : List Entry) (x : Entry) → Good J → first_of l J x ≡ None → Good (one_more J x)
 good_then l J x g free =
     let ok : allowed l J x ≡ true = ap (λ (o : Option Refusal). is_none o) free in good_step l J x g ok
 
-abbrev Free : BookLimits → List Entry → Option Entry → Type 0
+abbrev pub Free : BookLimits → List Entry → Option Entry → Type 0
 Free l J e = IfSome e (λ x. first_of l J x ≡ None)
 
 abbrev Turned : List Entry → Plan → Machine → Mind → Simulated → Option Entry → Type 0
 Turned J p m s w e =
     TurnLeaves J (J ++ option_to_list e) p m (mind_after J m p s (shown w m) e) w (after_turn w m e)
+    × SparesEnds J w (after_turn w m e)
 
 proposed_leaves : (l : BookLimits) (J : List Entry) (p : Plan) (m : Machine) (s : Mind) (w : Simulated)
     (e : Option Entry) → AtEntry l J p m s w → Good J → IsProposed l J m p.plates e → Free l J e → Turned J p m s w e
@@ -557,19 +589,24 @@ turn_by : (l : BookLimits) (J : List Entry) (p : Plan) (m : Machine) (s : Mind) 
     → Turned J p m s w e
 turn_by l J p m s w e b t q g (inl i) d free =
     proposed_leaves l J p m s w e (record { belt = b; begins = t; agreed = q; tied = i.1 }) g
-    (subst (λ (k : Ruling). IsRuled l J m p.plates k e) (ruled_proposes J p m s w (shown w m) b t.as_booked i.0 q) d)
-    free
+    (subst (λ (k : Ruling). IsRuled l J m p.plates k e)
+    (ruled_proposes J p m s (shown w m) t.as_booked (unsigned J m s (shown w m) b) i.0 q) d) free
 turn_by l J p m s w e b t q g (inr c) d free =
     let a = c.mover in let nb = no_belt a m c.of b in
     let ok = ap (λ (n : Machine). is_failed J n) c.of ∙ t.as_booked.healthy in
     let n = ending_of l J m a c.to nb g t.legal c.came.booked ok in
     let moves = subst (λ (x : Machine). motion_of_machine J p x ≡ Some (motion_by J p a c.to)) c.of
     (moves_as J p a c.to (after_reading w m) nb c.came.booked c.came.others) in
-    let rules = ruled_end J p m s w (shown w m) (motion_by J p a c.to) t.as_booked moves c.came.verdict q
+    let rules = ruled_end J p m s (shown w m) (motion_by J p a c.to) t.as_booked moves c.came.verdict q
     ∙ ap books n.so in
     ended_leaves l J p m s w e b t q g c n (subst (λ (k : Ruling). IsRuled l J m p.plates k e) rules d) free
 
-pub turn_keeps : TurnKeeps
-turn_keeps l J p m s w e b t d free =
+pub turn_does : (l : BookLimits) (J : List Entry) (p : Plan) (m : Machine) (s : Mind) (w : Simulated)
+    (e : Option Entry) → has_belt m ≡ false → TurnBegins l J p m s w → IsDecided l J m p s (shown w m) e → Free l J e
+    → Turned J p m s w e
+turn_does l J p m s w e b t d free =
     turn_by l J p m s w e b t (agreed_then l J p m s w b t) (good_when_legal l J t.legal)
     (machine_goes J p m s.axis w b t.as_booked.tied) d free
+
+pub turn_keeps : TurnKeeps
+turn_keeps l J p m s w e b t d free = (turn_does l J p m s w e b t d free).0

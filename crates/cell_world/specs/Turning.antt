@@ -19,15 +19,18 @@ use Rattle.cell_world.specs.Handing.{HasBooked}
 use Rattle.cell_world.specs.Starting.{RobotStands, after_entry}
 use Rattle.cell_world.specs.Tie.{IsFairPlan, IsTied}
 
--- a machine with switches is as booked: it is healthy, as it was at its last turn; book, world and axis watch are tied;
--- and the rest watch found nothing
-pub record IsAsBooked (J : List Entry) (p : Plan) (m : Machine) (s : Mind) (w : Simulated) : Type 0 where
+-- a machine is as booked: it is healthy, as it was at its last turn; book, world and axis watch are tied; and the rest
+-- watch found nothing
+pub record AsBooked (J : List Entry) (m : Machine) (s : Mind) (Tie : Type 0) : Type 0 where
   pub healthy : is_failed J m ≡ false
   pub unasked : is_asked J m ≡ false
   pub was_healthy : s.memory.failed ≡ false
   pub was_obeyed : s.memory.command_failed ≡ false
-  pub tied : IsTied J p m s.axis w
+  pub tied : Tie
   pub agreed : rest s.rest ≡ Pending
+
+abbrev pub IsAsBooked : List Entry → Plan → Machine → Mind → Simulated → Type 0
+IsAsBooked J p m s w = AsBooked J m s (IsTied J p m s.axis w)
 
 -- all stations but those where the operator lays plates in and takes them
 abbrev pub is_within : Station → Bool
