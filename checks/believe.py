@@ -82,7 +82,9 @@ class Reach:
     def follow_facts(self, item, facts):
         """What clauses, ghost fields or ghost members of an item name."""
         words = {word for _, _, said in facts for word in contracts.used_words(said)}
-        self.follow_imports(words, item.scope)
+        modules = [one for one in item.scope if not one[2] and one[1] in contracts.specs().modules]
+        self.follow_modules(modules, " ".join(said for _, _, said in facts))
+        self.follow_imports(words, [one for one in item.scope if one not in modules])
         for word in sorted(words):
             found = contracts.type_in(item, word)
             if found:
@@ -98,10 +100,14 @@ class Reach:
             if contracts.is_named(name, words):
                 self.add_definition(other)
         modules = [one for one in imports if not one[2] and one[1] in contracts.specs().modules]
-        for name, source, _ in modules:
-            for word in re.findall(rf"\b{name}\.(\w+)", it.text):
-                self.follow_path(source, word)
+        self.follow_modules(modules, it.text)
         self.follow_imports(words, [one for one in imports if one[0] not in own and one not in modules])
+
+    def follow_modules(self, modules, text):
+        """What a text names of modules that are imported by a name of their own."""
+        for name, source, _ in modules:
+            for word in re.findall(rf"\b{name}\.(\w+)", text):
+                self.follow_path(source, word)
 
     def follow_imports(self, words, imports):
         for name, path, old in imports:

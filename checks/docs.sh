@@ -169,8 +169,9 @@ look_at_kit() {
     done
 }
 
-# The table of how much one has to believe is made of the sources.
+# The table of how much one has to believe is made of the sources, and what is proved of each crate can be listed.
 look_at_proved() {
+    checks/proved.py > "$work/listed" 2>&1 || { wrong "checks/proved.py doesn't list what is proved:"; tail -n 1 "$work/listed"; }
     checks/proved.py check > "$work/proved" || { wrong "the table of docs/PROVED.md isn't what checks/proved.py makes:"; cat "$work/proved"; }
 }
 
