@@ -60,6 +60,10 @@ round_plain w t =
           ∙ t.short;
     }
 
+pub round_collisions : (w : Simulated) → (after_round w).collisions ≡ w.collisions
+round_collisions w =
+    round_same (λ (v : Simulated). v.collisions) (record { moving = λ n v. refl; round = λ n v. refl }) w
+
 round_here : (w : Simulated) (t : Station) → plate_here (after_round w) t ≡ plate_here w t
 round_here w t =
     round_same (λ (v : Simulated). plate_here v t) (record { moving = λ n v. refl; round = λ n v. refl }) w
