@@ -43,6 +43,13 @@ const middle = (id) => ask(`(() => { const part = document.querySelector(${JSON.
   const box = part.getBoundingClientRect(); return { x: box.left + box.width / 2, y: box.top + box.height / 2 }; })()`);
 const press = async (id) => { const { x, y } = await middle(id); await click(x, y); };
 const entry = () => ask("Number(document.getElementById('number').value)");
+// The address tells the entry once the page rests there.
+const rest = () => sleep(150);
+const goToAddress = async (i) => {
+  await rest();
+  await ask(`location.hash = "#entry=${i}"`);
+  await ask("new Promise((done) => setTimeout(done, 0))");
+};
 const picture = async (name) => {
   await ask("window.scrollTo(0, 0)");
   const { data } = await tell("Page.captureScreenshot", { format: "png" });
@@ -121,6 +128,7 @@ const wanted = (i) => {
   };
 };
 const compare = async (i) => {
+  await rest();
   const found = await drawn();
   Object.entries(wanted(i)).forEach(([part, value]) => check(`entry ${i}, ${part}`, found[part], value));
 };
@@ -129,8 +137,7 @@ const checkEntries = async () => {
   const chosen = new Set([begin, Math.min(last, begin + 1), last, ...Array.from({ length: 60 }, (_, k) => entryAt(k / 60))]);
   await media({ "prefers-reduced-motion": "reduce" });
   for (const i of chosen) {
-    await ask(`location.hash = "#entry=${i}"`);
-    await ask("new Promise((done) => setTimeout(done, 0))");
+    await goToAddress(i);
     await compare(i);
   }
   await media({});
@@ -221,7 +228,7 @@ const checkControls = async () => {
   check("play by the space key", paused > begin + 4 || paused === last, true);
   check("a pause", await entry(), paused);
   await compare(paused);
-  await ask(`location.hash = "#entry=${last - 2}"`);
+  await goToAddress(last - 2);
   await press("#play");
   await sleep(500);
   check("play stops at the end", [await entry(), await ask("document.getElementById('play').textContent")], [last, "Play"]);
@@ -339,8 +346,7 @@ const ofZone = (zone) => rows.map((_, i) => i).filter((i) => i > begin && i <= g
 const ofMachine = (m) => rows.map((_, i) => i).filter((i) => i > begin && i <= good
   && (rows[i][11] === m || rows[i][5][m] !== rows[i - 1][5][m] || rows[i][6][m] !== rows[i - 1][6][m]));
 const walk = async (what, letter, list) => {
-  await ask("location.hash = '#entry=0'");
-  await sleep(20);
+  await goToAddress(0);
   for (const i of list.slice(0, 12)) {
     await key(letter, letter.toUpperCase().charCodeAt(0));
     check(`${what}: ${letter}`, await entry(), i);

@@ -64,14 +64,19 @@ h2 ~ h2, h2 ~ h2 + iframe { border-left: 2px solid var(--line); }
   const farthest = () => Math.max(...[...places.values()].map(({ entry }) => entry));
   const starts = () => Math.min(...[...places.values()].map(({ first }) => first));
   const ends = () => Math.max(...[...places.values()].map(({ last }) => last));
-  const keep = (entry) => history.replaceState(null, "", "#entry=" + entry);
+  // The address tells the entry once both rest there.
+  let resting;
+  const keep = (entry) => {
+    clearTimeout(resting);
+    resting = setTimeout(() => history.replaceState(null, "", "#entry=" + entry), 100);
+  };
   const go = (entry) => {
     if (places.size < 2) return;
     const bounded = Math.min(ends(), Math.max(starts(), entry));
     sendAll(bounded);
     keep(bounded);
   };
-  const entryInAddress = () => Number(/^#entry=(\d+)$/.exec(location.hash)?.[1] ?? 0);
+  const entryIn = (address) => Number(/#entry=(\d+)$/.exec(address)?.[1] ?? 0);
 
   // The rows of both, where each has some, and the entries in which they differ: another record, or none.
   let rows = [];
@@ -141,7 +146,7 @@ h2 ~ h2, h2 ~ h2 + iframe { border-left: 2px solid var(--line); }
     places.set(source, data);
     if (isNew && places.size === 2) {
       readRows();
-      go(entryInAddress());
+      go(entryIn(location.hash));
     }
     compare();
     if (isNew || data.isAsked) return;
@@ -161,7 +166,7 @@ h2 ~ h2, h2 ~ h2 + iframe { border-left: 2px solid var(--line); }
     event.preventDefault();
     moves[event.key]();
   });
-  window.addEventListener("hashchange", () => stepTo(entryInAddress()));
+  window.addEventListener("hashchange", ({ newURL }) => stepTo(entryIn(newURL)));
   window.addEventListener("click", ({ target }) => (moves[target.dataset?.move] ?? buttons[target.dataset?.act])?.());
 })();
 </script>

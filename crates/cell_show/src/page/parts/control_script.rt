@@ -38,8 +38,12 @@ pub(crate) const CONTROL_SCRIPT: &str = r##"  let current = -1;
     const pause = timer === null ? 500 : Number(el("speed").value);
     return pause < 80 ? 0 : Math.min(400, 0.8 * pause);
   };
+  // The address tells the entry once one rests there: a browser takes as long to write it as to draw a step.
+  let resting;
   const keepAddress = () => {
-    if (around === null) history.replaceState(null, "", "#entry=" + current);
+    if (around !== null) return;
+    clearTimeout(resting);
+    resting = setTimeout(() => history.replaceState(null, "", "#entry=" + current), 100);
   };
 
   // The page around this one, where two stand side by side: it is told each step, says where to go, in which entries
@@ -156,10 +160,7 @@ pub(crate) const CONTROL_SCRIPT: &str = r##"  let current = -1;
     event.preventDefault();
     act();
   };
-  const entryInAddress = () => {
-    const place = /^#entry=(\d+)$/.exec(location.hash);
-    return place === null ? 0 : Number(place[1]);
-  };
+  const entryIn = (address) => Number(/#entry=(\d+)$/.exec(address)?.[1] ?? 0);
   const print = (isPrinting) => {
     root.toggle("printing", isPrinting);
     drawSpans();
@@ -198,7 +199,7 @@ pub(crate) const CONTROL_SCRIPT: &str = r##"  let current = -1;
   el("bars").addEventListener("wheel", onWheel, { passive: false });
   ["pointerdown", "pointermove"].forEach((kind) => el("strip").addEventListener(kind, onStrip));
   document.addEventListener("keydown", onKey);
-  window.addEventListener("hashchange", () => goTo(entryInAddress()));
+  window.addEventListener("hashchange", ({ newURL }) => goTo(entryIn(newURL)));
   window.addEventListener("message", onMessage);
   window.addEventListener("resize", drawSpans);
   window.addEventListener("beforeprint", () => print(true));
@@ -210,7 +211,7 @@ pub(crate) const CONTROL_SCRIPT: &str = r##"  let current = -1;
   makeEvents();
   root.add("ready");
   layRows();
-  show(entryInAddress());
+  show(entryIn(location.hash));
   size();
   drawSpans();
 })();
