@@ -8,6 +8,7 @@ mod escaped;
 mod failure;
 mod help;
 mod order;
+mod table;
 
 pub use count::{Count, read_count};
 pub use escaped::Escaped;
