@@ -4,7 +4,7 @@ use Rattle.std.proofs.Common.{false, ap, sym, refl, subst, append_assoc}
 use Rattle.std.proofs.lemmas.Bool.{eqb-true}
 use Rattle.std.proofs.lemmas.List.Folds.{list_any-append}
 use Rattle.cell_lines.specs.Known.{Picture, after_rows}
-use Rattle.cell_lines.specs.Lines.{Row, TakesLine}
+use Rattle.line_reader.specs.Lines.{Row, TakesLine}
 use Rattle.cell_lines.specs.Said.{answers, ends, opens, said_of, syncs}
 use Rattle.cell_lines.specs.Stands.{Passes, Reads, Stand, TakesOne, TakesTo}
 use Rattle.cell_lines.specs.declared.said.Answer.{Answer}

@@ -8,7 +8,7 @@ use Rattle.cell_turns.specs.Six.{each, put}
 use Rattle.cell_turns.specs.declared.six.Six.{Six}
 use Rattle.cell_plant.specs.declared.desk.Wish.{Wish}
 use Rattle.cell_plant.specs.declared.desk.Wish.TheVariants as wish
-use Rattle.cell_lines.specs.Lines.{Row}
+use Rattle.line_reader.specs.Lines.{Row}
 use Rattle.cell_lines.specs.Said.{said_of}
 use Rattle.cell_lines.specs.declared.known.Known.{Known}
 use Rattle.cell_lines.specs.declared.said.Said.{Said}

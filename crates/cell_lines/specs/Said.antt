@@ -10,7 +10,7 @@ use Rattle.cell_diagnosis.specs.declared.reading.Reading.{Reading}
 use Rattle.operator_desk.specs.Lines.{task_of}
 use Rattle.operator_desk.specs.declared.line.Task.{Task}
 use Rattle.operator_desk.specs.declared.line.Task.TheVariants as task
-use Rattle.cell_lines.specs.Lines.{Row}
+use Rattle.line_reader.specs.Lines.{Row}
 use Rattle.cell_lines.specs.Shown.{reading_of}
 use Rattle.cell_lines.specs.declared.said.Answer.TheVariants as answer
 use Rattle.cell_lines.specs.declared.said.Heading.{Heading}

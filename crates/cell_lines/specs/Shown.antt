@@ -7,7 +7,7 @@ use Rattle.cell_types.specs.Sensors.{presence_words, switch_words}
 use Rattle.cell_types.specs.declared.words.Axis.{Axis}
 use Rattle.cell_types.specs.declared.words.Machine.{Machine}
 use Rattle.cell_diagnosis.specs.declared.reading.Reading.{Reading}
-use Rattle.cell_lines.specs.Split.{parts}
+use Rattle.line_reader.specs.Split.{parts}
 
 -- a word is one of these
 abbrev pub is_among : List (List ℕ) → List ℕ → Bool

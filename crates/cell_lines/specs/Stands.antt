@@ -9,7 +9,7 @@ use Rattle.cell_plant.specs.Asked.{Acted, Asked, Closed, Handed, Opened, Ordered
 use Rattle.cell_plant.specs.declared.gone.Gone.{Gone}
 use Rattle.cell_lines.specs.Known.{Picture, after_rows, first, hearing, next_wish, nothing, others, picture, seeing}
 use Rattle.cell_lines.specs.Known.{wish_taken, without_readings}
-use Rattle.cell_lines.specs.Lines.{Row, lines_left, lines_of}
+use Rattle.line_reader.specs.Lines.{Row, lines_left, lines_of}
 use Rattle.cell_lines.specs.Said.{answers, opens, said_of, syncs}
 use Rattle.cell_lines.specs.Written.{line_of}
 use Rattle.cell_lines.specs.declared.far_end.FarEnd.{FarEnd}

@@ -11,7 +11,7 @@ use Rattle.cell_plant.specs.declared.desk.Denial.{Denial}
 use Rattle.cell_plant.specs.declared.desk.Denial.TheVariants as denial
 use Rattle.cell_plant.specs.declared.desk.Reply.{Reply}
 use Rattle.cell_plant.specs.declared.desk.Reply.TheVariants as reply
-use Rattle.cell_lines.specs.Lines.{Row}
+use Rattle.line_reader.specs.Lines.{Row}
 use Rattle.cell_lines.specs.declared.written.Written.{Written}
 use Rattle.cell_lines.specs.declared.written.Written.TheVariants as written
 

@@ -7,7 +7,6 @@ ghost use Rattle.cell_lines.specs.Said.{answers, ends, opens, syncs};
 ghost use Rattle.cell_lines.specs.Written.{line_of};
 
 use crate::known::Known;
-use crate::line::CellLines;
 use crate::put::put;
 use crate::said::{Answer, Said, said_of};
 use crate::unread::{tell_line, tell_plates, tell_refused};
@@ -16,6 +15,7 @@ use cell_diagnosis::Reading;
 use cell_plant::{Gone, Plant, Reply, Wish};
 use cell_rows::TellsFault;
 use cell_types::{Command, Machine, Station};
+use line_reader::RecordReader;
 use operator_desk::Task;
 use plate_book::Refusal;
 use std::io::Write;
@@ -48,7 +48,7 @@ pub enum Loss {
 /// A cell at the other end of two pipes: its lines, what is written to it, and what is known of it.
 #[derive(Drop)]
 pub struct FarEnd<R, W, E> {
-    lines: CellLines<R>,
+    lines: RecordReader<R>,
     writer: W,
     pub errors: E,
     known: Known,
@@ -67,7 +67,7 @@ impl<R: TellsFault, W: Write, E: Write> FarEnd<R, W, E> {
         ensures stand { stand_of R.remaining W.contents result ≡ first_stand (R.remaining source) (W.contents writer) }
     {
         FarEnd {
-            lines: CellLines::new(source),
+            lines: RecordReader::new(source),
             writer,
             errors,
             known: Known::new(),

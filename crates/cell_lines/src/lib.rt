@@ -4,12 +4,11 @@
 
 mod far_end;
 mod known;
-mod line;
 mod put;
 mod reading;
 mod said;
-mod split;
 mod unread;
+mod word;
 mod written;
 
 pub use far_end::{FarEnd, Loss, MAX_LINES};

@@ -2,12 +2,13 @@
 ghost use Rattle.std.specs.Prelude.{◌≡◌, ◌≤◌, ◌∷◌, [], length, map};
 ghost use Rattle.std.specs.List.{list_all};
 ghost use Rattle.cell_lines.specs.Shown.{axis_bits, bits_of, byte_of, is_among, reading_of, switches_by, switches_of};
-ghost use Rattle.cell_lines.specs.Split.{parts};
+ghost use Rattle.line_reader.specs.Split.{parts};
 
-use crate::split::{cut, is_word};
+use crate::word::is_word;
 use cell_diagnosis::Reading;
 use cell_types::sensors::{presence_words, switch_words};
 use cell_types::{Axis, Machine};
+use line_reader::cut;
 
 // Whether a word is one of these.
 fn is_among(words: &[&str], word: &[u8]) -> bool

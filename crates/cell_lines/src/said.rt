@@ -8,7 +8,7 @@ ghost use Rattle.cell_lines.specs.Said.{missing_of, repair_of, said_by, said_of,
 ghost use Rattle.cell_lines.specs.Said.{wish_of};
 
 use crate::reading::reading_of;
-use crate::split::is_word;
+use crate::word::is_word;
 use cell_diagnosis::Reading;
 use cell_rows::Four;
 use cell_types::number::{read_number, read_plate};

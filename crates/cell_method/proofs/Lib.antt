@@ -1,6 +1,3 @@
-pub mod Splitting
-pub mod Holding
-pub mod LineFacts
 pub mod Marks
 pub mod Runs
 pub mod Turns

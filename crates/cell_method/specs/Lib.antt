@@ -1,4 +1,4 @@
-pub mod Split
+pub mod Fields
 pub mod Lines
 pub mod Conversations
 pub mod Asked

@@ -1,5 +1,5 @@
 //! Why a run breaks off.
-use crate::line::ReadFault;
+use line_reader::ReadFault;
 use std::io;
 
 /// Why a run breaks off.

@@ -16,14 +16,13 @@ mod operator;
 mod reading_line;
 mod reply;
 mod rounds;
-mod split;
 
 pub use ask::{Ask, ask_of};
 pub use booking::MAX_LINES;
 pub use conversation::Conversation;
 pub use entry_line::tell_entries;
 pub use error::DriveError;
-pub use line::{LineReader, ReadFault};
+pub use line::LineReader;
 pub use onlooker::Onlooker;
 pub use reading_line::ReadingLine;
 pub use reply::Reply;

@@ -1,54 +1,47 @@
-//! The lines of a reader's text.
-ghost use Rattle.std.specs.Prelude.{◌≡◌, ◌⊎◌, ◌∷◌, [], ℕ, List, true, IfOk, IfSome, IsErr, IsNone, None, Some, ◌++◌};
+//! The lines of a method.
+ghost use Rattle.std.specs.Prelude.{◌≡◌, ◌⊎◌, ◌==◌, ◌∷◌, [], true, IfOk, IfSome, IsErr, IsNone, None, Some};
 ghost use Rattle.std.specs.Prelude.{option_map};
-ghost use Rattle.std.specs.Io.KnownBytes.{Consumes, IsAtEnd};
-ghost use Rattle.cell_method.specs.Lines.{EndsLine, Holds, IsEndless, TakesLine, bytes_left, current, has_failed};
-ghost use Rattle.cell_method.specs.Lines.{is_blank, is_within, lines_left, lines_of, without_return};
+ghost use Rattle.std.specs.List.{list_all, list_any};
+ghost use Rattle.cell_method.specs.Fields.{is_field, record_of};
+ghost use Rattle.cell_method.specs.Lines.{IsEndless, TakesLine, bytes_left, current, has_failed, lines_left, lines_of};
 
-use crate::split::record_of;
-use arrayvec::ArrayVec;
 use cell_rows::{Four, TellsFault};
+use line_reader::{ReadFault, RecordReader};
 
-// The most bytes of a line that can be a record: four fields of 20 bytes, three commas and a carriage return.
-const LONGEST_LINE: usize = 84;
+// The most bytes of a field.
+const LONGEST_FIELD: usize = 20;
 
-/// The reader failed, or a line has 2^64 - 1 bytes.
-#[derive(Clone, Copy, Debug, PartialEq, Eq)]
-pub struct ReadFault;
-
-/// The lines of a reader's text, one at a time, with the one that was read last.
+/// The lines of a method, one at a time, with the one that was read last.
 #[derive(Drop)]
 pub struct LineReader<R> {
-    source: R,
-    line: ArrayVec<u8, 84>,
-    is_long: bool,
+    records: RecordReader<R>,
 }
 
-// A line without the carriage return at its end.
-fn without_return(line: &[u8]) -> &[u8]
-    ensures { result.now ≡ without_return line.now }
+// Whether bytes have a quote.
+fn has_quote(bytes: &[u8]) -> bool
+    ensures { result ≡ list_any (λ b. b == 34) bytes.now }
 {
-    if let [.., b'\r'] = line {
-        &line[..line.len() - 1]
-    } else {
-        line
+    for byte in bytes {
+        if *byte == b'"' {
+            return true;
+        }
     }
+    false
 }
 
-// Takes the next byte, if there is one.
-fn take_byte<R: TellsFault>(source: &mut R) -> Result<Option<u8>, ReadFault>
-    ensures some { IfOk result (λ byte. IfSome byte (λ b. Consumes (R.remaining source.old) (R.remaining source.new)
-        (b ∷ []))) }
-    ensures none { IfOk result (λ byte. IsNone byte → Consumes (R.remaining source.old) (R.remaining source.new) []
-        × IsAtEnd (R.remaining source.new)) }
-    ensures fault { IsErr result → R.failed source.new ≡ true }
+// Whether bytes are a field: at most 20, and no quote.
+fn is_field(bytes: &[u8]) -> bool
+    ensures { result ≡ is_field bytes.now }
 {
-    let mut byte = [0];
-    match source.read_told(&mut byte) {
-        Ok(0) => Ok(None),
-        Ok(_) => Ok(Some(byte[0])),
-        Err(_) => Err(ReadFault),
-    }
+    bytes.len() <= LONGEST_FIELD && !has_quote(bytes)
+}
+
+// Whether all four are fields.
+fn are_fields(four: &Four<'_>) -> bool
+    ensures { result ≡ list_all is_field (four.now.first.now ∷ four.now.second.now ∷ four.now.third.now
+        ∷ four.now.fourth.now ∷ []) }
+{
+    is_field(four.first) && is_field(four.second) && is_field(four.third) && is_field(four.fourth)
 }
 
 impl<R: TellsFault> LineReader<R> {
@@ -57,48 +50,8 @@ impl<R: TellsFault> LineReader<R> {
         ensures { lines_left R.remaining result ≡ option_map lines_of (R.remaining source) }
     {
         LineReader {
-            source,
-            line: ArrayVec::new(),
-            is_long: false,
+            records: RecordReader::new(source),
         }
-    }
-
-    // Keeps one more byte of the line, as far as the line can be a record.
-    fn keep(&mut self, byte: u8)
-        ensures source { self.new.source ≡ self.old.source }
-        ensures holds { (line : List ℕ) → Holds self.old line → is_within byte ≡ true
-            → Holds self.new (line ++ byte ∷ []) }
-    {
-        match self.line.try_push(byte) {
-            Ok(()) => {}
-            Err(_) => self.is_long = true,
-        }
-    }
-
-    // Reads a line, and says whether the text ended with it.
-    fn read_line(&mut self) -> Result<bool, ReadFault>
-        ensures line { IfOk result (λ ended. (line : List ℕ) × Holds self.new line
-            × EndsLine (R.remaining self.old.source) (R.remaining self.new.source) line ended) }
-        ensures fault { IsErr result → (has_failed R.failed self.new ≡ true)
-            ⊎ IsEndless (bytes_left R.remaining self.old) (bytes_left R.remaining self.new) }
-    {
-        self.line.clear();
-        self.is_long = false;
-        for _count in 0..u64::MAX {
-            match take_byte(&mut self.source)? {
-                None => return Ok(true),
-                Some(b'\n') => return Ok(false),
-                Some(byte) => self.keep(byte),
-            }
-        }
-        Err(ReadFault)
-    }
-
-    // Whether the line is blank.
-    fn is_blank(&self) -> bool
-        ensures { (line : List ℕ) → Holds self.now line → result ≡ is_blank line }
-    {
-        !self.is_long && without_return(self.line.as_slice()).is_empty()
     }
 
     /// Reads the next line that isn't blank, and says whether there was one.
@@ -111,16 +64,7 @@ impl<R: TellsFault> LineReader<R> {
         ensures fault { IsErr result → (has_failed R.failed self.new ≡ true)
             ⊎ IsEndless (bytes_left R.remaining self.old) (bytes_left R.remaining self.new) }
     {
-        for _count in 0..u64::MAX {
-            let ended = self.read_line()?;
-            if !self.is_blank() {
-                return Ok(true);
-            }
-            if ended {
-                return Ok(false);
-            }
-        }
-        Err(ReadFault)
+        self.records.advance()
     }
 
     /// The record of the line that was read last, if it is one: four fields of at most 20 bytes each, and no quote.
@@ -129,9 +73,7 @@ impl<R: TellsFault> LineReader<R> {
             ≡ Some (four.first.now ∷ four.second.now ∷ four.third.now ∷ four.fourth.now ∷ [])) }
         ensures none { IsNone result → current self.now ≡ None }
     {
-        if self.is_long {
-            return None;
-        }
-        record_of(without_return(self.line.as_slice()))
+        let four = self.records.four()?;
+        if are_fields(&four) { Some(four) } else { None }
     }
 }

@@ -1,6 +1,6 @@
 use Rattle.std.proofs.Common.{◌∙◌, ap, arith}
 use Rattle.cell_lines.specs.Shown.{is_among}
-use Rattle.cell_lines.specs.Split.{parts}
+use Rattle.line_reader.specs.Split.{parts}
 use Rattle.cell_lines.proofs.Showing.{at-most-one, byte-none-of, byte-room, byte-step}
 use Rattle.cell_lines.proofs.reading.byte_of.Goals as goal
 

@@ -1,6 +1,6 @@
 use Rattle.std.proofs.Common.{◌≡◌, map, drop}
 use Rattle.cell_lines.specs.Shown.{byte_of}
-use Rattle.cell_lines.specs.Split.{parts}
+use Rattle.line_reader.specs.Split.{parts}
 use Rattle.cell_lines.proofs.reading.byte_of.Given as goal
 
 -- the byte of the words from here on

@@ -1,5 +1,5 @@
 use Rattle.std.proofs.Common.{rules, ◌∙◌, ap, refl, sym}
-use Rattle.cell_lines.specs.Lines.{current}
+use Rattle.line_reader.specs.Lines.{current}
 use Rattle.cell_lines.specs.Said.{said_of}
 use Rattle.cell_lines.proofs.Talking.{takes-one}
 use Rattle.cell_lines.proofs.far_end.FarEnd.next_said.Goals as goal

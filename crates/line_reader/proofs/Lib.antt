@@ -1,0 +1,3 @@
+pub mod Splitting
+pub mod Holding
+pub mod LineFacts
