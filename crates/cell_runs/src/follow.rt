@@ -9,6 +9,7 @@ ghost use Rattle.cell_turns.specs.Minds.{Mind, machine_of_watch};
 ghost use Rattle.cell_turns.specs.Six.{at};
 ghost use Rattle.cell_turns.specs.Schedules.{FitAll, now};
 ghost use Rattle.cell_ledger.specs.New.{AreBlank};
+ghost use Rattle.cell_runs.specs.Cells.{IsReached};
 ghost use Rattle.cell_runs.specs.Rounds.{Reaches, place};
 ghost use Rattle.cell_runs.specs.Followed.{Acts, Ends, EndsAt, Halts, IsFollowed};
 ghost use Rattle.cell_runs.specs.Runs.{limits_of};
@@ -16,11 +17,11 @@ ghost use Rattle.cell_runs.specs.Runs.{limits_of};
 use crate::steps::{Progress, act, take_step};
 use cell_journal::Journal;
 use cell_ledger::{Blanks, Kept, Run};
-use cell_plant::Ported;
+use cell_plant::Plant;
 use cell_turns::empty_book;
 use cell_types::same::is_entry;
 use cell_types::{Actor, Entry, Machine, actor_of};
-use cell_workers::{End, OperatorPort, Plan, Port, Ports, Ran, Step, Watches};
+use cell_workers::{End, Plan, Ran, Step, Watches};
 use operator_desk::Script;
 use plate_book::Book;
 use std::alloc::{AllocError, Global};
@@ -47,12 +48,11 @@ pub struct Following {
     pub followed: Followed,
 }
 
-// Turns of a machine, each at a reading of its port, until one books an entry, and at most the plan's. It answers the
+// Turns of a machine, each at what it shows, until one books an entry, and at most the plan's. It answers the
 // entry.
-fn work<P: Port, O: OperatorPort, R: Run>(
+fn work<C: Plant, R: Run>(
     machine: Machine,
-    ports: &mut Ports<P>,
-    hands: &mut O,
+    plant: &mut C,
     cell: &mut Progress<R>,
     plan: &Plan,
 ) -> Result<Option<Entry>, End>
@@ -73,8 +73,8 @@ fn work<P: Port, O: OperatorPort, R: Run>(
 {
     let before = cell.kept.book().journal().len();
     for _turn in 0..plan.turns {
-        let reading = ports.pick(machine).read();
-        take_step(Step::Turn(machine, reading), ports, hands, cell, plan)?;
+        let reading = plant.read(machine);
+        take_step(Step::Turn(machine, reading), plant, cell, plan)?;
         let booked = cell.kept.book().journal().get(before);
         if booked.is_some() {
             return Ok(booked);
@@ -84,9 +84,8 @@ fn work<P: Port, O: OperatorPort, R: Run>(
 }
 
 // The operator's next action, if there is one. It answers the entry that he booked.
-fn operate<P: Port, O: OperatorPort, R: Run>(
-    ports: &mut Ports<P>,
-    hands: &mut O,
+fn operate<C: Plant, R: Run>(
+    plant: &mut C,
     cell: &mut Progress<R>,
     plan: &Plan,
 ) -> Result<Option<Entry>, End>
@@ -106,15 +105,14 @@ fn operate<P: Port, O: OperatorPort, R: Run>(
         → cell.new.kept.entries ≡ cell.old.kept.entries) }
 {
     let before = cell.kept.book().journal().len();
-    act(ports, hands, cell, plan)?;
+    act(plant, cell, plan)?;
     Ok(cell.kept.book().journal().get(before))
 }
 
 // Lets the actor of an entry act. It answers the entry that he booked.
-fn let_act<P: Port, O: OperatorPort, R: Run>(
+fn let_act<C: Plant, R: Run>(
     wanted: &Entry,
-    ports: &mut Ports<P>,
-    hands: &mut O,
+    plant: &mut C,
     cell: &mut Progress<R>,
     plan: &Plan,
 ) -> Result<Option<Entry>, End>
@@ -134,8 +132,8 @@ fn let_act<P: Port, O: OperatorPort, R: Run>(
         → cell.new.kept.entries ≡ cell.old.kept.entries) }
 {
     match actor_of(*wanted) {
-        Actor::Machine(machine) => work(machine, ports, hands, cell, plan),
-        Actor::Operator => operate(ports, hands, cell, plan),
+        Actor::Machine(machine) => work(machine, plant, cell, plan),
+        Actor::Operator => operate(plant, cell, plan),
     }
 }
 
@@ -152,11 +150,10 @@ fn parted(number: u32, wanted: &Entry, booked: Option<Entry>) -> Followed
 
 // Follows one entry of a journal, of this number. The error is how the journal was followed where this entry wasn't
 // booked.
-fn follow_entry<P: Port, O: OperatorPort, R: Run>(
+fn follow_entry<C: Plant, R: Run>(
     number: u32,
     wanted: &Entry,
-    ports: &mut Ports<P>,
-    hands: &mut O,
+    plant: &mut C,
     cell: &mut Progress<R>,
     plan: &Plan,
 ) -> Result<(), Followed>
@@ -171,7 +168,7 @@ fn follow_entry<P: Port, O: OperatorPort, R: Run>(
         → EndsAt cell.old.kept.limits plan.now (place (now cell.old.kept.entries minds) cell.old.script cell.old.lost)
         number wanted.now cell.new.kept.entries how) }
 {
-    match let_act(wanted, ports, hands, cell, plan) {
+    match let_act(wanted, plant, cell, plan) {
         Ok(Some(booked)) => {
             if is_entry(&booked, wanted) {
                 Ok(())
@@ -186,10 +183,9 @@ fn follow_entry<P: Port, O: OperatorPort, R: Run>(
 }
 
 // Follows the entries of a journal, until one isn't booked.
-fn follow_entries<P: Port, O: OperatorPort, R: Run>(
+fn follow_entries<C: Plant, R: Run>(
     journal: &Journal,
-    ports: &mut Ports<P>,
-    hands: &mut O,
+    plant: &mut C,
     cell: &mut Progress<R>,
     plan: &Plan,
 ) -> Followed
@@ -202,21 +198,22 @@ fn follow_entries<P: Port, O: OperatorPort, R: Run>(
 {
     for i in 0..journal.len() {
         let wanted = journal.at(i);
-        if let Err(followed) = follow_entry(i + 1, &wanted, ports, hands, cell, plan) {
+        if let Err(followed) = follow_entry(i + 1, &wanted, plant, cell, plan) {
             return followed;
         }
     }
     Followed::Whole
 }
 
-/// Follows a journal over a cell of ports and hands on one thread, into an empty book within the plan's limits: for
-/// each of its entries the entry's actor alone acts, until he books one. A machine takes turns at readings of its port,
-/// at most as many as the plan has; the operator does his next action, if there is one. It ends at the first entry in
-/// whose place another is booked, or none. The error is that the book's memory was refused.
-pub fn follow_over<P: Port, O: OperatorPort, R: Run>(
+/// Follows a journal over a cell on one thread, into an empty book within the plan's limits: for each of its entries
+/// the entry's actor alone acts, until he books one. A machine takes turns at what it shows, at most as many as the
+/// plan has; the operator does his next action, if there is one. It ends at the first entry in whose place another is
+/// booked, or none. The cell is always reached, and its rounds are neither opened nor closed. The error is that the
+/// book's memory was refused.
+pub fn follow_over<C: Plant, R: Run>(
     alloc: Global,
     blanks: Blanks,
-    cell: &mut Ported<P, O>,
+    cell: &mut C,
     script: Script,
     plan: &Plan,
     journal: &Journal,
@@ -224,6 +221,7 @@ pub fn follow_over<P: Port, O: OperatorPort, R: Run>(
     requires parts { 0 < R.parts }
     requires limits { R.limits ≡ limits_of plan.now }
     requires ledgers { AreBlank R.Run blanks }
+    requires reached { IsReached C.told }
     ensures limits { IfOk result (λ following. following.book.limits ≡ R.limits) }
     ensures followed { IfOk result (λ following. IsFollowed R.limits plan.now script journal.now.entries
         following.book.entries following.followed) }
@@ -239,13 +237,7 @@ pub fn follow_over<P: Port, O: OperatorPort, R: Run>(
         script,
         lost: false,
     };
-    let followed = follow_entries(
-        journal,
-        &mut cell.ports,
-        &mut cell.hands,
-        &mut progress,
-        plan,
-    );
+    let followed = follow_entries(journal, cell, &mut progress, plan);
     progress.kept.is_lawful();
     Ok(Following {
         book: progress.kept.into_book(),

@@ -10,22 +10,20 @@ ghost use Rattle.cell_runs.specs.Told.{PartOfRefused, TellsPartFollowed, TellsRe
 use crate::follow::Following;
 use crate::followed::{end_of, write_following};
 use crate::inputs::{Inputs, Texts, read_inputs};
-use crate::ports::sim_ports;
 use crate::refused::refuse_input;
-use crate::simulation::follow_journal;
+use crate::simulation::follow_simulated;
 use crate::texts::{KeptRun, Left};
 use cell_audit::{AuditError, Audited, write_answer};
 use cell_journal::Journal;
 use cell_output::{WatchedWriter, WriteFault, status};
-use cell_plant::Ported;
-use cell_sim::{SimOperator, World};
-use std::alloc::AllocError;
+use cell_sim::World;
+use sim_plant::SimPlant;
+use std::alloc::{AllocError, Global};
 use std::io::Write;
-use std::sync::{Mutex, Wait};
 
 // Follows a journal over a new world, writes what comes of it, and keeps what was booked.
-fn write_followed<R: AllocGlobal + Wait, W: Write>(
-    rt: &R,
+fn write_followed<W: Write>(
+    alloc: Global,
     inputs: Inputs,
     followed: &Journal,
     journal: bool,
@@ -44,14 +42,11 @@ fn write_followed<R: AllocGlobal + Wait, W: Write>(
         script,
         durations,
     } = inputs;
-    let world = Mutex::new(World::new(plan.plates).with_durations(durations));
-    let mut cell = Ported {
-        ports: sim_ports(rt, &world, &faults),
-        hands: SimOperator::new(rt, &world),
-    };
-    match follow_journal(rt.alloc(), &mut cell, script, &plan, followed) {
+    let world = World::new(plan.plates).with_durations(durations);
+    let mut cell = SimPlant::new(world, &faults);
+    match follow_simulated(alloc, &mut cell, script, &plan, followed) {
         Ok(following) => {
-            let status = write_following(rt.alloc(), &following, journal, writer)?;
+            let status = write_following(alloc, &following, journal, writer)?;
             let end = end_of(&following.followed);
             let Following { book, followed: _ } = following;
             let journal = book.into_journal();
@@ -77,8 +72,8 @@ pub(crate) fn tell_refused<W: Write>(
 }
 
 // Follows a journal that was read, or tells that it is refused or can't be read.
-fn follow_read<R: AllocGlobal + Wait, W: Write>(
-    rt: &R,
+fn follow_read<W: Write>(
+    alloc: Global,
     followed: &Audited,
     inputs: Inputs,
     journal: bool,
@@ -93,16 +88,16 @@ fn follow_read<R: AllocGlobal + Wait, W: Write>(
     ensures fault { IsErr result → has_refused writer.new ≡ true }
 {
     match followed.answer {
-        Ok(_) => write_followed(rt, inputs, followed.book.journal(), journal, writer),
+        Ok(_) => write_followed(alloc, inputs, followed.book.journal(), journal, writer),
         Err(why) => Ok((tell_refused(why, writer)?, Left::Nothing)),
     }
 }
 
 /// Reads the texts of a run, the settings, the script of faults and the operator's script, and takes that run again on
 /// this thread as a journal tells it that was read into a book: for each entry of the journal in order the entry's
-/// actor alone acts, until he books one. A machine takes turns at readings of its port, at most as many as the settings
-/// have; the operator does his next action, if there is one. It ends where all entries were booked, or at the first in
-/// whose place another one is booked, or none.
+/// actor alone acts, until he books one. A machine takes turns at what it shows, at most as many as the settings have;
+/// the operator does his next action, if there is one. It ends where all entries were booked, or at the first in whose
+/// place another one is booked, or none.
 ///
 /// The first text that is refused is told in one line, in the order settings, faults, operator, journal: the first
 /// three as by `run_texts`, the journal as by `audit_lines`, by the answer that was read with the book, before anything
@@ -113,8 +108,8 @@ fn follow_read<R: AllocGlobal + Wait, W: Write>(
 /// that was, status 4.
 ///
 /// It gives what was booked too, where the journal was followed, in place of a run; no limit is its end.
-pub fn follow_after<R: AllocGlobal + Wait, W: Write>(
-    rt: &R,
+pub fn follow_after<W: Write>(
+    alloc: Global,
     followed: &Audited,
     texts: Texts<'_>,
     journal: bool,
@@ -133,8 +128,8 @@ pub fn follow_after<R: AllocGlobal + Wait, W: Write>(
     // It answers that the writer failed only where a write was refused.
     ensures fault { IsErr result → has_refused writer.new ≡ true }
 {
-    match read_inputs(rt.alloc(), texts) {
-        Ok(inputs) => follow_read(rt, followed, inputs, journal, writer),
+    match read_inputs(alloc, texts) {
+        Ok(inputs) => follow_read(alloc, followed, inputs, journal, writer),
         Err(refused) => Ok((refuse_input(writer, refused)?, Left::Nothing)),
     }
 }

@@ -8,6 +8,7 @@ mod followed;
 mod following;
 mod inputs;
 pub mod laws;
+mod lent;
 mod ports;
 mod refused;
 mod report;

@@ -80,5 +80,21 @@ pub fn follow_journal<P: Port, O: OperatorPort>(
     ensures followed { IfOk result (λ following. IsFollowed (limits_of plan.now) plan.now script journal.now.entries
         following.book.entries following.followed) }
 {
-    follow_over::<_, _, Brand>(alloc, Blanks::new(1), cell, script, plan, journal)
+    follow_over::<_, Brand>(alloc, Blanks::new(1), cell, script, plan, journal)
+}
+
+/// Follows a journal over the simulated cell on one thread, as `follow_journal` does over ports and hands. The cell is
+/// where runs start.
+pub(crate) fn follow_simulated(
+    alloc: Global,
+    cell: &mut SimPlant<'_>,
+    script: Script,
+    plan: &Plan,
+    journal: &Journal,
+) -> Result<Following, AllocError>
+    ensures limits { IfOk result (λ following. following.book.limits ≡ limits_of plan.now) }
+    ensures followed { IfOk result (λ following. IsFollowed (limits_of plan.now) plan.now script journal.now.entries
+        following.book.entries following.followed) }
+{
+    follow_over::<_, Brand>(alloc, Blanks::new(1), cell, script, plan, journal)
 }

@@ -9,8 +9,10 @@ ghost use Rattle.cell_turns.specs.Six.{at};
 ghost use Rattle.cell_turns.specs.Schedules.{FitAll, now};
 ghost use Rattle.cell_runs.specs.Rounds.{Operates, Reaches, Stops, Takes, place, turn_of};
 
+use crate::lent::{LentHands, lend_port};
 use cell_ledger::{Kept, Run, Shares};
-use cell_workers::{End, LentState, OperatorPort, Plan, Port, Ports, Ran, Step, Watches, run_step};
+use cell_plant::Plant;
+use cell_workers::{End, LentState, Plan, Ran, Step, Watches, run_step};
 use operator_desk::{Script, entry_of};
 
 /// What a run has from step to step.
@@ -22,16 +24,15 @@ pub(crate) struct Progress<R: Run> {
     /// What the last step did.
     pub(crate) ran: Ran,
     pub(crate) script: Script,
-    /// The operator's port failed.
+    /// The operator's hands failed.
     pub(crate) lost: bool,
 }
 
 /// One step. It answers whether the operator booked an entry in it, or the end that the step sets.
 #[inline(always)]
-pub(crate) fn take_step<P: Port, O: OperatorPort, R: Run>(
+pub(crate) fn take_step<C: Plant, R: Run>(
     step: Step,
-    ports: &mut Ports<P>,
-    hands: &mut O,
+    plant: &mut C,
     cell: &mut Progress<R>,
     plan: &Plan,
 ) -> Result<bool, End>
@@ -55,7 +56,17 @@ pub(crate) fn take_step<P: Port, O: OperatorPort, R: Run>(
         shares: &mut cell.shares,
         watches: &mut cell.watches,
     };
-    let taken = run_step(&step, &mut cell.ran, ports, hands, &mut state, plan);
+    let mut lent = Some(plant);
+    let mut ports = lend_port(&step, &mut lent);
+    let mut hands = LentHands { plant: lent };
+    let taken = run_step(
+        &step,
+        &mut cell.ran,
+        &mut ports,
+        &mut hands,
+        &mut state,
+        plan,
+    );
     match taken {
         Ok(()) if cell.ran.refused > 0 => Err(End::Full),
         Ok(()) => Ok(!cell.ran.operator.is_empty()),
@@ -63,10 +74,9 @@ pub(crate) fn take_step<P: Port, O: OperatorPort, R: Run>(
     }
 }
 
-/// The operator's next action, if there is one. Where his port fails, nothing is booked and he does nothing more.
-pub(crate) fn act<P: Port, O: OperatorPort, R: Run>(
-    ports: &mut Ports<P>,
-    hands: &mut O,
+/// The operator's next action, if there is one. Where his act fails, nothing is booked and he does nothing more.
+pub(crate) fn act<C: Plant, R: Run>(
+    plant: &mut C,
     cell: &mut Progress<R>,
     plan: &Plan,
 ) -> Result<(), End>
@@ -88,7 +98,7 @@ pub(crate) fn act<P: Port, O: OperatorPort, R: Run>(
     let Some(action) = cell.script.next(cell.kept.book()) else {
         return Ok(());
     };
-    if take_step(Step::Hand(entry_of(action)), ports, hands, cell, plan)? {
+    if take_step(Step::Hand(entry_of(action)), plant, cell, plan)? {
         cell.script.done();
     } else {
         cell.lost = true;

@@ -23,6 +23,7 @@ use cell_orders::{
 use cell_output::{WatchedWriter, WriteFault};
 use cell_rows::TellsFault;
 use cell_runs::{KeptRun, Left, Mode, Texts, follow_after, run_kept};
+use std::alloc::Global;
 use std::io::Write;
 use std::rt::Files;
 use std::sync::Wait;
@@ -275,8 +276,8 @@ fn measure_files<'a, R: AllocGlobal + Files + Threads + Wait + Sync, W: Write>(
 }
 
 // Follows a journal that was read by the texts of a run.
-fn follow_sources<R: AllocGlobal + Wait, W: Write>(
-    rt: &R,
+fn follow_sources<W: Write>(
+    alloc: Global,
     output: &mut WatchedWriter<'_, W>,
     followed: &Audited,
     running: Running<'_>,
@@ -286,12 +287,12 @@ fn follow_sources<R: AllocGlobal + Wait, W: Write>(
         → FollowsTexts running.entry.journal (bytes_held W.contents output.old)
         (bytes_held W.contents output.new) (written_of result) }
 {
-    let told = follow_after(rt, followed, sources.texts(), running.journal, output);
+    let told = follow_after(alloc, followed, sources.texts(), running.journal, output);
     with_ending(told, 0, running.explain, sources)
 }
 
 // Follows the journal in a file by what the run's files say.
-fn follow_files<'a, R: AllocGlobal + Files + Wait, W: Write>(
+fn follow_files<'a, R: AllocGlobal + Files, W: Write>(
     rt: &R,
     output: &mut WatchedWriter<'_, W>,
     path: &'a str,
@@ -305,7 +306,7 @@ fn follow_files<'a, R: AllocGlobal + Files + Wait, W: Write>(
         Reading::Unfit(status) => return Ok(Carried::of(status)),
     };
     let followed = book_in(rt, path)?;
-    unless_refused(follow_sources(rt, output, &followed, running, sources))
+    unless_refused(follow_sources(rt.alloc(), output, &followed, running, sources))
 }
 
 /// Does what an order says: reads the input or the files that it names, and writes to the output and the errors. What

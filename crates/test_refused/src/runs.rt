@@ -227,7 +227,7 @@ fn follow_after_a_run(rt: HostRuntime) -> Result<(), Fail> {
     let mut written = Vec::with_capacity(alloc, ROOM)?;
     let mut writer = WatchedWriter::new(&mut written);
     call_begins(alloc);
-    let answer = follow_after(&rt, &followed, texts, false, &mut writer);
+    let answer = follow_after(alloc, &followed, texts, false, &mut writer);
     let status = answer.map(|(status, _)| status);
     call_ends(alloc, status == Ok(4));
     let lines = written.as_slice();

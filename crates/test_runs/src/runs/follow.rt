@@ -12,7 +12,7 @@ use std::thread::Threads;
 use test_samples::FailingWriter;
 
 // The status where a journal that was read is followed by the three texts of its run, or that the writer failed.
-fn follow<R: AllocGlobal + Abort + Wait, W: Write>(
+fn follow<R: AllocGlobal + Abort, W: Write>(
     rt: &R,
     journal: &[u8],
     [settings, faults, operator]: [&[u8]; 3],
@@ -23,13 +23,13 @@ fn follow<R: AllocGlobal + Abort + Wait, W: Write>(
     let followed = read_rows(rt.alloc(), &mut rows).ok().expect(rt, "memory");
     let texts = Texts::new(settings, faults, operator);
     let mut writer = WatchedWriter::new(writer);
-    let (status, _) = follow_after(rt, &followed, texts, alone, &mut writer)?;
+    let (status, _) = follow_after(rt.alloc(), &followed, texts, alone, &mut writer)?;
     Ok(status)
 }
 
 // What is printed where a journal is followed by the three texts of its run, or what is booked then. It has to end with
 // this status.
-fn followed<R: AllocGlobal + Abort + Wait>(
+fn followed<R: AllocGlobal + Abort>(
     rt: &R,
     journal: &[u8],
     texts: [&[u8]; 3],
@@ -44,7 +44,7 @@ fn followed<R: AllocGlobal + Abort + Wait>(
 }
 
 // A journal has to be followed wholly by these texts: the same is booked, and its counts are printed.
-fn check_whole<R: AllocGlobal + Abort + Wait>(
+fn check_whole<R: AllocGlobal + Abort>(
     rt: &R,
     journal: &[u8],
     texts: [&[u8]; 3],
@@ -125,7 +125,7 @@ const PARTED: [&str; 5] = [
 ];
 
 // A journal of a case has to part so, with status 1, and what is booked then has to be legal.
-fn check_parted<R: AllocGlobal + Abort + Wait>(rt: &R, case: &str) -> Result<(), Fail> {
+fn check_parted<R: AllocGlobal + Abort>(rt: &R, case: &str) -> Result<(), Fail> {
     let (entries, rest) = case.split_once('|').unwrap_or(("", ""));
     let journal = format!(in rt.alloc(); "profile,2,,\n{entries}")?;
     let journal = journal.as_str().as_bytes();
@@ -162,7 +162,7 @@ const REFUSED: [&str; 6] = [
 ];
 
 // The line of a case has to be printed, whether the journal is wanted or not.
-fn check_first<R: AllocGlobal + Abort + Wait>(rt: &R, case: &str, alone: bool) {
+fn check_first<R: AllocGlobal + Abort>(rt: &R, case: &str, alone: bool) {
     let mut parts = case.split('|');
     let journal = parts.next().unwrap_or("").as_bytes();
     let settings = parts.next().unwrap_or("").as_bytes();
@@ -184,7 +184,7 @@ fn the_first_text_that_is_refused_is_told(rt: HostRuntime) {
 const GREEN: &[u8] = b"profile,2,,\nlamp,feed,green,\n";
 
 // That journal is followed over a writer that fails after so many bytes, which has to answer this.
-fn check_cut<R: AllocGlobal + Abort + Wait>(
+fn check_cut<R: AllocGlobal + Abort>(
     rt: &R,
     alone: bool,
     left: usize,
