@@ -1,6 +1,6 @@
 -- One reading more of an axis with switches, whichever it is
 use Rattle.std.proofs.Common.{◌≡◌, ◌≢◌, true, false, Option, Some, None, List, [], ◌∷◌, ◌++◌, length}
-use Rattle.std.proofs.Common.{refl, arith, sym, ap, ◌∙◌, length-set, if◌then◌else◌, subst}
+use Rattle.std.proofs.Common.{ℕ, zero, suc, ◌+◌, refl, arith, sym, ap, ◌∙◌, length-set, if◌then◌else◌, subst}
 use Rattle.std.specs.Option.{option_map}
 use Rattle.cell_types.specs.declared.words.Axis.{Axis}
 use Rattle.cell_types.specs.declared.words.Axis.TheVariants as axis
@@ -20,6 +20,7 @@ use Rattle.cell_turns.specs.Moving.{motion_of_machine}
 use Rattle.cell_turns.specs.Observed.{axis_noted, followed, with_reading}
 use Rattle.cell_sim.specs.Moves.{switch_bit}
 use Rattle.cell_sim.specs.declared.axis.AxisInWorld.{AxisInWorld}
+use Rattle.cell_sim.specs.declared.motion.Moving.{Moving}
 use Rattle.cell_sim.specs.declared.motion.Path.TheVariants.{Poses}
 use Rattle.cell_sim.specs.declared.motion.Phase.TheVariants.{Seen as IsSeen, Between, Arrived}
 use Rattle.cell_sim.specs.Simulated.{Simulated}
@@ -28,10 +29,10 @@ use Rattle.cell_sim.specs.Readings.{advanced, after_reading, is_reading_missing,
 use Rattle.cell_sim.specs.Readings.{switches_of, by_the_hands}
 use Rattle.cell_sim.specs.declared.watch.SafetyRule.{SafetyRule}
 use Rattle.cell_sim.specs.Looks.{is_belt}
-use Rattle.cell_world.specs.Tied.{Given, none, one, two, phase_of, motion_along, only, noted_of, motion_by, Goes}
-use Rattle.cell_world.specs.Tied.{Rests, RestsBy}
-use Rattle.cell_world.proofs.Verdicts.{first_pending, second_pending, third_arrived}
+use Rattle.cell_world.specs.Tied.{Given, none, one, more, further_of, motion_along, motion_by, next_given, noted_of}
+use Rattle.cell_world.specs.Tied.{only, under_way, Goes, IsFair, Rests, RestsBy}
 use Rattle.cell_world.proofs.Steps.{unless, readings_of, followed_as, seen_of, at_same, at_other, went, went_watch}
+use Rattle.cell_world.proofs.Steps.{more_arrived, more_pending, motion_then, noted_more}
 use Rattle.cell_world.proofs.Steps.{goes_on, stays, rest_silent, axes_at, below_nine, made, rests_as, went_left}
 use Rattle.cell_world.specs.Agreeing.{bits_at}
 use Rattle.cell_world.specs.Going.{AxisGoes, AxisCame, AxisStays, AxisGoesOn, IsPlain, OthersRest}
@@ -44,21 +45,6 @@ went_axes : (a : Axis) (at to : Pose) (g : Given) (w : Simulated) → (went a at
 went_axes a at to g w =
     went_left (λ (v : Simulated). v.axes) (record { broken = broke_axes; plates = λ s o n v. refl }) a at to g w
 
-broke_long : (r : SafetyRule) (c : Option Command) (w : Simulated) → (broke r c w).durations ≡ w.durations
-unfolding broke
-broke_long r c w = refl
-
-made_long : (a : Axis) (at to : Pose) (g : Given) (w : Simulated) → (made a at to g w).durations ≡ w.durations
-unfolding made
-made_long a at to none w = refl
-made_long a at to one w = refl
-made_long a at to two w = refl
-
-went_long : (a : Axis) (at to : Pose) (g : Given) (w : Simulated) → (went a at to g w).durations ≡ w.durations
-went_long a at to g w =
-    went_left (λ (v : Simulated). v.durations) (record { broken = broke_long; plates = λ s o n v. refl }) a at to g w
-    ∙ made_long a at to g w
-
 broke_stations : (r : SafetyRule) (c : Option Command) (w : Simulated) → length (broke r c w).plates ≡ length w.plates
 unfolding broke
 broke_stations r c w = refl
@@ -66,9 +52,10 @@ broke_stations r c w = refl
 made_stations : (a : Axis) (at to : Pose) (g : Given) (w : Simulated)
     → length (made a at to g w).plates ≡ length w.plates
 unfolding made
-made_stations a at to none w = refl
-made_stations a at to one w = refl
-made_stations a at to two w = refl
+made_stations a at to (none n) w = refl
+made_stations a at to (one n) w = refl
+made_stations a at to (more n zero) w = refl
+made_stations a at to (more n (suc k)) w = refl
 
 went_stations : (a : Axis) (at to : Pose) (g : Given) (w : Simulated)
     → length (went a at to g w).plates ≡ length w.plates
@@ -79,9 +66,10 @@ went_stations a at to g w =
 
 nine_made : (a : Axis) (at to : Pose) (g : Given) (w : Simulated) → length (made a at to g w).axes ≡ length w.axes
 unfolding made
-nine_made a at to none w = length-set _ _ _
-nine_made a at to one w = length-set _ _ _
-nine_made a at to two w = length-set _ _ _ ∙ length-set _ _ _
+nine_made a at to (none n) w = length-set _ _ _
+nine_made a at to (one n) w = length-set _ _ _
+nine_made a at to (more n (suc k)) w = length-set _ _ _
+nine_made a at to (more n zero) w = length-set _ _ _ ∙ length-set _ _ _
 
 pub went_nine : (a : Axis) (at to : Pose) (g : Given) (w : Simulated) → length (went a at to g w).axes ≡ length w.axes
 went_nine a at to g w = ap (λ (xs : List AxisInWorld). length xs) (went_axes a at to g w) ∙ nine_made a at to g w
@@ -89,10 +77,11 @@ went_nine a at to g w = ap (λ (xs : List AxisInWorld). length xs) (went_axes a 
 other_made : (a b : Axis) (at to : Pose) (g : Given) (w : Simulated) → axis_number b ≢ axis_number a
     → axis_at (made a at to g w) b ≡ axis_at w b
 unfolding made
-other_made a b at to none w h = at_other w a b _ h
-other_made a b at to one w h = at_other w a b _ h
-other_made a b at to two w h =
-    at_other (with_motion a (Some (motion_along (Poses at to) Arrived)) w) a b _ h ∙ at_other w a b _ h
+other_made a b at to (none n) w h = at_other w a b _ h
+other_made a b at to (one n) w h = at_other w a b _ h
+other_made a b at to (more n (suc k)) w h = at_other w a b _ h
+other_made a b at to (more n zero) w h =
+    at_other (with_motion a (Some (motion_along (Poses at to) (n + 0) Arrived)) w) a b _ h ∙ at_other w a b _ h
 
 pub other_went : (a b : Axis) (at to : Pose) (g : Given) (w : Simulated) → axis_number b ≢ axis_number a
     → axis_at (went a at to g w) b ≡ axis_at w b
@@ -100,17 +89,29 @@ other_went a b at to g w h = axes_at (went a at to g w) (made a at to g w) b (we
     ∙ other_made a b at to g w h
 
 abbrev pub moved : Pose → Pose → Given → AxisInWorld → AxisInWorld
-moved at to none x = record x { motion = Some (motion_along (Poses at to) IsSeen) }
-moved at to one x = record x { motion = Some (motion_along (Poses at to) (Between 0)) }
-moved at to two x = record x { pose = to; motion = Some (motion_along (Poses at to) Arrived) }
+moved at to (none n) x = record x { motion = Some (motion_along (Poses at to) n IsSeen) }
+moved at to (one n) x = record x { motion = Some (motion_along (Poses at to) n (Between n)) }
+moved at to (more n zero) x = record x { pose = to; motion = Some (motion_along (Poses at to) (n + 0) Arrived) }
+moved at to (more n (suc k)) x = record x { motion = Some (motion_along (Poses at to) (n + suc k) (Between k)) }
+
+moved_goes : (at to : Pose) (g h : Given) (x : AxisInWorld) → next_given g ≡ Some h → x.pose ≡ at
+    → Goes at to h (moved at to g x)
+moved_goes at to (none n) h x e p =
+    record { pose = p; motion = ap (λ (m : Moving). Some m) (motion_then (Poses at to) (none n) h e) }
+moved_goes at to (one n) h x e p =
+    record { pose = p; motion = ap (λ (m : Moving). Some m) (motion_then (Poses at to) (one n) h e) }
+moved_goes at to (more n zero) h x e p = cc e
+moved_goes at to (more n (suc k)) h x e p =
+    record { pose = p; motion = ap (λ (m : Moving). Some m) (motion_then (Poses at to) (more n (suc k)) h e) }
 
 same_made : (a : Axis) (at to : Pose) (g : Given) (w : Simulated) → length w.axes ≡ 9
     → axis_at (made a at to g w) a ≡ moved at to g (axis_at w a)
 unfolding made
-same_made a at to none w nine = at_same w a _ (below_nine a _ nine)
-same_made a at to one w nine = at_same w a _ (below_nine a _ nine)
-same_made a at to two w nine =
-    let w1 = with_motion a (Some (motion_along (Poses at to) Arrived)) w in
+same_made a at to (none n) w nine = at_same w a _ (below_nine a _ nine)
+same_made a at to (one n) w nine = at_same w a _ (below_nine a _ nine)
+same_made a at to (more n (suc k)) w nine = at_same w a _ (below_nine a _ nine)
+same_made a at to (more n zero) w nine =
+    let w1 = with_motion a (Some (motion_along (Poses at to) (n + 0) Arrived)) w in
     let n1 : length w1.axes ≡ 9 = length-set _ _ _ ∙ nine in
     at_same w1 a _ (below_nine a _ n1)
     ∙ ap (λ (x : AxisInWorld). record x { pose = to }) (at_same w a _ (below_nine a _ nine))
@@ -129,7 +130,7 @@ pub others_of : (J : List Entry) (a : Axis) (w : Simulated) → OthersRest J w a
 others_of J a w o b m h = (o b m h).rests
 
 abbrev Way : Pose → Pose → Given → Axis → Simulated → Type 0
-Way at to g a w = (axis_at w a).motion ≡ Some (motion_along (Poses at to) (phase_of g))
+Way at to g a w = (axis_at w a).motion ≡ Some (under_way (Poses at to) g)
 
 -- an axis that rests stays where it is, before and after the other went on
 waits : (J : List Entry) (b : Axis) (w : Simulated) → Rests (at_of J b) (axis_at w b) → advanced b w ≡ w
@@ -295,12 +296,14 @@ bits_only axis.PressTwo p s h = cc h
 switch_moved : (a : Axis) (at to : Pose) (g : Given) (w : Simulated) → is_belt a ≡ false → length w.axes ≡ 9
     → is_pose_of a at ≡ true → is_pose_of a to ≡ true
     → Some (bits_at a (switches_of (went a at to g w) a)) ≡ seen_of at to g
-switch_moved a at to none w s nine h k =
-    let l = same_went a at to none w nine in let b = bits_only a at s h in rw l (ap (λ x. Some x) b)
-switch_moved a at to one w s nine h k =
-    let l = same_went a at to one w nine in let b = no_bit a in rw l (ap (λ x. Some x) b)
-switch_moved a at to two w s nine h k =
-    let l = same_went a at to two w nine in let b = bits_only a to s k in rw l (ap (λ x. Some x) b)
+switch_moved a at to (none n) w s nine h k =
+    let l = same_went a at to (none n) w nine in let b = bits_only a at s h in rw l (ap (λ x. Some x) b)
+switch_moved a at to (one n) w s nine h k =
+    let l = same_went a at to (one n) w nine in let b = no_bit a in rw l (ap (λ x. Some x) b)
+switch_moved a at to (more n (suc i)) w s nine h k =
+    let l = same_went a at to (more n (suc i)) w nine in let b = no_bit a in rw l (ap (λ x. Some x) b)
+switch_moved a at to (more n zero) w s nine h k =
+    let l = same_went a at to (more n zero) w nine in let b = bits_only a to s k in rw l (ap (λ x. Some x) b)
 
 seen_any : (J : List Entry) (p : Plan) (a : Axis) (to : Pose) (g : Given) (w : Simulated) → is_belt a ≡ false
     → length w.axes ≡ 9 → is_pose_of a (at_of J a) ≡ true → is_pose_of a to ≡ true
@@ -353,7 +356,6 @@ went_plain a at to g w t =
       unwatched = went_watch a at to g w ∙ t.unwatched;
       axes = went_nine a at to g w ∙ t.axes;
       stations = went_stations a at to g w ∙ t.stations;
-      short = went_long a at to g w ∙ t.short;
     }
 
 others_then : (J : List Entry) (a : Axis) (at to : Pose) (g : Given) (w : Simulated) → OthersRest J w a
@@ -377,39 +379,47 @@ goes_any J p a to g g' f f' w t e goes =
       noted = e;
     }
 
-pub any_goes : AxisGoesOn
-any_goes J p a to none f w s fair t =
-    let n = noted_any J p a to none f w s t in
-    let v = after_any J a (at_of J a) to none w t.plain.unwatched s (others_of J a w t.others) t.goes.motion in
-    subst (λ (y : Simulated). AxisStays J p a to one (axis_noted J (machine_of_axis a) p f (shown w
-    (machine_of_axis a))) y) (sym v)
-    (subst (λ (x : Option Following). AxisStays J p a to one x (went a (at_of J a) to none w)) (sym n)
+-- what the watch has noted then
+abbrev Noted : List Entry → Plan → Axis → Option Following → Simulated → Option Following
+Noted J p a f w = axis_noted J (machine_of_axis a) p f (shown w (machine_of_axis a))
+
+stays_on : (J : List Entry) (p : Plan) (a : Axis) (to : Pose) (g h : Given) (f : Option Following) (w : Simulated)
+    → next_given g ≡ Some h → is_belt a ≡ false → IsFair (motion_by J p a to) (further_of g) → AxisGoes J p a to g f w
+    → AxisStays J p a to h (Noted J p a f w) (after_reading w (machine_of_axis a))
+stays_on J p a to g h f w e s fair t =
+    let m = motion_by J p a to in
+    let n = noted_any J p a to g f w s t ∙ noted_more m g h e in
+    let v = after_any J a (at_of J a) to g w t.plain.unwatched s (others_of J a w t.others) t.goes.motion in
+    subst (λ (y : Simulated). AxisStays J p a to h (Noted J p a f w) y) (sym v)
+    (subst (λ (x : Option Following). AxisStays J p a to h x (went a (at_of J a) to g w)) (sym n)
     (record {
-      pending = first_pending (motion_by J p a to) fair;
-      goes = goes_any J p a to none one f _ w t refl (record { pose = t.goes.pose; motion = refl });
+      pending = more_pending m g h e fair;
+      goes = goes_any J p a to g h f (noted_of m h) w t refl
+          (moved_goes (at_of J a) to g h (axis_at w a) e t.goes.pose);
     }))
-any_goes J p a to one f w s fair t =
-    let n = noted_any J p a to one f w s t in
-    let v = after_any J a (at_of J a) to one w t.plain.unwatched s (others_of J a w t.others) t.goes.motion in
-    subst (λ (y : Simulated). AxisStays J p a to two (axis_noted J (machine_of_axis a) p f (shown w
-    (machine_of_axis a))) y) (sym v)
-    (subst (λ (x : Option Following). AxisStays J p a to two x (went a (at_of J a) to one w)) (sym n)
+
+comes_to : (J : List Entry) (p : Plan) (a : Axis) (to : Pose) (i : ℕ) (f : Option Following) (w : Simulated)
+    → is_belt a ≡ false → IsFair (motion_by J p a to) (i + 0) → AxisGoes J p a to (more i zero) f w
+    → AxisCame J p a to (Noted J p a f w) (after_reading w (machine_of_axis a))
+comes_to J p a to i f w s fair t =
+    let g = more i zero in let m = motion_by J p a to in
+    let n = noted_any J p a to g f w s t in
+    let v = after_any J a (at_of J a) to g w t.plain.unwatched s (others_of J a w t.others) t.goes.motion in
+    subst (λ (y : Simulated). AxisCame J p a to (Noted J p a f w) y) (sym v)
+    (subst (λ (x : Option Following). AxisCame J p a to x (went a (at_of J a) to g w)) (sym n)
     (record {
-      pending = second_pending (motion_by J p a to) fair;
-      goes = goes_any J p a to one two f _ w t refl (record { pose = t.goes.pose; motion = refl });
-    }))
-any_goes J p a to two f w s fair t =
-    let n = noted_any J p a to two f w s t in
-    let v = after_any J a (at_of J a) to two w t.plain.unwatched s (others_of J a w t.others) t.goes.motion in
-    subst (λ (y : Simulated). AxisCame J p a to (axis_noted J (machine_of_axis a) p f (shown w
-    (machine_of_axis a))) y) (sym v)
-    (subst (λ (x : Option Following). AxisCame J p a to x (went a (at_of J a) to two w)) (sym n)
-    (record {
-      plain = went_plain a (at_of J a) to two w t.plain;
+      plain = went_plain a (at_of J a) to g w t.plain;
       booked = t.booked;
       to_pose = t.to_pose;
-      came = subst (λ (x : AxisInWorld). Rests to x) (sym (same_went a (at_of J a) to two w t.plain.axes))
-          (record { pose = refl; motion = (at_of J a, refl) });
-      others = others_then J a (at_of J a) to two w t.others;
-      verdict = third_arrived (motion_by J p a to) fair;
+      came = subst (λ (x : AxisInWorld). Rests to x) (sym (same_went a (at_of J a) to g w t.plain.axes))
+          (record { pose = refl; motion = (at_of J a, i + 0, refl) });
+      others = others_then J a (at_of J a) to g w t.others;
+      verdict = more_arrived m g refl fair;
     }))
+
+pub any_goes : AxisGoesOn
+any_goes J p a to (none n) f w s fair t = stays_on J p a to (none n) (one n) f w refl s fair t
+any_goes J p a to (one n) f w s fair t = stays_on J p a to (one n) (more 0 n) f w refl s fair t
+any_goes J p a to (more n (suc k)) f w s fair t =
+    stays_on J p a to (more n (suc k)) (more (suc n) k) f w refl s fair t
+any_goes J p a to (more n zero) f w s fair t = comes_to J p a to n f w s fair t

@@ -1,6 +1,6 @@
 -- What a Started and a Conveyed of a belt do, in the book and in the world
 use Rattle.std.proofs.Common.{◌≡◌, ℕ, true, Option, Some, None, List, [], is_none, refl, sym, ap}
-use Rattle.std.proofs.Common.{◌∙◌, length-set, subst}
+use Rattle.std.proofs.Common.{◌∙◌, ◌-◌, length-set, subst}
 use Rattle.cell_types.specs.declared.words.Command.TheVariants.{Off}
 use Rattle.cell_types.specs.declared.words.Entry.{Entry}
 use Rattle.cell_types.specs.declared.words.Entry.TheVariants.{Started, Conveyed}
@@ -20,17 +20,19 @@ use Rattle.cell_sim.specs.Commands.{after_command, fails, path_of, set_on, set_o
 use Rattle.cell_sim.specs.Parts.{axis_at, plate_at, plate_here, with_motion}
 use Rattle.cell_sim.specs.Readings.{after_reading}
 use Rattle.cell_sim.specs.Simulated.{Simulated}
-use Rattle.cell_world.specs.Tied.{none, two, motion_along}
+use Rattle.cell_world.specs.Tied.{none, more, under_way}
 use Rattle.cell_world.specs.Going.{IsPlain}
 use Rattle.cell_world.specs.Belts.{BeltBrings, BeltEnds, BeltGoes, BeltRests, BeltStarts, Conveying, belt_of}
 use Rattle.cell_world.specs.Belts.{dest_of, from_of, light_of, machine_of, name_of, path_with, to_deposit_end}
 use Rattle.cell_world.specs.Belts.{to_feed_end, to_table}
 use Rattle.cell_world.specs.Handing.{HasBooked}
-use Rattle.cell_world.specs.Starting.{one_more}
+use Rattle.cell_measures.specs.declared.durations.Durations.{Durations}
+use Rattle.cell_measures.specs.Times.{duration}
+use Rattle.cell_world.specs.Starting.{further_in, one_more}
 use Rattle.cell_world.proofs.Belts.{after_belt, gone_plain, gone_to}
 use Rattle.cell_world.proofs.Entries.{at_before, at_now, going_now, starts_it}
 use Rattle.cell_world.proofs.Plates.{Left, handed, moved, number_of, told_left}
-use Rattle.cell_world.proofs.Starts.{begun_short, on_does, ready, ready_part, ready_plain}
+use Rattle.cell_world.proofs.Starts.{on_does, ready, ready_long, ready_part, ready_plain}
 use Rattle.cell_world.proofs.Steps.{at_same, below_nine, same_axes, unlooked}
 
 -- the belt sets out with the plate that lies at the motion's beginning
@@ -41,24 +43,25 @@ carries to_table w = refl
 carries to_deposit_end w = refl
 
 sent_on : Conveying → Plate → Simulated → Simulated
-sent_on c k w = with_motion (belt_of c) (Some (motion_along (path_with c k) Begun)) w
+sent_on c k w =
+    with_motion (belt_of c) (Some (under_way (path_with c k) (none (further_in w (belt_of c) (name_of c))))) w
 
-sets_out : (c : Conveying) (k : Plate) (w : Simulated) → IsPlain w → plate_here w (from_of c) ≡ Some k
+sets_out : (c : Conveying) (k : Plate) (w : Simulated) → plate_here w (from_of c) ≡ Some k
     → set_on (belt_of c) (name_of c) None w ≡ sent_on c k w
 unfolding set_out sent_on
-sets_out c k w t h =
+sets_out c k w h =
     ap (λ (o : Option Path). set_out (belt_of c) (name_of c) None o w) (carries c w)
-    ∙ ap (λ (m : Moving). with_motion (belt_of c) (Some m) w)
-    (begun_short (belt_of c) (name_of c) (Stations (from_of c) (dest_of c) (plate_at w (from_of c))) w t
-    ∙ ap (λ (o : Option ℕ). motion_along (Stations (from_of c) (dest_of c) o) Begun) (ap number_of h))
+    ∙ ap (λ (o : Option ℕ). with_motion (belt_of c) (Some (under_way (Stations (from_of c) (dest_of c) o)
+    (none (further_in w (belt_of c) (name_of c))))) w) (ap number_of h)
 
 sent_plain : (c : Conveying) (k : Plate) (w : Simulated) → IsPlain w → IsPlain (sent_on c k w)
 unfolding sent_on
 sent_plain c k w t =
-    record { unwatched = t.unwatched; axes = length-set _ _ _ ∙ t.axes; stations = t.stations; short = t.short }
+    record { unwatched = t.unwatched; axes = length-set _ _ _ ∙ t.axes; stations = t.stations }
 
 sent_motion : (c : Conveying) (k : Plate) (w : Simulated) → IsPlain w
-    → (axis_at (sent_on c k w) (belt_of c)).motion ≡ Some (motion_along (path_with c k) Begun)
+    → (axis_at (sent_on c k w) (belt_of c)).motion
+    ≡ Some (under_way (path_with c k) (none (further_in w (belt_of c) (name_of c))))
 unfolding sent_on
 sent_motion c k w t =
     ap (λ (x : AxisInWorld). x.motion) (at_same w (belt_of c) _ (below_nine (belt_of c) _ t.axes))
@@ -84,8 +87,9 @@ pub belt_starts : BeltStarts
 belt_starts J p c k f w t red here empty =
     let a = belt_of c in let e = Started a (name_of c) in let r = ready a w in
     let plain = ready_plain a w t.plain in
-    let so = on_does a (name_of c) w t.plain ∙ sets_out c k r plain (ready_here c w (from_of c) ∙ here) in
-    subst (λ (v : Simulated). BeltGoes (one_more J e) p c k none f v) (sym so)
+    let so = on_does a (name_of c) w t.plain ∙ sets_out c k r (ready_here c w (from_of c) ∙ here) in
+    let long = ready_long a w in
+    subst (λ (v : Simulated). BeltGoes (one_more J e) p c k (none (further_in w a (name_of c))) f v) (sym so)
     (record {
       plain = sent_plain c k r plain;
       booked = going_now J e a (Some (name_of c)) (starts_it a (name_of c));
@@ -93,7 +97,11 @@ belt_starts J p c k f w t red here empty =
       red = sent_light c k w ∙ red;
       here = sent_here c k w (from_of c) ∙ here;
       empty = sent_here c k w (dest_of c) ∙ empty;
-      goes = sent_motion c k r plain;
+      goes = sent_motion c k r plain
+          ∙ ap (λ (d : Durations). Some (under_way (path_with c k) (none (duration d (record {
+            axis = a;
+            to = name_of c;
+          }) - 1)))) long;
       noted = t.unnoted;
     })
 
@@ -110,7 +118,7 @@ off_does to_deposit_end w t = unlooked (Some (Off (belt_of to_deposit_end))) (st
 stopped_plain : (c : Conveying) (w : Simulated) → IsPlain w → IsPlain (stopped c w)
 unfolding stopped
 stopped_plain c w t =
-    record { unwatched = t.unwatched; axes = length-set _ _ _ ∙ t.axes; stations = t.stations; short = t.short }
+    record { unwatched = t.unwatched; axes = length-set _ _ _ ∙ t.axes; stations = t.stations }
 
 stopped_still : (c : Conveying) (w : Simulated) → IsPlain w → (axis_at (stopped c w) (belt_of c)).motion ≡ None
 unfolding stopped
@@ -136,25 +144,25 @@ belt_ends J c k f w t =
     })
 
 -- the plates then
-pub brought_plates : (c : Conveying) (k : Plate) (w : Simulated) (s : Station)
-    → plate_at (stopped c (gone_to c k two w)) s ≡ plate_at (moved (from_of c) (dest_of c) w) s
+pub brought_plates : (c : Conveying) (k : Plate) (n : ℕ) (w : Simulated) (s : Station)
+    → plate_at (stopped c (gone_to c k (more n 0) w)) s ≡ plate_at (moved (from_of c) (dest_of c) w) s
 unfolding stopped moved
-brought_plates c k w s = refl
+brought_plates c k n w s = refl
 
 number_here : (J : List Entry) (w : Simulated) (s : Station) (o : Option Plate) → Good J → HasBooked J w s
     → plate_here w s ≡ o → Left J s ≡ number_of o
 number_here J w s o g b h = sym (told_left J s g) ∙ (sym b ∙ ap number_of h)
 
 pub belt_brings : BeltBrings
-belt_brings l J p c k f w law free t b d s bs =
+belt_brings l J p c k n f w law free t b d s bs =
     let e = Conveyed (belt_of c) k.number (dest_of c) in
     let g = good_when_legal l J law in
     let ok : allowed l J e ≡ true = ap (λ (o : Option Refusal). is_none o) free in
     let v = after_reading w (machine_of c) in
-    let read = after_belt J p c k two f w t in
-    let plain : IsPlain v = subst (λ (x : Simulated). IsPlain x) (sym read) (gone_plain c k two w t.plain) in
+    let read = after_belt J p c k (more n 0) f w t in
+    let plain : IsPlain v = subst (λ (x : Simulated). IsPlain x) (sym read) (gone_plain c k (more n 0) w t.plain) in
     ap (λ (x : Simulated). plate_at x s) (off_does c v plain)
     ∙ (ap (λ (x : Simulated). plate_at (stopped c x) s) read
-    ∙ (brought_plates c k w s
+    ∙ (brought_plates c k n w s
     ∙ handed J w e k.number (from_of c) (dest_of c) s g (good_step l J e g ok) t.plain refl
     (number_here J w (from_of c) (Some k) g b t.here) (number_here J w (dest_of c) None g d t.empty) b bs))

@@ -1,6 +1,6 @@
 -- What a reading of a belt's machine leaves of the other belt
 use Rattle.std.proofs.Common.{◌≡◌, ◌≢◌, ℕ, Bool, true, false, ◌&&◌, ◌||◌, inl, inr, Option, Some, None, List, refl, sym}
-use Rattle.std.proofs.Common.{◌∙◌, subst, arith}
+use Rattle.std.proofs.Common.{◌∙◌, subst, arith, zero, suc, ◌+◌}
 use Rattle.std.specs.Prelude.{◌+◌}
 use Rattle.cell_types.specs.declared.words.Colour.TheVariants as colour
 use Rattle.cell_types.specs.declared.words.Entry.{Entry}
@@ -21,7 +21,7 @@ use Rattle.cell_world.specs.Agreeing.{has_belt}
 use Rattle.cell_world.specs.Belts.{Conveying, EndsAsBefore, belt_of, dest_of, from_of, light_of, machine_of, path_with}
 use Rattle.cell_world.specs.Belts.{to_deposit_end, to_feed_end, to_table}
 use Rattle.cell_world.specs.BeltTurning.{IsBeltTied, way_of}
-use Rattle.cell_world.specs.Tied.{Given, none, one, two, motion_along}
+use Rattle.cell_world.specs.Tied.{Given, none, one, more, motion_along}
 use Rattle.cell_world.proofs.BeltAgrees.{its_belt}
 use Rattle.cell_world.proofs.BeltReads.{after_still, way_is}
 use Rattle.cell_world.proofs.Belts.{after_belt, gone_to}
@@ -135,23 +135,27 @@ hands_other machine.Press2 d w b h = let x : false ≡ true = b in cc x
 
 gone_light : (c d : Conveying) (k : Plate) (g : Given) (w : Simulated)
     → light_of d (gone_to c k g w) ≡ light_of d w
-gone_light c to_feed_end k none w = refl
-gone_light c to_feed_end k one w = refl
-gone_light c to_feed_end k two w = refl
-gone_light c to_table k none w = refl
-gone_light c to_table k one w = refl
-gone_light c to_table k two w = refl
-gone_light c to_deposit_end k none w = refl
-gone_light c to_deposit_end k one w = refl
-gone_light c to_deposit_end k two w = refl
+gone_light c to_feed_end k (none n) w = refl
+gone_light c to_feed_end k (one n) w = refl
+gone_light c to_feed_end k (more n zero) w = refl
+gone_light c to_feed_end k (more n (suc j)) w = refl
+gone_light c to_table k (none n) w = refl
+gone_light c to_table k (one n) w = refl
+gone_light c to_table k (more n zero) w = refl
+gone_light c to_table k (more n (suc j)) w = refl
+gone_light c to_deposit_end k (none n) w = refl
+gone_light c to_deposit_end k (one n) w = refl
+gone_light c to_deposit_end k (more n zero) w = refl
+gone_light c to_deposit_end k (more n (suc j)) w = refl
 
 gone_here : (c : Conveying) (k : Plate) (g : Given) (w : Simulated) (t : Station)
     → station_number t ≢ station_number (from_of c) → station_number t ≢ station_number (dest_of c)
     → plate_here (gone_to c k g w) t ≡ plate_here w t
-gone_here c k none w t d e = refl
-gone_here c k one w t d e = refl
-gone_here c k two w t d e =
-    let v = with_motion (belt_of c) (Some (motion_along (path_with c k) Arrived)) w in
+gone_here c k (none n) w t d e = refl
+gone_here c k (one n) w t d e = refl
+gone_here c k (more n (suc j)) w t d e = refl
+gone_here c k (more n zero) w t d e =
+    let v = with_motion (belt_of c) (Some (motion_along (path_with c k) (n + 0) Arrived)) w in
     here_before (dest_of c) t (plate_here w (from_of c)) (with_plate (from_of c) None v) e
     ∙ here_before (from_of c) t None v d
 

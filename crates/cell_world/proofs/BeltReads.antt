@@ -1,6 +1,6 @@
 -- What a reading of a belt's machine leaves
 use Rattle.std.proofs.Common.{◌≡◌, ◌≢◌, ℕ, Bool, true, false, not, ◌&&◌, ◌||◌, ◌==◌, ◌⊎◌, inl, inr, Option, Some, None}
-use Rattle.std.proofs.Common.{List, is_some, refl, sym, ap, ◌∙◌, subst}
+use Rattle.std.proofs.Common.{zero, suc, ◌+◌, List, is_some, refl, sym, ap, ◌∙◌, subst}
 use Rattle.std.specs.Option.{option_map}
 use Rattle.std.specs.Prelude.{◌+◌}
 use Rattle.cell_types.specs.declared.words.Axis.{Axis}
@@ -38,22 +38,22 @@ use Rattle.cell_sim.specs.Readings.{laid_in, new_plate, next_laid, plate_laid, p
 use Rattle.cell_sim.specs.Readings.{senses_by, shown}
 use Rattle.cell_sim.specs.Simulated.{Simulated}
 use Rattle.cell_world.specs.Agreeing.{has_belt}
-use Rattle.cell_world.specs.Belts.{BeltCame, BeltGoes, BeltRests, Conveying, belt_of, machine_of, name_of}
+use Rattle.cell_world.specs.Belts.{BeltCame, BeltGoes, BeltRests, BeltStays, Conveying, belt_of, machine_of, name_of}
 use Rattle.cell_world.specs.Belts.{to_deposit_end, to_feed_end, to_table}
 use Rattle.cell_world.specs.BeltTurning.{BeltTurnBegins, IsBeltTied, StationsAsBooked, way_of}
 use Rattle.cell_world.specs.Laying.{NoneIsLaid, OneIsLaid, OneIsTaken}
 use Rattle.cell_world.specs.Handing.{HasBooked}
 use Rattle.cell_world.specs.Sensing.{ReadingAgreesAt, is_looked_at}
-use Rattle.cell_world.specs.Starting.{RobotStands}
+use Rattle.cell_world.specs.Starting.{RobotMayStand, further_in}
 use Rattle.cell_world.specs.Tie.{IsFairPlan}
-use Rattle.cell_world.specs.Tied.{Given, none, one, two, IsFair, motion_by}
+use Rattle.cell_world.specs.Tied.{Given, none, one, more, IsFair, further_of, motion_by, next_given}
 use Rattle.cell_world.specs.Going.{IsPlain}
 use Rattle.cell_world.proofs.BeltAgrees.{agrees_at, belt_agrees, its_axis, read_still, shown_still}
 use Rattle.cell_world.proofs.Belts.{after_belt, belt_goes_on, gone_to}
 use Rattle.cell_world.proofs.Laying.{hands_booked, stations_before}
 use Rattle.cell_world.proofs.Read.{hands_leave}
 use Rattle.cell_world.proofs.RestPending.{agrees_pending}
-use Rattle.cell_world.proofs.Steps.{either}
+use Rattle.cell_world.proofs.Steps.{either, fair_more}
 use Rattle.cell_world.proofs.Turns.{Agreed, Noted, Verdicts, not_robot, stands_by}
 
 -- a belt has one axis, whichever its motion
@@ -95,14 +95,15 @@ not_the_robot to_deposit_end = not_robot machine.Deposit refl
 pub record IsRead (J : List Entry) (p : Plan) (m : Machine) (f : Option Following) (w : Simulated) : Type 0 where
   pub tied : IsBeltTied J p m f w
   pub stations : StationsAsBooked J p w
-  pub robot : RobotStands J w
+  pub robot : RobotMayStand J w
 
 -- and what one finds that finds it
 pub record HasCome (J : List Entry) (p : Plan) (m : Machine) (s : Mind) (w : Simulated) : Type 0 where
   pub way : Conveying
   pub plate : Plate
   pub of : machine_of way ≡ m
-  pub goes : BeltGoes J p way plate two s.axis w
+  pub further : ℕ
+  pub goes : BeltGoes J p way plate (more further 0) s.axis w
   pub came : BeltCame J way plate (Noted J p m s w) (after_reading w m)
 
 abbrev pub Went : List Entry → Plan → Machine → Mind → Simulated → Type 0
@@ -142,7 +143,7 @@ nothing_noted J p c f w r t =
     ap (λ (x : Option Following). option_map (with_reading r) (followed x (motion_of_machine J p m))) t.unnoted
     ∙ ap (λ (o : Option Motion). option_map (with_reading r) (followed None o)) (no_motion J p c t.booked)
 
-still_reads : (J : List Entry) (p : Plan) (c : Conveying) (s : Mind) (w : Simulated) → RobotStands J w
+still_reads : (J : List Entry) (p : Plan) (c : Conveying) (s : Mind) (w : Simulated) → RobotMayStand J w
     → StationsAsBooked J p w → BeltRests J c s.axis w → Went J p (machine_of c) s w
 still_reads J p c s w r st t =
     let m = machine_of c in let u = by_the_hands w m in
@@ -173,64 +174,78 @@ name_apart to_feed_end = refl
 name_apart to_table = refl
 name_apart to_deposit_end = refl
 
-fair_of : (J : List Entry) (p : Plan) (c : Conveying) → IsFairPlan p → at_of J (belt_of c) ≡ pose.Rest
-    → IsFair (motion_by J p (belt_of c) (name_of c))
-fair_of J p c fair h =
+pub fair_of : (J : List Entry) (p : Plan) (c : Conveying) (w : Simulated) → IsFairPlan p w
+    → at_of J (belt_of c) ≡ pose.Rest
+    → IsFair (motion_by J p (belt_of c) (name_of c)) (further_in w (belt_of c) (name_of c))
+fair_of J p c w fair h =
     record {
       elsewhere = ap (λ (q : Pose). place_in_axis (name_of c) == place_in_axis q) h ∙ name_apart c;
-      leave = (fair (belt_of c)).0;
-      limit = (fair (belt_of c)).1;
+      leave = (fair (belt_of c) (name_of c)).0;
+      limit = (fair (belt_of c) (name_of c)).1;
     }
 
-goes_stations : (J : List Entry) (p : Plan) (c : Conveying) (k : Plate) (w : Simulated) → StationsAsBooked J p w
-    → StationsAsBooked J p (gone_to c k none w) × StationsAsBooked J p (gone_to c k one w)
-goes_stations J p c k w t = (
-  stations_before J J p w (gone_to c k none w) (λ b. refl) refl refl
-      (record { part = refl; light = refl; laid = λ g. refl; taken = λ g. refl; booked = λ u h. h }) t,
-  stations_before J J p w (gone_to c k one w) (λ b. refl) refl refl
-      (record { part = refl; light = refl; laid = λ g. refl; taken = λ g. refl; booked = λ u h. h }) t,
-)
+goes_stations : (J : List Entry) (p : Plan) (c : Conveying) (k : Plate) (g h : Given) (w : Simulated)
+    → next_given g ≡ Some h → StationsAsBooked J p w → StationsAsBooked J p (gone_to c k g w)
+goes_stations J p c k (none n) h w e t =
+    stations_before J J p w (gone_to c k (none n) w) (λ b. refl) refl refl
+    (record { part = refl; light = refl; laid = λ g. refl; taken = λ g. refl; booked = λ u i. i }) t
+goes_stations J p c k (one n) h w e t =
+    stations_before J J p w (gone_to c k (one n) w) (λ b. refl) refl refl
+    (record { part = refl; light = refl; laid = λ g. refl; taken = λ g. refl; booked = λ u i. i }) t
+goes_stations J p c k (more n (suc j)) h w e t =
+    stations_before J J p w (gone_to c k (more n (suc j)) w) (λ b. refl) refl refl
+    (record { part = refl; light = refl; laid = λ g. refl; taken = λ g. refl; booked = λ u i. i }) t
+goes_stations J p c k (more n zero) h w e t = cc e
+
+stays_read : (J : List Entry) (p : Plan) (c : Conveying) (k : Plate) (g h : Given) (s : Mind) (w : Simulated)
+    → next_given g ≡ Some h → IsFair (motion_by J p (belt_of c) (name_of c)) (further_of g) → RobotMayStand J w
+    → StationsAsBooked J p w → BeltGoes J p c k g s.axis w
+    → BeltStays J p c k h (Noted J p (machine_of c) s w) (after_reading w (machine_of c))
+    → Went J p (machine_of c) s w
+stays_read J p c k g h s w e fair r st t x =
+    inl (
+      x.pending,
+      record {
+        tied = inr (record {
+          way = c;
+          plate = k;
+          given = h;
+          of = refl;
+          fair = fair_more (motion_by J p (belt_of c) (name_of c)) g h e fair;
+          goes = x.goes;
+        });
+        stations = subst (λ (v : Simulated). StationsAsBooked J p v) (sym (after_belt J p c k g s.axis w t))
+            (goes_stations J p c k g h w e st);
+        robot = stands_by J w (machine_of c) t.plain (not_the_robot c) r;
+      },
+    )
 
 carries_reads : (J : List Entry) (p : Plan) (c : Conveying) (k : Plate) (g : Given) (s : Mind) (w : Simulated)
-    → IsFairPlan p → RobotStands J w → StationsAsBooked J p w → BeltGoes J p c k g s.axis w
-    → Went J p (machine_of c) s w
-carries_reads J p c k none s w fair r st t =
-    let x = belt_goes_on J p c k none s.axis w (fair_of J p c fair t.home) t in
-    inl (
-      x.pending,
-      record {
-        tied = inr (record { way = c; plate = k; given = one; of = refl; goes = x.goes });
-        stations = subst (λ (v : Simulated). StationsAsBooked J p v) (sym (after_belt J p c k none s.axis w t))
-            (goes_stations J p c k w st).0;
-        robot = stands_by J w (machine_of c) t.plain (not_the_robot c) r;
-      },
-    )
-carries_reads J p c k one s w fair r st t =
-    let x = belt_goes_on J p c k one s.axis w (fair_of J p c fair t.home) t in
-    inl (
-      x.pending,
-      record {
-        tied = inr (record { way = c; plate = k; given = two; of = refl; goes = x.goes });
-        stations = subst (λ (v : Simulated). StationsAsBooked J p v) (sym (after_belt J p c k one s.axis w t))
-            (goes_stations J p c k w st).1;
-        robot = stands_by J w (machine_of c) t.plain (not_the_robot c) r;
-      },
-    )
-carries_reads J p c k two s w fair r st t =
+    → IsFair (motion_by J p (belt_of c) (name_of c)) (further_of g) → RobotMayStand J w → StationsAsBooked J p w
+    → BeltGoes J p c k g s.axis w → Went J p (machine_of c) s w
+carries_reads J p c k (none n) s w fair r st t =
+    stays_read J p c k (none n) (one n) s w refl fair r st t (belt_goes_on J p c k (none n) s.axis w fair t)
+carries_reads J p c k (one n) s w fair r st t =
+    stays_read J p c k (one n) (more 0 n) s w refl fair r st t (belt_goes_on J p c k (one n) s.axis w fair t)
+carries_reads J p c k (more n (suc j)) s w fair r st t =
+    stays_read J p c k (more n (suc j)) (more (suc n) j) s w refl fair r st t
+    (belt_goes_on J p c k (more n (suc j)) s.axis w fair t)
+carries_reads J p c k (more n zero) s w fair r st t =
     inr (record {
       way = c;
       plate = k;
       of = refl;
+      further = n;
       goes = t;
-      came = belt_goes_on J p c k two s.axis w (fair_of J p c fair t.home) t;
+      came = belt_goes_on J p c k (more n zero) s.axis w fair t;
     })
 
 pub belt_reads : (J : List Entry) (p : Plan) (m : Machine) (s : Mind) (w : Simulated) → has_belt m ≡ true
-    → IsFairPlan p → RobotStands J w → StationsAsBooked J p w → IsBeltTied J p m s.axis w → Went J p m s w
-belt_reads J p m s w b fair r st (inl t) =
+    → RobotMayStand J w → StationsAsBooked J p w → IsBeltTied J p m s.axis w → Went J p m s w
+belt_reads J p m s w b r st (inl t) =
     subst (λ (x : Machine). Went J p x s w) (way_is m b) (still_reads J p (way_of m) s w r st t)
-belt_reads J p m s w b fair r st (inr t) =
-    subst (λ (x : Machine). Went J p x s w) t.of (carries_reads J p t.way t.plate t.given s w fair r st t.goes)
+belt_reads J p m s w b r st (inr t) =
+    subst (λ (x : Machine). Went J p x s w) t.of (carries_reads J p t.way t.plate t.given s w t.fair r st t.goes)
 
 -- ITS READING AGREES WITH WHAT IS EXPECTED
 
@@ -316,9 +331,10 @@ hands_counts machine.Deposit w =
 hands_counts m w = refl
 
 gone_counts : (c : Conveying) (k : Plate) (g : Given) (w : Simulated) → (gone_to c k g w).collisions ≡ w.collisions
-gone_counts c k none w = refl
-gone_counts c k one w = refl
-gone_counts c k two w = refl
+gone_counts c k (none n) w = refl
+gone_counts c k (one n) w = refl
+gone_counts c k (more n zero) w = refl
+gone_counts c k (more n (suc j)) w = refl
 
 pub read_counts : (J : List Entry) (p : Plan) (m : Machine) (f : Option Following) (w : Simulated) → has_belt m ≡ true
     → IsBeltTied J p m f w → (after_reading w m).collisions ≡ w.collisions

@@ -62,16 +62,16 @@ use Rattle.cell_world.specs.BeltTurning.{BeltTurnKeeps, BeltTurnLeaves, IsBeltTi
 use Rattle.cell_world.specs.BeltTurning.{StationsAsBooked, way_of}
 use Rattle.cell_world.specs.Going.{IsPlain}
 use Rattle.cell_world.specs.Laying.{NoneIsLaid, OneIsLaid, admitted_in}
-use Rattle.cell_world.specs.Starting.{after_entry, one_more}
-use Rattle.cell_world.specs.Tied.{none, two, motion_by}
+use Rattle.cell_world.specs.Starting.{after_entry, further_in, one_more}
+use Rattle.cell_world.specs.Tied.{none, more, motion_by}
 use Rattle.cell_world.specs.Turning.{after_turn}
 use Rattle.cell_world.proofs.Agreeing.{second_bit}
 use Rattle.cell_world.proofs.BeltAgrees.{shown_still}
 use Rattle.cell_world.proofs.BeltEntries.{belt_brings, belt_ends, belt_starts, brought_plates, off_does, stopped}
-use Rattle.cell_world.proofs.BeltReads.{IsRead, Went, after_still, belt_agreed, belt_reads}
+use Rattle.cell_world.proofs.BeltReads.{IsRead, Went, after_still, belt_agreed, belt_reads, fair_of}
 use Rattle.cell_world.proofs.BeltReads.{rests_alike, rests_by_hand, tied_plain, way_back}
 use Rattle.cell_world.proofs.Belts.{after_belt, bits_of_three, gone_to, moves_as}
-use Rattle.cell_world.proofs.Clear.{starts_clear}
+use Rattle.cell_world.proofs.Clear.{starts_stay_clear}
 use Rattle.cell_world.proofs.BeltOther.{SparesOther}
 use Rattle.cell_world.proofs.Ends.{started_part}
 use Rattle.cell_world.proofs.Entries.{at_before, going_before}
@@ -84,6 +84,7 @@ use Rattle.cell_world.proofs.Spared.{some_same}
 use Rattle.cell_world.proofs.Turns.{Free, Verdicts, IsCalm, Noted, good_then, plates_as}
 use Rattle.cell_world.proofs.Turns.{ruled_end, ruled_proposes, ruled_signed, started_plates}
 use Rattle.cell_world.proofs.Turns.{useful_wants}
+use Rattle.cell_world.proofs.Long.{fair_then, reading_long}
 use Rattle.cell_world.proofs.BeltWays.{AtBelt, LeftBy, belt_stays, deposit_lit_so, ends_booked, entry_leaves}
 use Rattle.cell_world.proofs.BeltWays.{feed_lit_so, green_rests, lamp_at, lit_as, none_leaves, red_green, red_unless}
 use Rattle.cell_world.proofs.BeltWays.{rests_then}
@@ -211,8 +212,10 @@ started_leaves l J p c s w t r g k allow =
     (inr (record {
       way = c;
       plate = here.0;
-      given = none;
+      given = none (further_in v (belt_of c) (name_of c));
       of = refl;
+      fair = fair_of (one_more J x) p c v (fair_then p w v (reading_long w m) t.begins.fair)
+          (at_before J x (belt_of c) refl ∙ rest.home);
       goes = belt_starts J p c here.0 f v rest red here.1 empty;
     }))
     (stations_after J p x v (after_entry v x) (record { lamps = λ i. refl; admitted = refl; expected = refl })
@@ -225,17 +228,17 @@ started_leaves l J p c s w t r g k allow =
       booked = λ u h. plates_as J x v (after_entry v x) u g k refl
           (started_plates (belt_of c) (name_of c) v u rest.plain) h;
     }) r.stations)
-    (starts_clear J (belt_of c) (name_of c) v rest.plain r.robot (safe_state (one_more J x) k))
+    (starts_stay_clear J (belt_of c) (name_of c) v rest.plain r.robot b.still (safe_state (one_more J x) k))
     (λ d i. started_ends d (belt_of c) (name_of c) v rest.plain)
 
 -- THE END OF A MOTION
 
-come_part : (c : Conveying) (k : Plate) (w : Simulated)
-    → (laying_of (stopped c (gone_to c k two w)) ≡ laying_of w)
-    × ((stopped c (gone_to c k two w)).deposit_light ≡ w.deposit_light)
-    × ((stopped c (gone_to c k two w)).collisions ≡ w.collisions)
+come_part : (c : Conveying) (k : Plate) (n : ℕ) (w : Simulated)
+    → (laying_of (stopped c (gone_to c k (more n 0) w)) ≡ laying_of w)
+    × ((stopped c (gone_to c k (more n 0) w)).deposit_light ≡ w.deposit_light)
+    × ((stopped c (gone_to c k (more n 0) w)).collisions ≡ w.collisions)
 unfolding stopped
-come_part c k w = (refl, refl, refl)
+come_part c k n w = (refl, refl, refl)
 
 stopped_counts : (c : Conveying) (w : Simulated) → (stopped c w).collisions ≡ w.collisions
 unfolding stopped
@@ -247,49 +250,50 @@ stopped_ends c to_feed_end w = record { light = refl; from_end = refl; dest_end 
 stopped_ends c to_table w = record { light = refl; from_end = refl; dest_end = refl }
 stopped_ends c to_deposit_end w = record { light = refl; from_end = refl; dest_end = refl }
 
-come_elsewhere : (c : Conveying) (k : Plate) (w : Simulated) (u : Station)
+come_elsewhere : (c : Conveying) (k : Plate) (n : ℕ) (w : Simulated) (u : Station)
     → station_number u ≢ station_number (dest_of c) → station_number u ≢ station_number (from_of c)
-    → plate_at (stopped c (gone_to c k two w)) u ≡ plate_at w u
-come_elsewhere c k w u d e = brought_plates c k w u ∙ moved_none (from_of c) (dest_of c) u w d e
+    → plate_at (stopped c (gone_to c k (more n 0) w)) u ≡ plate_at w u
+come_elsewhere c k n w u d e = brought_plates c k n w u ∙ moved_none (from_of c) (dest_of c) u w d e
 
-come_first : (J : List Entry) (c : Conveying) (k : Plate) (w : Simulated) → lamp_of J (lamp_at c) ≡ colour.Red
+come_first : (J : List Entry) (c : Conveying) (k : Plate) (n : ℕ) (w : Simulated) → lamp_of J (lamp_at c) ≡ colour.Red
     → lamp_of J belt.Feed ≡ colour.Green
-    → plate_at (stopped c (gone_to c k two w)) station.FeedIn ≡ plate_at w station.FeedIn
-come_first J to_feed_end k w h i = absurd (red_green (lamp_of J belt.Feed) h i)
-come_first J to_table k w h i = absurd (red_green (lamp_of J belt.Feed) h i)
-come_first J to_deposit_end k w h i =
-    come_elsewhere to_deposit_end k w station.FeedIn (omega arith) (omega arith)
+    → plate_at (stopped c (gone_to c k (more n 0) w)) station.FeedIn ≡ plate_at w station.FeedIn
+come_first J to_feed_end k n w h i = absurd (red_green (lamp_of J belt.Feed) h i)
+come_first J to_table k n w h i = absurd (red_green (lamp_of J belt.Feed) h i)
+come_first J to_deposit_end k n w h i =
+    come_elsewhere to_deposit_end k n w station.FeedIn (omega arith) (omega arith)
 
-come_last : (J : List Entry) (c : Conveying) (k : Plate) (w : Simulated) → lamp_of J (lamp_at c) ≡ colour.Red
+come_last : (J : List Entry) (c : Conveying) (k : Plate) (n : ℕ) (w : Simulated) → lamp_of J (lamp_at c) ≡ colour.Red
     → lamp_of J belt.Deposit ≡ colour.Green
-    → plate_at (stopped c (gone_to c k two w)) station.DepEnd ≡ plate_at w station.DepEnd
-come_last J to_feed_end k w h i = come_elsewhere to_feed_end k w station.DepEnd (omega arith) (omega arith)
-come_last J to_table k w h i = come_elsewhere to_table k w station.DepEnd (omega arith) (omega arith)
-come_last J to_deposit_end k w h i = absurd (red_green (lamp_of J belt.Deposit) h i)
+    → plate_at (stopped c (gone_to c k (more n 0) w)) station.DepEnd ≡ plate_at w station.DepEnd
+come_last J to_feed_end k n w h i = come_elsewhere to_feed_end k n w station.DepEnd (omega arith) (omega arith)
+come_last J to_table k n w h i = come_elsewhere to_table k n w station.DepEnd (omega arith) (omega arith)
+come_last J to_deposit_end k n w h i = absurd (red_green (lamp_of J belt.Deposit) h i)
 
 abbrev conveying : Conveying → Plate → Entry
 conveying c k = Conveyed (belt_of c) k.number (dest_of c)
 
-came_leaves : (l : BookLimits) (J : List Entry) (p : Plan) (c : Conveying) (k : Plate) (s : Mind) (w : Simulated)
-    → AtBelt l J p (machine_of c) s w → BeltGoes J p c k two s.axis w
+came_leaves : (l : BookLimits) (J : List Entry) (p : Plan) (c : Conveying) (k : Plate) (n : ℕ) (s : Mind)
+    (w : Simulated) → AtBelt l J p (machine_of c) s w → BeltGoes J p c k (more n 0) s.axis w
     → BeltCame J c k (Noted J p (machine_of c) s w) (after_reading w (machine_of c))
     → first_of l J (conveying c k) ≡ None → LeftBy J p (machine_of c) s w (conveying c k)
-came_leaves l J p c k s w t goes came allow =
+came_leaves l J p c k n s w t goes came allow =
     let m = machine_of c in let x = conveying c k in let v = after_reading w m in let f = Noted J p m s w in
     let st = t.begins.stations in
     let red = sym (lit_as J p c w st) ∙ goes.red in
     let ends = ends_booked J p c w st red in
-    let so = off_does c v came.plain ∙ ap (λ (y : Simulated). stopped c y) (after_belt J p c k two s.axis w goes) in
-    let parts = come_part c k w in
+    let so = off_does c v came.plain ∙ ap (λ (y : Simulated). stopped c y) (after_belt J p c k (more n 0) s.axis w goes)
+    in
+    let parts = come_part c k n w in
     entry_leaves l J p m s w x t (record { unfailed = refl; unasked = refl })
     (inl (rests_alike (one_more J x) c (way_of m) None (after_entry v x) (way_back c) (belt_ends J c k f v came)))
     (stations_after J p x w (after_entry v x) (record { lamps = λ i. refl; admitted = refl; expected = refl })
     (record {
       part = ap laying_of so ∙ parts.0;
       light = ap (λ (y : Simulated). y.deposit_light) so ∙ parts.1;
-      laid = λ i. ap (λ (y : Simulated). plate_at y station.FeedIn) so ∙ come_first J c k w red i;
-      taken = λ i. ap (λ (y : Simulated). plate_at y station.DepEnd) so ∙ come_last J c k w red i;
-      booked = λ u h. belt_brings l J p c k s.axis w t.begins.legal allow goes ends.0 ends.1 u h;
+      laid = λ i. ap (λ (y : Simulated). plate_at y station.FeedIn) so ∙ come_first J c k n w red i;
+      taken = λ i. ap (λ (y : Simulated). plate_at y station.DepEnd) so ∙ come_last J c k n w red i;
+      booked = λ u h. belt_brings l J p c k n s.axis w t.begins.legal allow goes ends.0 ends.1 u h;
     }) st)
     (ap (λ (y : Simulated). y.collisions) (off_does c v came.plain) ∙ stopped_counts c v)
     (λ d i. subst (λ (y : Simulated). EndsAsBefore d v y) (sym (off_does c v came.plain)) (stopped_ends c d v))
@@ -517,11 +521,11 @@ read_leaves l J p m s w e true n t v r g d allow =
     (subst (λ (k : Ruling). IsRuled l J m p.plates k e)
     (ruled_signed J p m s (shown w m) t.begins.as_booked n v t.agreed) d) allow
 
-come_leaves : (l : BookLimits) (J : List Entry) (p : Plan) (c : Conveying) (k : Plate) (s : Mind) (w : Simulated)
-    (e : Option Entry) → AtBelt l J p (machine_of c) s w → BeltGoes J p c k two s.axis w
+come_leaves : (l : BookLimits) (J : List Entry) (p : Plan) (c : Conveying) (k : Plate) (n : ℕ) (s : Mind)
+    (w : Simulated) (e : Option Entry) → AtBelt l J p (machine_of c) s w → BeltGoes J p c k (more n 0) s.axis w
     → BeltCame J c k (Noted J p (machine_of c) s w) (after_reading w (machine_of c))
     → IsDecided l J (machine_of c) p s (shown w (machine_of c)) e → Free l J e → Turned J p (machine_of c) s w e
-come_leaves l J p c k s w e t goes came d allow =
+come_leaves l J p c k n s w e t goes came d allow =
     let m = machine_of c in let st = t.begins.stations in
     let red = sym (lit_as J p c w st) ∙ goes.red in
     let here : plate_of J (from_of c) ≡ Some k.number =
@@ -530,7 +534,7 @@ come_leaves l J p c k s w e t goes came d allow =
     (moves_as J p c goes.booked) came.verdict t.agreed
     ∙ ap books (ending_as J c k.number here) in
     decided_leaves l J p m s w e (conveying c k) (subst (λ (q : Ruling). IsRuled l J m p.plates q e) rules d) allow
-    (λ q. came_leaves l J p c k s w t goes came q)
+    (λ q. came_leaves l J p c k n s w t goes came q)
 
 turn_by : (l : BookLimits) (J : List Entry) (p : Plan) (m : Machine) (s : Mind) (w : Simulated) (e : Option Entry)
     → AtBelt l J p m s w → Good J → Went J p m s w → IsDecided l J m p s (shown w m) e → Free l J e
@@ -540,7 +544,7 @@ turn_by l J p m s w e t g (inl i) d allow =
 turn_by l J p m s w e t g (inr c) d allow =
     subst (λ (y : Machine). AtBelt l J p y s w → BeltCame J c.way c.plate (Noted J p y s w) (after_reading w y)
     → IsDecided l J y p s (shown w y) e → Turned J p y s w e) c.of
-    (λ q o i. come_leaves l J p c.way c.plate s w e q c.goes o i allow) t c.came d
+    (λ q o i. come_leaves l J p c.way c.plate c.further s w e q c.goes o i allow) t c.came d
 
 pub belt_turn_does : (l : BookLimits) (J : List Entry) (p : Plan) (m : Machine) (s : Mind) (w : Simulated)
     (e : Option Entry) → has_belt m ≡ true → BeltTurnBegins l J p m s w → IsDecided l J m p s (shown w m) e
@@ -548,7 +552,7 @@ pub belt_turn_does : (l : BookLimits) (J : List Entry) (p : Plan) (m : Machine) 
 belt_turn_does l J p m s w e b t d allow =
     turn_by l J p m s w e (record { belt = b; begins = t; agreed = belt_agreed l J p m s w b t })
     (good_when_legal l J t.legal)
-    (belt_reads J p m s w b t.fair t.robot t.stations t.as_booked.tied) d allow
+    (belt_reads J p m s w b t.robot t.stations t.as_booked.tied) d allow
 
 pub belt_turn_keeps : BeltTurnKeeps
 belt_turn_keeps l J p m s w e b t d allow = (belt_turn_does l J p m s w e b t d allow).0

@@ -29,6 +29,9 @@ use Rattle.cell_sim.specs.Readings.{after_reading, shown}
 use Rattle.cell_sim.specs.Simulated.{Simulated}
 use Rattle.cell_world.specs.Agreeing.{has_belt}
 use Rattle.cell_world.specs.Belts.{BeltGoes, BeltRests, Conveying, EndsAsBefore, belt_of, dest_of, from_of}
+use Rattle.cell_types.specs.declared.words.Pose.{Pose}
+use Rattle.cell_types.specs.Cell.{machine_of_axis}
+use Rattle.cell_turns.specs.Moving.{limits_of}
 use Rattle.cell_world.specs.Belts.{light_of, machine_of, name_of, to_deposit_end, to_feed_end, to_table}
 use Rattle.cell_world.specs.BeltTurning.{BeltTurnBegins, BeltTurnLeaves, IsBeltTied}
 use Rattle.cell_world.specs.BeltTurning.{StationsAsBooked, way_of}
@@ -36,7 +39,7 @@ use Rattle.cell_world.specs.Handing.{HasBooked}
 use Rattle.cell_world.specs.Laying.{NoneIsLaid, OneIsLaid, OneIsTaken}
 use Rattle.cell_world.specs.Sparing.{IsSpared}
 use Rattle.cell_world.specs.Starting.{after_entry, one_more}
-use Rattle.cell_world.specs.Tied.{Given}
+use Rattle.cell_world.specs.Tied.{Given, IsFair, further_of}
 use Rattle.cell_world.proofs.BeltReads.{IsRead, read_counts}
 use Rattle.cell_world.proofs.BeltReads.{rests_alike, way_back, way_is}
 use Rattle.cell_world.proofs.BeltOther.{SparesOther, ends_then, read_spares_other}
@@ -194,6 +197,11 @@ abbrev pub EndsStay : List Entry → Plan → Machine → Option Following → S
 EndsStay J p m f w v =
     (c : Conveying) (k : Plate) (g : Given) → machine_of c ≡ m → BeltGoes J p c k g f w → EndsAsBefore c w v
 
+belt_owned : (c : Conveying) → machine_of_axis (belt_of c) ≡ machine_of c
+belt_owned to_feed_end = refl
+belt_owned to_table = refl
+belt_owned to_deposit_end = refl
+
 pub belt_stays : (J K : List Entry) (p : Plan) (m : Machine) (f : Option Following) (w v : Simulated)
     → has_belt m ≡ true → IsSpared m J K w v → EndsStay J p m f w v → IsBeltTied J p m f w → IsBeltTied K p m f v
 belt_stays J K p m f w v b s ends (inl t) =
@@ -206,5 +214,11 @@ belt_stays J K p m f w v b s ends (inr t) =
       plate = t.plate;
       given = t.given;
       of = t.of;
+      fair = subst (λ (q : Pose). IsFair (record {
+        axis = belt_of t.way;
+        from = q;
+        to = name_of t.way;
+        limits = limits_of p (belt_of t.way);
+      }) (further_of t.given)) (sym (s.at (belt_of t.way) (belt_owned t.way ∙ t.of))) t.fair;
       goes = kept.0 t.plate t.given (ends t.way t.plate t.given t.of t.goes) t.goes;
     })

@@ -2,7 +2,7 @@
 use Rattle.std.proofs.Common.{◌≡◌, ◌≢◌, Bool, true, false, not, ◌&&◌, ◌||◌, Option, Some, None, List, [], ◌∷◌, ◌++◌}
 use Rattle.std.proofs.Common.{is_some, refl, arith, sym, ap, ◌∙◌, length-set, if◌then◌else◌, subst}
 use Rattle.std.specs.Option.{option_map}
-use Rattle.std.specs.Prelude.{◌+◌}
+use Rattle.std.specs.Prelude.{ℕ, zero, suc, ◌+◌}
 use Rattle.cell_types.specs.declared.words.Axis.TheVariants as axis
 use Rattle.cell_types.specs.declared.words.Colour.TheVariants as colour
 use Rattle.cell_types.specs.declared.words.Entry.{Entry}
@@ -21,7 +21,7 @@ use Rattle.cell_turns.specs.Following.{Following}
 use Rattle.cell_turns.specs.Moving.{motion_of_machine}
 use Rattle.cell_turns.specs.Observed.{axis_noted, followed, with_reading}
 use Rattle.cell_sim.specs.declared.axis.AxisInWorld.{AxisInWorld}
-use Rattle.cell_sim.specs.declared.motion.Phase.{Phase}
+use Rattle.cell_sim.specs.declared.motion.Moving.{Moving}
 use Rattle.cell_sim.specs.declared.motion.Phase.TheVariants.{Seen as IsSeen, Between, Arrived}
 use Rattle.cell_sim.specs.declared.world.Plate.{Plate}
 use Rattle.cell_sim.specs.Simulated.{Simulated}
@@ -33,23 +33,26 @@ use Rattle.cell_sim.specs.Readings.{senses}
 use Rattle.cell_sim.specs.Readings.{shown, shown_now, shown_on}
 use Rattle.cell_sim.specs.Looks.{can_lie, carrying_looked, looked}
 use Rattle.cell_sim.specs.Moves.{goal_of, same_number as same_plate}
-use Rattle.cell_world.specs.Tied.{Given, none, one, two, phase_of, motion_along, noted_of, motion_by}
+use Rattle.cell_world.specs.Tied.{Given, none, one, more, further_of, motion_along, motion_by, next_given, noted_of}
+use Rattle.cell_world.specs.Tied.{IsFair, under_way}
 use Rattle.cell_world.specs.Going.{IsPlain}
 use Rattle.cell_world.specs.Belts.{Conveying, to_feed_end, to_table, to_deposit_end, belt_of, name_of, from_of}
 use Rattle.cell_world.specs.Belts.{dest_of}
 use Rattle.cell_world.specs.Belts.{machine_of, light_of, path_with, BeltCame, BeltGoes, BeltGoesOn, BeltStays}
-use Rattle.cell_world.proofs.Verdicts.{first_pending, second_pending, third_arrived}
+use Rattle.cell_world.proofs.Steps.{more_arrived, more_pending, motion_then, noted_more, phase_then}
 use Rattle.cell_world.proofs.Steps.{unless, readings_of, followed_as, seen_of, at_same, below_nine, unlooked}
 use Rattle.cell_world.proofs.Agreeing.{first_bit, second_bit}
 use Rattle.cell_world.proofs.Plates.{here_before, here_now, number_of, other_station, same_number}
 
 -- the world after the reading
 abbrev pub gone_to : Conveying → Plate → Given → Simulated → Simulated
-gone_to c k none w = with_motion (belt_of c) (Some (motion_along (path_with c k) IsSeen)) w
-gone_to c k one w = with_motion (belt_of c) (Some (motion_along (path_with c k) (Between 0))) w
-gone_to c k two w =
+gone_to c k (none n) w = with_motion (belt_of c) (Some (motion_along (path_with c k) n IsSeen)) w
+gone_to c k (one n) w = with_motion (belt_of c) (Some (motion_along (path_with c k) n (Between n))) w
+gone_to c k (more n zero) w =
     with_plate (dest_of c) (plate_here w (from_of c)) (with_plate (from_of c) None
-    (with_motion (belt_of c) (Some (motion_along (path_with c k) Arrived)) w))
+    (with_motion (belt_of c) (Some (motion_along (path_with c k) (n + 0) Arrived)) w))
+gone_to c k (more n (suc i)) w =
+    with_motion (belt_of c) (Some (motion_along (path_with c k) (n + suc i) (Between i))) w
 
 when : {X : Type 0} (b : Bool) (x y : X) → b ≡ true → (if b then x else y) ≡ x
 when true x y h = refl
@@ -74,18 +77,19 @@ brought c k w u a b =
     ∙ unless (has_plate w (dest_of c)) w _ (ap (λ (o : Option Plate). is_some (number_of o)) b))
 
 abbrev Way : Conveying → Plate → Given → Simulated → Type 0
-Way c k g w = (axis_at w (belt_of c)).motion ≡ Some (motion_along (path_with c k) (phase_of g))
+Way c k g w = (axis_at w (belt_of c)).motion ≡ Some (under_way (path_with c k) g)
 
 belt_goes : (c : Conveying) (k : Plate) (g : Given) (w : Simulated) → w.watch.is_on ≡ false → Way c k g w
     → plate_here w (from_of c) ≡ Some k → plate_here w (dest_of c) ≡ None → advanced (belt_of c) w ≡ gone_to c k g w
 unfolding advanced left_with
-belt_goes c k none w u h a b = rw h refl
-belt_goes c k one w u h a b = rw h refl
-belt_goes c k two w u h a b =
-    let m = motion_along (path_with c k) (Between 0) in
+belt_goes c k (none n) w u h a b = rw h refl
+belt_goes c k (one n) w u h a b = rw h refl
+belt_goes c k (more n (suc i)) w u h a b = rw h refl
+belt_goes c k (more n zero) w u h a b =
+    let m = motion_along (path_with c k) (n + 0) (Between 0) in
     let o = command_of (belt_of c) (goal_of (belt_of c) m) in
-    let v = with_motion (belt_of c) (Some (motion_along (path_with c k) Arrived)) w in
-    let e = ap (λ (x : Simulated). looked o x) (brought c k v u a b) ∙ unlooked o (gone_to c k two w) u in rw h e
+    let v = with_motion (belt_of c) (Some (motion_along (path_with c k) (n + 0) Arrived)) w in
+    let e = ap (λ (x : Simulated). looked o x) (brought c k v u a b) ∙ unlooked o (gone_to c k (more n 0) w) u in rw h e
 
 -- under the red light no plate is laid in or taken
 no_green : (x : Bool) (c : Conveying) (w : Simulated) → light_of c w ≡ colour.Red
@@ -142,18 +146,16 @@ shown_belt J p c k g f w t =
     ∙ ap (λ (v : Simulated). Some (shown_now v m)) (read_belt c k g w t.plain.unwatched t.goes t.here t.empty))
 
 -- the belt's motion and the plates then
-abbrev phase_then : Given → Phase
-phase_then none = IsSeen
-phase_then one = Between 0
-phase_then two = Arrived
-
-motion_then : (c : Conveying) (k : Plate) (g : Given) (w : Simulated) → IsPlain w
-    → (axis_at (gone_to c k g w) (belt_of c)).motion ≡ Some (motion_along (path_with c k) (phase_then g))
-motion_then c k none w t =
+moves_then : (c : Conveying) (k : Plate) (g : Given) (w : Simulated) → IsPlain w
+    → (axis_at (gone_to c k g w) (belt_of c)).motion
+    ≡ Some (motion_along (path_with c k) (further_of g) (phase_then g))
+moves_then c k (none n) w t =
     ap (λ (x : AxisInWorld). x.motion) (at_same w (belt_of c) _ (below_nine (belt_of c) _ t.axes))
-motion_then c k one w t =
+moves_then c k (one n) w t =
     ap (λ (x : AxisInWorld). x.motion) (at_same w (belt_of c) _ (below_nine (belt_of c) _ t.axes))
-motion_then c k two w t =
+moves_then c k (more n zero) w t =
+    ap (λ (x : AxisInWorld). x.motion) (at_same w (belt_of c) _ (below_nine (belt_of c) _ t.axes))
+moves_then c k (more n (suc i)) w t =
     ap (λ (x : AxisInWorld). x.motion) (at_same w (belt_of c) _ (below_nine (belt_of c) _ t.axes))
 
 pub ends_apart : (c : Conveying) → station_number (from_of c) ≢ station_number (dest_of c)
@@ -161,28 +163,27 @@ ends_apart to_feed_end = omega arith
 ends_apart to_table = omega arith
 ends_apart to_deposit_end = omega arith
 
-end_then : (c : Conveying) (k : Plate) (w : Simulated) → IsPlain w → plate_here w (from_of c) ≡ Some k
-    → plate_here (gone_to c k two w) (dest_of c) ≡ Some k
-end_then c k w t a =
-    let v = with_motion (belt_of c) (Some (motion_along (path_with c k) Arrived)) w in
+end_then : (c : Conveying) (k : Plate) (n : ℕ) (w : Simulated) → IsPlain w → plate_here w (from_of c) ≡ Some k
+    → plate_here (gone_to c k (more n 0) w) (dest_of c) ≡ Some k
+end_then c k n w t a =
+    let v = with_motion (belt_of c) (Some (motion_along (path_with c k) (n + 0) Arrived)) w in
     here_now (dest_of c) (plate_here w (from_of c)) (with_plate (from_of c) None v) (length-set _ _ _ ∙ t.stations) ∙ a
 
-in_then : (c : Conveying) (k : Plate) (w : Simulated) → IsPlain w → plate_here (gone_to c k two w) (from_of c) ≡ None
-in_then c k w t =
-    let v = with_motion (belt_of c) (Some (motion_along (path_with c k) Arrived)) w in
+in_then : (c : Conveying) (k : Plate) (n : ℕ) (w : Simulated) → IsPlain w
+    → plate_here (gone_to c k (more n 0) w) (from_of c) ≡ None
+in_then c k n w t =
+    let v = with_motion (belt_of c) (Some (motion_along (path_with c k) (n + 0) Arrived)) w in
     here_before (dest_of c) (from_of c) (plate_here w (from_of c)) (with_plate (from_of c) None v) (ends_apart c)
     ∙ here_now (from_of c) None v t.stations
 
 -- what the sensors at both ends show
 abbrev first_shown : Given → Bool
-first_shown none = true
-first_shown one = false
-first_shown two = false
+first_shown (none n) = true
+first_shown _ = false
 
 abbrev last_shown : Given → Bool
-last_shown none = false
-last_shown one = false
-last_shown two = true
+last_shown (more n zero) = true
+last_shown _ = false
 
 and_false : (b : Bool) → (b && false) ≡ false
 and_false true = refl
@@ -190,21 +191,30 @@ and_false false = refl
 
 first_then : (c : Conveying) (k : Plate) (g : Given) (w : Simulated) → IsPlain w
     → plate_here w (from_of c) ≡ Some k → senses (gone_to c k g w) (belt_of c) (from_of c) ≡ first_shown g
-first_then c k none w t a = let h = motion_then c k none w t in rw h (rw a refl)
-first_then c k one w t a =
-    let h = motion_then c k one w t in let e = same_number k.number k.number refl in
+first_then c k (none n) w t a = let h = moves_then c k (none n) w t in rw h (rw a refl)
+first_then c k (one n) w t a =
+    let h = moves_then c k (one n) w t in let e = same_number k.number k.number refl in
     let s = same_number (station_number (from_of c)) (station_number (from_of c)) refl in
     rw h (rw (a, e, s) refl)
-first_then c k two w t a = let h = motion_then c k two w t in let e = in_then c k w t in rw h (rw e refl)
+first_then c k (more n (suc i)) w t a =
+    let h = moves_then c k (more n (suc i)) w t in let e = same_number k.number k.number refl in
+    let s = same_number (station_number (from_of c)) (station_number (from_of c)) refl in
+    rw h (rw (a, e, s) refl)
+first_then c k (more n zero) w t a =
+    let h = moves_then c k (more n zero) w t in let e = in_then c k n w t in rw h (rw e refl)
 
 last_then : (c : Conveying) (k : Plate) (g : Given) (w : Simulated) → IsPlain w
     → plate_here w (from_of c) ≡ Some k → plate_here w (dest_of c) ≡ None
     → senses (gone_to c k g w) (belt_of c) (dest_of c) ≡ last_shown g
-last_then c k none w t a b = let h = motion_then c k none w t in rw h (rw b refl)
-last_then c k one w t a b =
-    let h = motion_then c k one w t in let s = other_station (dest_of c) (from_of c) (ends_apart c) in
+last_then c k (none n) w t a b = let h = moves_then c k (none n) w t in rw h (rw b refl)
+last_then c k (one n) w t a b =
+    let h = moves_then c k (one n) w t in let s = other_station (dest_of c) (from_of c) (ends_apart c) in
     rw h (rw b (and_false _))
-last_then c k two w t a b = let h = motion_then c k two w t in let e = end_then c k w t a in rw h (rw e refl)
+last_then c k (more n (suc i)) w t a b =
+    let h = moves_then c k (more n (suc i)) w t in let s = other_station (dest_of c) (from_of c) (ends_apart c) in
+    rw h (rw b (and_false _))
+last_then c k (more n zero) w t a b =
+    let h = moves_then c k (more n zero) w t in let e = end_then c k n w t a in rw h (rw e refl)
 
 -- the bits of three sensors
 pub bits_of_three : (x y z : Bool) → (bit (bit_if x 1 + (bit_if y 2 + bit_if z 4)) 0 ≡ x)
@@ -240,11 +250,12 @@ seen_by J p to_deposit_end v =
 
 both_shown : (c : Conveying) (g : Given)
     → Some (first_shown g ∷ last_shown g ∷ false ∷ false ∷ false ∷ false ∷ []) ≡ seen_of pose.Rest (name_of c) g
-both_shown c none = refl
-both_shown c one = refl
-both_shown to_feed_end two = refl
-both_shown to_table two = refl
-both_shown to_deposit_end two = refl
+both_shown c (none n) = refl
+both_shown c (one n) = refl
+both_shown c (more n (suc i)) = refl
+both_shown to_feed_end (more n zero) = refl
+both_shown to_table (more n zero) = refl
+both_shown to_deposit_end (more n zero) = refl
 
 abbrev belt_motion : List Entry → Plan → Conveying → Motion
 belt_motion J p c = motion_by J p (belt_of c) (name_of c)
@@ -283,76 +294,89 @@ noted_belt J p c k g f w t =
 
 -- the world is as plain as before, and the lights are
 pub gone_plain : (c : Conveying) (k : Plate) (g : Given) (w : Simulated) → IsPlain w → IsPlain (gone_to c k g w)
-gone_plain c k none w t =
-    record { unwatched = t.unwatched; axes = length-set _ _ _ ∙ t.axes; stations = t.stations; short = t.short }
-gone_plain c k one w t =
-    record { unwatched = t.unwatched; axes = length-set _ _ _ ∙ t.axes; stations = t.stations; short = t.short }
-gone_plain c k two w t =
+gone_plain c k (none n) w t =
+    record { unwatched = t.unwatched; axes = length-set _ _ _ ∙ t.axes; stations = t.stations }
+gone_plain c k (one n) w t =
+    record { unwatched = t.unwatched; axes = length-set _ _ _ ∙ t.axes; stations = t.stations }
+gone_plain c k (more n (suc i)) w t =
+    record { unwatched = t.unwatched; axes = length-set _ _ _ ∙ t.axes; stations = t.stations }
+gone_plain c k (more n zero) w t =
     record {
       unwatched = t.unwatched;
       axes = length-set _ _ _ ∙ t.axes;
       stations = length-set _ _ _ ∙ (length-set _ _ _ ∙ t.stations);
-      short = t.short;
     }
 
 gone_light : (c : Conveying) (k : Plate) (g : Given) (w : Simulated) → light_of c (gone_to c k g w) ≡ light_of c w
-gone_light to_feed_end k none w = refl
-gone_light to_feed_end k one w = refl
-gone_light to_feed_end k two w = refl
-gone_light to_table k none w = refl
-gone_light to_table k one w = refl
-gone_light to_table k two w = refl
-gone_light to_deposit_end k none w = refl
-gone_light to_deposit_end k one w = refl
-gone_light to_deposit_end k two w = refl
+gone_light to_feed_end k (none n) w = refl
+gone_light to_feed_end k (one n) w = refl
+gone_light to_feed_end k (more n zero) w = refl
+gone_light to_feed_end k (more n (suc i)) w = refl
+gone_light to_table k (none n) w = refl
+gone_light to_table k (one n) w = refl
+gone_light to_table k (more n zero) w = refl
+gone_light to_table k (more n (suc i)) w = refl
+gone_light to_deposit_end k (none n) w = refl
+gone_light to_deposit_end k (one n) w = refl
+gone_light to_deposit_end k (more n zero) w = refl
+gone_light to_deposit_end k (more n (suc i)) w = refl
+
+-- while it isn't at its end no plate moves
+gone_plates : (c : Conveying) (k : Plate) (g h : Given) (w : Simulated) (s : Station) → next_given g ≡ Some h
+    → plate_here (gone_to c k g w) s ≡ plate_here w s
+gone_plates c k (none n) h w s e = refl
+gone_plates c k (one n) h w s e = refl
+gone_plates c k (more n (suc i)) h w s e = refl
+gone_plates c k (more n zero) h w s e = cc e
 
 abbrev Noted : List Entry → Plan → Conveying → Option Following → Simulated → Option Following
 Noted J p c f w = axis_noted J (machine_of c) p f (shown w (machine_of c))
 
-pub belt_goes_on : BeltGoesOn
-belt_goes_on J p c k none f w fair t =
-    let v = gone_to c k none w in
-    subst (λ (y : Simulated). BeltStays J p c k one (Noted J p c f w) y) (sym (after_belt J p c k none f w t))
-    (subst (λ (x : Option Following). BeltStays J p c k one x v) (sym (noted_belt J p c k none f w t))
+-- the motion that is followed begins where the belt is at home
+belt_noted : (J : List Entry) (p : Plan) (c : Conveying) (k : Plate) (g h : Given) (f : Option Following)
+    (w : Simulated) → next_given g ≡ Some h → BeltGoes J p c k g f w → Noted J p c f w ≡ noted_of (belt_motion J p c) h
+belt_noted J p c k g h f w e t = noted_belt J p c k g f w t ∙ noted_more (belt_motion J p c) g h e
+
+stays_on : (J : List Entry) (p : Plan) (c : Conveying) (k : Plate) (g h : Given) (f : Option Following)
+    (w : Simulated) → next_given g ≡ Some h → IsFair (belt_motion J p c) (further_of g) → BeltGoes J p c k g f w
+    → BeltStays J p c k h (Noted J p c f w) (after_reading w (machine_of c))
+stays_on J p c k g h f w e fair t =
+    let v = gone_to c k g w in
+    subst (λ (y : Simulated). BeltStays J p c k h (Noted J p c f w) y) (sym (after_belt J p c k g f w t))
+    (subst (λ (x : Option Following). BeltStays J p c k h x v) (sym (belt_noted J p c k g h f w e t))
     (record {
-      pending = first_pending (belt_motion J p c) fair;
+      pending = more_pending (belt_motion J p c) g h e fair;
       goes = record {
-        plain = gone_plain c k none w t.plain;
+        plain = gone_plain c k g w t.plain;
         booked = t.booked;
         home = t.home;
-        red = gone_light c k none w ∙ t.red;
-        here = t.here;
-        empty = t.empty;
-        goes = motion_then c k none w t.plain;
+        red = gone_light c k g w ∙ t.red;
+        here = gone_plates c k g h w (from_of c) e ∙ t.here;
+        empty = gone_plates c k g h w (dest_of c) e ∙ t.empty;
+        goes = moves_then c k g w t.plain ∙ ap (λ (m : Moving). Some m) (motion_then (path_with c k) g h e);
         noted = refl;
       };
     }))
-belt_goes_on J p c k one f w fair t =
-    let v = gone_to c k one w in
-    subst (λ (y : Simulated). BeltStays J p c k two (Noted J p c f w) y) (sym (after_belt J p c k one f w t))
-    (subst (λ (x : Option Following). BeltStays J p c k two x v) (sym (noted_belt J p c k one f w t))
+
+comes_to : (J : List Entry) (p : Plan) (c : Conveying) (k : Plate) (n : ℕ) (f : Option Following) (w : Simulated)
+    → IsFair (belt_motion J p c) (n + 0) → BeltGoes J p c k (more n zero) f w
+    → BeltCame J c k (Noted J p c f w) (after_reading w (machine_of c))
+comes_to J p c k n f w fair t =
+    let g = more n zero in let v = gone_to c k g w in
+    subst (λ (y : Simulated). BeltCame J c k (Noted J p c f w) y) (sym (after_belt J p c k g f w t))
+    (subst (λ (x : Option Following). BeltCame J c k x v) (sym (noted_belt J p c k g f w t))
     (record {
-      pending = second_pending (belt_motion J p c) fair;
-      goes = record {
-        plain = gone_plain c k one w t.plain;
-        booked = t.booked;
-        home = t.home;
-        red = gone_light c k one w ∙ t.red;
-        here = t.here;
-        empty = t.empty;
-        goes = motion_then c k one w t.plain;
-        noted = refl;
-      };
-    }))
-belt_goes_on J p c k two f w fair t =
-    let v = gone_to c k two w in
-    subst (λ (y : Simulated). BeltCame J c k (Noted J p c f w) y) (sym (after_belt J p c k two f w t))
-    (subst (λ (x : Option Following). BeltCame J c k x v) (sym (noted_belt J p c k two f w t))
-    (record {
-      plain = gone_plain c k two w t.plain;
+      plain = gone_plain c k g w t.plain;
       booked = t.booked;
-      red = gone_light c k two w ∙ t.red;
-      gone = in_then c k w t.plain;
-      there = end_then c k w t.plain t.here;
-      verdict = third_arrived (belt_motion J p c) fair;
+      red = gone_light c k g w ∙ t.red;
+      gone = in_then c k n w t.plain;
+      there = end_then c k n w t.plain t.here;
+      verdict = more_arrived (belt_motion J p c) g refl fair;
     }))
+
+pub belt_goes_on : BeltGoesOn
+belt_goes_on J p c k (none n) f w fair t = stays_on J p c k (none n) (one n) f w refl fair t
+belt_goes_on J p c k (one n) f w fair t = stays_on J p c k (one n) (more 0 n) f w refl fair t
+belt_goes_on J p c k (more n (suc i)) f w fair t =
+    stays_on J p c k (more n (suc i)) (more (suc n) i) f w refl fair t
+belt_goes_on J p c k (more n zero) f w fair t = comes_to J p c k n f w fair t

@@ -1,6 +1,6 @@
 -- What a machine with switches leaves of the belts' ends, of the lights and of the counts of plates laid in
 use Rattle.std.proofs.Common.{◌≡◌, ◌≢◌, ℕ, true, false, inl, inr, Option, Some, None, List, is_some, refl, sym}
-use Rattle.std.proofs.Common.{ap, ◌∙◌, subst}
+use Rattle.std.proofs.Common.{ap, ◌∙◌, subst, zero, suc, ◌+◌}
 use Rattle.cell_types.specs.declared.words.Arm.{Arm}
 use Rattle.cell_types.specs.declared.words.Arm.TheVariants as arm
 use Rattle.cell_types.specs.declared.words.Axis.{Axis}
@@ -39,7 +39,7 @@ use Rattle.cell_world.specs.Going.{IsPlain}
 use Rattle.cell_world.specs.Handing.{IsHanded}
 use Rattle.cell_world.specs.Starting.{after_entry}
 use Rattle.cell_world.specs.Tie.{IsTied}
-use Rattle.cell_world.specs.Tied.{Given, none, one, two, motion_along}
+use Rattle.cell_world.specs.Tied.{Given, none, one, more, motion_along}
 use Rattle.cell_world.proofs.Any.{after_any, others_of}
 use Rattle.cell_world.proofs.Hands.{drop_hands, drop_moves, drops_there, grip_hands, grip_moves, grips_there}
 use Rattle.cell_world.proofs.Laying.{laying_of}
@@ -90,16 +90,18 @@ broke_light r c w = refl
 
 made_part : (a : Axis) (at to : Pose) (g : Given) (w : Simulated) → laying_of (made a at to g w) ≡ laying_of w
 unfolding made
-made_part a at to none w = refl
-made_part a at to one w = refl
-made_part a at to two w = refl
+made_part a at to (none n) w = refl
+made_part a at to (one n) w = refl
+made_part a at to (more n zero) w = refl
+made_part a at to (more n (suc k)) w = refl
 
 made_light : (a : Axis) (at to : Pose) (g : Given) (w : Simulated)
     → (made a at to g w).deposit_light ≡ w.deposit_light
 unfolding made
-made_light a at to none w = refl
-made_light a at to one w = refl
-made_light a at to two w = refl
+made_light a at to (none n) w = refl
+made_light a at to (one n) w = refl
+made_light a at to (more n zero) w = refl
+made_light a at to (more n (suc k)) w = refl
 
 there_here : (a : Axis) (s t : Station) (o : Option Plate) (w : Simulated) → station_number t ≢ station_number s
     → plate_here (forged_there a s o w) t ≡ plate_here w t
@@ -122,10 +124,11 @@ forges_here a t w d e = refl
 went_here : (a : Axis) (at to : Pose) (g : Given) (t : Station) (w : Simulated)
     → station_number t ≢ station_number station.Press1 → station_number t ≢ station_number station.Press2
     → plate_here (went a at to g w) t ≡ plate_here w t
-went_here a at to none t w d e = refl
-went_here a at to one t w d e = refl
-went_here a at to two t w d e =
-    let v = with_pose a to (with_motion a (Some (motion_along (Poses at to) Arrived)) w) in
+went_here a at to (none n) t w d e = refl
+went_here a at to (one n) t w d e = refl
+went_here a at to (more n (suc k)) t w d e = refl
+went_here a at to (more n zero) t w d e =
+    let v = with_pose a to (with_motion a (Some (motion_along (Poses at to) (n + 0) Arrived)) w) in
     either (λ (x : Simulated). plate_here x t) (same_pose to pose.Top) (forges a v) v (plate_here w t)
     (forges_here a t v d e) refl
 

@@ -8,7 +8,6 @@ use Rattle.cell_types.specs.declared.words.Axis.{Axis}
 use Rattle.cell_types.specs.declared.words.Entry.{Entry}
 use Rattle.cell_types.specs.declared.words.Entry.TheVariants.{Declared, Repaired, StopAsked}
 use Rattle.cell_types.specs.declared.words.Machine.{Machine}
-use Rattle.cell_types.specs.declared.words.Machine.TheVariants as machine
 use Rattle.cell_types.specs.declared.words.Pose.{Pose}
 use Rattle.cell_types.specs.Cell.{machine_of_axis}
 use Rattle.cell_types.specs.Entries.{machine_of_entry}
@@ -22,24 +21,20 @@ use Rattle.cell_rules.proofs.Safe.Facts.{machine_same}
 use Rattle.cell_rules.proofs.Safe.Views.{view_snoc}
 use Rattle.cell_ports.specs.declared.plan.Plan.{Plan}
 use Rattle.cell_turns.specs.Minds.{Mind}
-use Rattle.cell_turns.specs.Turns.{mind_after}
 use Rattle.cell_sim.specs.Parts.{axis_at}
-use Rattle.cell_sim.specs.Readings.{after_reading, shown}
+use Rattle.cell_sim.specs.Readings.{after_reading}
 use Rattle.cell_sim.specs.Simulated.{Simulated}
 use Rattle.cell_turns.specs.Following.{Following}
 use Rattle.cell_world.specs.Going.{AxisGoes, IsAtRest, IsPlain}
 use Rattle.cell_world.specs.Tie.{IsTied}
 use Rattle.cell_world.specs.Sparing.{IsSpared}
-use Rattle.cell_world.specs.Starting.{RobotStands}
-use Rattle.cell_world.specs.Switched.{AxisAsBooked, BookIsWorld, OthersKept, SwitchesKept}
+use Rattle.cell_world.specs.Switched.{AxisAsBooked, BookIsWorld, OthersKept}
 use Rattle.cell_world.specs.Tied.{Given, Goes}
 use Rattle.cell_world.specs.Turning.{AsBooked, IsAsBooked, after_turn}
 use Rattle.cell_world.proofs.Begins.{some_not}
-use Rattle.cell_world.proofs.Machines.{tied_stands}
 use Rattle.cell_world.proofs.Read.{reading_spares}
 use Rattle.cell_world.proofs.Spared.{entry_spares, some_same, spared_stays}
 use Rattle.cell_world.proofs.Steps.{each_axis, not_true}
-use Rattle.cell_world.proofs.Turns.{tied_plain, turn_keeps}
 
 -- a machine's entry fails no other machine, and asks none to stop
 other_no : (k m n : Machine) → Some k ≡ Some m → m ≢ n → same_machine k n ≡ false
@@ -96,7 +91,7 @@ others_kept J p m n s w e t d h i =
     (λ k. spared_stays J K p n s.axis w v (turn_spared J w m n e t d h) k) i
 
 -- the turn's own machine, and each other one
-same_machines : (m : Machine) → same_machine m m ≡ true
+pub same_machines : (m : Machine) → same_machine m m ≡ true
 same_machines m = grind (arith, nat_tests)
 
 apart : (m n : Machine) → same_machine m n ≡ false → m ≢ n
@@ -113,27 +108,6 @@ pub legal_then : (l : BookLimits) (J : List Entry) (e : Option Entry) → legal 
 legal_then l J None h free = ap (λ (K : List Entry). legal l K) (append-nil J) ∙ h
 legal_then l J (Some x) h free =
     let ok : allowed l J x ≡ true = ap (λ (o : Option Refusal). is_none o) free in legal_snoc l [] J x h ok
-
-pub switches_kept : SwitchesKept
-switches_kept l J p minds w m e b t d free own =
-    let s = minds m in let v = after_turn w m e in let K = J ++ option_to_list e in
-    let it = t.each m b in
-    let plain = tied_plain J p m s.axis w it.tied in
-    let robot : RobotStands J w = tied_stands J p machine.Robot (minds machine.Robot).axis w
-    (t.each machine.Robot refl).tied in
-    let left = turn_keeps l J p m s w e b
-    (record { legal = t.legal; fair = t.fair; as_booked = it; plates = t.plates; robot = robot }) d free in (
-      record {
-        legal = legal_then l J e t.legal free;
-        fair = t.fair;
-        each = λ n c. each_mind (λ x y. IsAsBooked K p x y v) m n (mind_after J m p s (shown w m) e) minds
-            (same_machine m n) refl
-            (λ i. subst (λ (x : Machine). IsAsBooked K p x (mind_after J m p s (shown w m) e) v) i left.as_booked)
-            (λ o. others_kept J p m n (minds n) w e plain o own (t.each n c));
-        plates = λ u h. left.plates u (t.plates u h);
-      },
-      left.collisions,
-    )
 
 -- the axes of a machine that is tied
 pub some_one : {A : Type 0} (o : Option A) (x y : A) → o ≡ Some x → o ≡ Some y → x ≡ y

@@ -138,7 +138,6 @@ moved_plain from to w t =
       unwatched = t.unwatched;
       axes = t.axes;
       stations = length-set _ _ _ ∙ (length-set _ _ _ ∙ t.stations);
-      short = t.short;
     }
 
 moved_axes : (from to : Station) (w : Simulated) (a : Axis) → axis_at (moved from to w) a ≡ axis_at w a

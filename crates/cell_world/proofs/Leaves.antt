@@ -55,7 +55,6 @@ axis_leaves b a x w h t =
         unwatched = t.unwatched;
         axes = length-set _ _ _ ∙ t.axes;
         stations = t.stations;
-        short = t.short;
       };
       axis = at_other w b a x (apart_number b a h);
     }
@@ -72,7 +71,6 @@ plate_leaves s a o w t =
         unwatched = t.unwatched;
         axes = t.axes;
         stations = length-set _ _ _ ∙ t.stations;
-        short = t.short;
       };
       axis = refl;
     }

@@ -1,5 +1,6 @@
 -- The tie of a machine with switches, through readings and entries
-use Rattle.std.proofs.Common.{◌≡◌, ◌≢◌, ℕ, ◌==◌, true, false, inl, inr, Option, None, refl, sym, ap, ◌∙◌}
+use Rattle.std.proofs.Common.{◌≡◌, ◌≢◌, ℕ, ◌==◌, zero, suc, Some, true, false, inl, inr, Option, None, refl, sym, ap}
+use Rattle.std.proofs.Common.{◌∙◌}
 use Rattle.std.proofs.Common.{subst, get_or, eqb-true}
 use Rattle.std.specs.Option.{option_map}
 use Rattle.std.specs.Prelude.{List}
@@ -24,13 +25,13 @@ use Rattle.cell_sim.specs.Looks.{is_belt}
 use Rattle.cell_sim.specs.Parts.{axis_at, in_turn}
 use Rattle.cell_sim.specs.Readings.{advanced, after_reading, by_the_hands, is_reading_missing, read_on, shown}
 use Rattle.cell_sim.specs.Simulated.{Simulated}
-use Rattle.cell_world.specs.Tied.{Given, none, one, two, IsFair, motion_by}
-use Rattle.cell_world.specs.Going.{AxisWent, IsAtRest}
-use Rattle.cell_world.specs.Starting.{after_entry, one_more, MachineRests}
+use Rattle.cell_world.specs.Tied.{Given, none, one, more, IsFair, further_of, motion_by, next_given}
+use Rattle.cell_world.specs.Going.{AxisStays, AxisWent, IsAtRest}
+use Rattle.cell_world.specs.Starting.{after_entry, further_in, one_more, MachineRests}
 use Rattle.cell_world.specs.Agreeing.{has_belt}
 use Rattle.cell_world.specs.Tie.{MachineEnds, MachineGoesOn, MachineStarts}
 use Rattle.cell_world.specs.Tie.{TiedStands, WentOn}
-use Rattle.cell_world.proofs.Steps.{each_axis, not_true, rest_silent, stays, unless}
+use Rattle.cell_world.proofs.Steps.{each_axis, fair_more, not_true, rest_silent, stays, unless}
 use Rattle.cell_world.proofs.Any.{any_goes}
 use Rattle.cell_world.proofs.Entries.{at_before}
 use Rattle.cell_world.proofs.Starts.{axis_ends, axis_starts}
@@ -109,13 +110,30 @@ nothing_noted J p m f w r b t =
     ap (λ (x : Option Following). option_map (with_reading r) (followed x (motion_of_machine J p m))) t.unnoted
     ∙ ap (λ (o : Option Motion). option_map (with_reading r) (followed None o)) (no_motion J p m w b t.rest)
 
+stays_tied : (J : List Entry) (p : Plan) (a : Axis) (to : Pose) (g h : Given) (f : Option Following) (w : Simulated)
+    → next_given g ≡ Some h → IsFair (motion_by J p a to) (further_of g) → AxisStays J p a to h f w
+    → WentOn J p (machine_of_axis a) f w
+stays_tied J p a to g h f w e fair t =
+    inl (
+      t.pending,
+      inr (record {
+        mover = a;
+        to = to;
+        given = h;
+        of = refl;
+        fair = fair_more (motion_by J p a to) g h e fair;
+        goes = t.goes;
+      }),
+    )
+
 axis_went : (J : List Entry) (p : Plan) (a : Axis) (to : Pose) (g : Given) (f : Option Following) (w : Simulated)
-    → IsFair (motion_by J p a to) → AxisWent J p a to g f w → WentOn J p (machine_of_axis a) f w
-axis_went J p a to none f w fair t =
-    inl (t.pending, inr (record { mover = a; to = to; given = one; of = refl; fair = fair; goes = t.goes }))
-axis_went J p a to one f w fair t =
-    inl (t.pending, inr (record { mover = a; to = to; given = two; of = refl; fair = fair; goes = t.goes }))
-axis_went J p a to two f w fair t = inr (record { mover = a; to = to; of = refl; came = t })
+    → IsFair (motion_by J p a to) (further_of g) → AxisWent J p a to (next_given g) f w
+    → WentOn J p (machine_of_axis a) f w
+axis_went J p a to (none n) f w fair t = stays_tied J p a to (none n) (one n) f w refl fair t
+axis_went J p a to (one n) f w fair t = stays_tied J p a to (one n) (more 0 n) f w refl fair t
+axis_went J p a to (more n (suc k)) f w fair t =
+    stays_tied J p a to (more n (suc k)) (more (suc n) k) f w refl fair t
+axis_went J p a to (more n zero) f w fair t = inr (record { mover = a; to = to; of = refl; came = t })
 
 pub machine_goes : MachineGoesOn
 machine_goes J p m f w b (inl t) =
@@ -173,13 +191,13 @@ machine_starts J p a to f w s plan h n t =
     inr (record {
       mover = a;
       to = to;
-      given = none;
+      given = none (further_in w a to);
       of = refl;
       fair = record {
         elsewhere = ap (λ (q : Pose). place_in_axis to == place_in_axis q) at
             ∙ elsewhere a to (at_of J a) s h (t.rest a refl).own_pose n;
-        leave = (plan a).0;
-        limit = (plan a).1;
+        leave = (plan a to).0;
+        limit = (plan a to).1;
       };
       goes = axis_starts J p a to f w s h t;
     })

@@ -51,7 +51,6 @@ broke_leaves r c a w t =
         unwatched = broke_on r c w ∙ t.unwatched;
         axes = t.axes;
         stations = t.stations;
-        short = t.short;
       };
       axis = refl;
     }
@@ -61,7 +60,7 @@ broke_leaves r c a w t =
 next_leaves : (a : Axis) (w : Simulated) → IsPlain w → Leaves a w (next_laid w)
 next_leaves a w t =
     record {
-      plain = record { unwatched = t.unwatched; axes = t.axes; stations = t.stations; short = t.short };
+      plain = record { unwatched = t.unwatched; axes = t.axes; stations = t.stations };
       axis = refl;
     }
 
@@ -72,7 +71,6 @@ lost_leaves a n w v s =
         unwatched = s.plain.unwatched;
         axes = s.plain.axes;
         stations = s.plain.stations;
-        short = s.plain.short;
       };
       axis = s.axis;
     }
@@ -112,7 +110,6 @@ taken_leaves a w t =
         unwatched = x.plain.unwatched;
         axes = x.plain.axes;
         stations = x.plain.stations;
-        short = x.plain.short;
       };
       axis = x.axis;
     })
@@ -162,7 +159,6 @@ there_leaves b s (Some p) a w t =
         unwatched = x.plain.unwatched;
         axes = x.plain.axes;
         stations = x.plain.stations;
-        short = x.plain.short;
       };
       axis = x.axis;
     })

@@ -12,14 +12,18 @@ use Rattle.cell_sim.specs.Commands.{fails}
 use Rattle.cell_sim.specs.Parts.{axis_at, counted, is_machine_moving, plate_at, plate_here}
 use Rattle.cell_sim.specs.Readings.{after_round, round_noted, rounds_moved}
 use Rattle.cell_sim.specs.Simulated.{Simulated}
-use Rattle.cell_world.specs.Belts.{Conveying, dest_of, from_of, light_of, to_deposit_end, to_feed_end}
+use Rattle.cell_world.specs.Belts.{Conveying, EndsAsBefore, dest_of, from_of, light_of, to_deposit_end, to_feed_end}
 use Rattle.cell_world.specs.Belts.{to_table}
+use Rattle.cell_ports.specs.declared.plan.Plan.{Plan}
+use Rattle.cell_world.specs.BeltTurning.{StationsAsBooked}
+use Rattle.cell_world.specs.Tie.{IsFairPlan}
 use Rattle.cell_world.specs.Going.{IsPlain}
 use Rattle.cell_world.specs.Sparing.{IsSpared}
 use Rattle.cell_world.specs.Whole.{NoneFails, RoundKept}
 use Rattle.cell_world.proofs.BeltWays.{belt_stays}
 use Rattle.cell_world.proofs.Four.{kept_as}
 use Rattle.cell_world.proofs.Laying.{laying_of, stations_before}
+use Rattle.cell_world.proofs.Long.{fair_then}
 use Rattle.cell_world.proofs.Spared.{spared_stays}
 use Rattle.cell_world.proofs.Steps.{either}
 use Rattle.cell_world.proofs.Whole.{cell_plain}
@@ -56,8 +60,6 @@ round_plain w t =
           ∙ t.axes;
       stations = round_same (λ (v : Simulated). length v.plates)
           (record { moving = λ n v. refl; round = λ n v. refl }) w ∙ t.stations;
-      short = round_same (λ (v : Simulated). v.durations) (record { moving = λ n v. refl; round = λ n v. refl }) w
-          ∙ t.short;
     }
 
 pub round_collisions : (w : Simulated) → (after_round w).collisions ≡ w.collisions
@@ -80,7 +82,7 @@ round_light to_table w =
 round_light to_deposit_end w =
     round_same (λ (v : Simulated). v.deposit_light) (record { moving = λ n v. refl; round = λ n v. refl }) w
 
-round_spares : (J : List Entry) (m : Machine) (w : Simulated) → IsPlain w → IsSpared m J J w (after_round w)
+pub round_spares : (J : List Entry) (m : Machine) (w : Simulated) → IsPlain w → IsSpared m J J w (after_round w)
 round_spares J m w t =
     record {
       plain = round_plain w t;
@@ -90,29 +92,39 @@ round_spares J m w t =
           (record { moving = λ n v. refl; round = λ n v. refl }) w;
     }
 
+pub round_fair : (p : Plan) (w : Simulated) → IsFairPlan p w → IsFairPlan p (after_round w)
+round_fair p w t =
+    fair_then p w (after_round w) (round_same (λ (u : Simulated). u.durations)
+    (record { moving = λ n u. refl; round = λ n u. refl }) w) t
+
+pub round_ends : (c : Conveying) (w : Simulated) → EndsAsBefore c w (after_round w)
+round_ends c w =
+    record { light = round_light c w; from_end = round_here w (from_of c); dest_end = round_here w (dest_of c) }
+
+pub round_stations : (J : List Entry) (p : Plan) (w : Simulated) → StationsAsBooked J p w
+    → StationsAsBooked J p (after_round w)
+round_stations J p w t =
+    stations_before J J p w (after_round w) (λ b. refl) refl refl
+    (record {
+      part = round_same laying_of (record { moving = λ n u. refl; round = λ n u. refl }) w;
+      light = round_light to_deposit_end w;
+      laid = λ g. round_at w station.FeedIn;
+      taken = λ g. round_at w station.DepEnd;
+      booked = λ u h. round_at w u ∙ h;
+    }) t
+
 pub round_kept : RoundKept
 round_kept l J p minds w t =
     let v = after_round w in let plain = cell_plain l J p minds w t in
     record {
       legal = t.legal;
-      fair = t.fair;
+      fair = round_fair p w t.fair;
       switches = λ m b. kept_as J J m (minds m) refl refl
           (λ i. spared_stays J J p m (minds m).axis w v (round_spares J m w plain) i) (t.switches m b);
       belts = λ m b. kept_as J J m (minds m) refl refl
-          (λ i. belt_stays J J p m (minds m).axis w v b (round_spares J m w plain)
-          (λ c k g j o. record {
-            light = round_light c w;
-            from_end = round_here w (from_of c);
-            dest_end = round_here w (dest_of c);
-          }) i) (t.belts m b);
-      stations = stations_before J J p w v (λ b. refl) refl refl
-          (record {
-            part = round_same laying_of (record { moving = λ n u. refl; round = λ n u. refl }) w;
-            light = round_light to_deposit_end w;
-            laid = λ g. round_at w station.FeedIn;
-            taken = λ g. round_at w station.DepEnd;
-            booked = λ u h. round_at w u ∙ h;
-          }) t.stations;
+          (λ i. belt_stays J J p m (minds m).axis w v b (round_spares J m w plain) (λ c k g j o. round_ends c w) i)
+          (t.belts m b);
+      stations = round_stations J p w t.stations;
     }
 
 pub none_fails : NoneFails

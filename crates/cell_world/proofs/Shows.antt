@@ -1,7 +1,7 @@
 -- What a machine shows that is tied agrees with the book
 use Rattle.cell_world.proofs.Steps.{made, went_left}
 use Rattle.std.proofs.Common.{◌≡◌, ℕ, true, false, inl, inr, Option, Some, None, List, length, refl, sym, ap}
-use Rattle.std.proofs.Common.{◌∙◌, subst, is_some}
+use Rattle.std.proofs.Common.{◌∙◌, subst, is_some, zero, suc, ◌+◌}
 use Rattle.cell_types.specs.declared.words.Axis.{Axis}
 use Rattle.cell_types.specs.declared.words.Axis.TheVariants as axis
 use Rattle.cell_types.specs.declared.words.Machine.{Machine}
@@ -36,7 +36,7 @@ use Rattle.cell_sim.specs.Readings.{after_reading, by_the_hands, forged_plate, f
 use Rattle.cell_sim.specs.Readings.{is_reading_missing}
 use Rattle.cell_sim.specs.Readings.{read_on, shown, shown_now, shown_on, switches_by, switches_of}
 use Rattle.cell_sim.specs.Simulated.{Simulated}
-use Rattle.cell_world.specs.Tied.{Given, none, one, two, RestsBy, motion_along, only}
+use Rattle.cell_world.specs.Tied.{Given, none, one, more, RestsBy, motion_along, only}
 use Rattle.cell_world.specs.Going.{IsAtRest}
 use Rattle.cell_world.specs.Agreeing.{ShowsBooked, bits_at, has_belt}
 use Rattle.cell_world.specs.Tie.{IsTied, ReadingAgrees, ReadingLeaves, WentOn}
@@ -51,7 +51,7 @@ switches_still : (a : Axis) (p : Pose) (x : AxisInWorld) (o : Option Moving) →
     → RestsBy p o → switches_by a x o ≡ switch_bit p
 switches_still a p x None s h r = unless (is_belt a) _ (switch_bit x.pose) s ∙ ap switch_bit h
 switches_still a p x (Some m) s h r =
-    ap (λ (y : Moving). switches_by a x (Some y)) r.1
+    ap (λ (y : Moving). switches_by a x (Some y)) r.2
 
 shows_alone : (J : List Entry) (w : Simulated) (a : Axis) → is_belt a ≡ false → IsAtRest J w a
     → bits_at a (switches_of w a) ≡ only (at_of J a)
@@ -105,10 +105,11 @@ forges_plates a t w n = refl
 
 went_plates : (a : Axis) (at to : Pose) (g : Given) (t : Station) (w : Simulated) → length w.plates ≡ 9
     → plate_at (went a at to g w) t ≡ plate_at w t
-went_plates a at to none t w n = refl
-went_plates a at to one t w n = refl
-went_plates a at to two t w n =
-    let v = with_pose a to (with_motion a (Some (motion_along (Poses at to) Arrived)) w) in
+went_plates a at to (none i) t w n = refl
+went_plates a at to (one i) t w n = refl
+went_plates a at to (more i (suc k)) t w n = refl
+went_plates a at to (more i zero) t w n =
+    let v = with_pose a to (with_motion a (Some (motion_along (Poses at to) (i + 0) Arrived)) w) in
     either (λ (x : Simulated). plate_at x t) (same_pose to pose.Top) (forges a v) v (plate_at w t)
     (forges_plates a t v n) refl
 
@@ -129,9 +130,10 @@ broke_counts r c w = refl
 
 made_counts : (a : Axis) (at to : Pose) (g : Given) (w : Simulated) → (made a at to g w).collisions ≡ w.collisions
 unfolding made
-made_counts a at to none w = refl
-made_counts a at to one w = refl
-made_counts a at to two w = refl
+made_counts a at to (none n) w = refl
+made_counts a at to (one n) w = refl
+made_counts a at to (more n zero) w = refl
+made_counts a at to (more n (suc k)) w = refl
 
 went_counts : (a : Axis) (at to : Pose) (g : Given) (w : Simulated) → (went a at to g w).collisions ≡ w.collisions
 went_counts a at to g w =

@@ -41,7 +41,7 @@ use Rattle.cell_sim.specs.Commands.{turned_off}
 use Rattle.cell_sim.specs.Looks.{is_belt, looked, release_looked}
 use Rattle.cell_sim.specs.Parts.{axis_at, in_turn, collided, has_plate, plate_moved, with_motion}
 use Rattle.cell_sim.specs.Simulated.{Simulated}
-use Rattle.cell_world.specs.Tied.{Given, Goes, IsFair, noted_of}
+use Rattle.cell_world.specs.Tied.{Given, Goes, IsFair, further_of, noted_of}
 use Rattle.cell_world.specs.Going.{AxisGoes, IsAtRest, IsPlain}
 use Rattle.cell_world.specs.Starting.{after_entry}
 use Rattle.cell_world.specs.Sparing.{EntrySpares, IsSpared, SparedStaysTied}
@@ -87,8 +87,8 @@ spared_stays J J' p m f w w' s (inr t) =
       to = t.to;
       given = t.given;
       of = t.of;
-      fair = subst (λ (q : Pose). IsFair (record { axis = a; from = q; to = t.to; limits = limits_of p a }))
-          (sym (s.at a t.of)) t.fair;
+      fair = subst (λ (q : Pose). IsFair (record { axis = a; from = q; to = t.to; limits = limits_of p a })
+          (further_of t.given)) (sym (s.at a t.of)) t.fair;
       goes = goes_spared J J' p m a t.to t.given f w w' s t.of t.goes;
     })
 
@@ -134,12 +134,12 @@ pub lit_leaves : (b : Belt) (c : Colour) (a : Axis) (w : Simulated) → IsPlain 
 unfolding feed_lit
 lit_leaves belt.Feed c a w t =
     record {
-      plain = record { unwatched = t.unwatched; axes = t.axes; stations = t.stations; short = t.short };
+      plain = record { unwatched = t.unwatched; axes = t.axes; stations = t.stations };
       axis = refl;
     }
 lit_leaves belt.Deposit c a w t =
     record {
-      plain = record { unwatched = t.unwatched; axes = t.axes; stations = t.stations; short = t.short };
+      plain = record { unwatched = t.unwatched; axes = t.axes; stations = t.stations };
       axis = refl;
     }
 
@@ -191,7 +191,7 @@ collided_leaves x a o w t =
     leaves_by a w (release_looked x o (collided w)) (collided w)
     (unless (collided w).watch.is_on _ (collided w) t.unwatched)
     (record {
-      plain = record { unwatched = t.unwatched; axes = t.axes; stations = t.stations; short = t.short };
+      plain = record { unwatched = t.unwatched; axes = t.axes; stations = t.stations };
       axis = refl;
     })
 

@@ -28,41 +28,12 @@ use Rattle.cell_sim.specs.Looks.{is_belt, looked, start_looked}
 use Rattle.cell_sim.specs.Moves.{begun}
 use Rattle.cell_sim.specs.Parts.{axis_at, collided, with_axis}
 use Rattle.cell_sim.specs.Simulated.{Simulated, one_each}
-use Rattle.cell_world.specs.Tied.{none, motion_along, Goes, Rests}
+use Rattle.cell_world.specs.Tied.{none, under_way, Goes, Rests}
 use Rattle.cell_world.specs.Going.{AxisGoes, IsAtRest, IsPlain}
-use Rattle.cell_world.specs.Starting.{after_entry, after_order, one_more, AxisEnds, AxisStarts, MachineRests}
+use Rattle.cell_world.specs.Starting.{further_in, after_entry, after_order, one_more, AxisEnds, AxisStarts}
+use Rattle.cell_world.specs.Starting.{MachineRests}
 use Rattle.cell_world.proofs.Steps.{at_same, at_other, axes_at, below_nine, each_axis, either, unless, unlooked}
 use Rattle.cell_world.proofs.Entries.{at_before, at_now, brought, going_now, rests_more, starts_it, starts_no_other}
-
--- all motions are as short as they can be
-row_of_ones : (a : Axis)
-    → slice_index_or (replicate 9 (replicate {A = ℕ} 18 1)) (axis_number a) [] ≡ replicate {A = ℕ} 18 1
-row_of_ones axis.FeedBelt = refl
-row_of_ones _ = refl
-
-one_of_row : (to : Pose) → slice_index (replicate {A = ℕ} 18 1) (pose_number to) - 1 ≡ 0
-one_of_row pose.Rest = refl
-one_of_row _ = refl
-
-one_long : (a : Axis) (to : Pose) → duration one_each (record { axis = a; to = to }) - 1 ≡ 0
-one_long a to = ap (λ (r : List ℕ). slice_index r (pose_number to) - 1) (row_of_ones a) ∙ one_of_row to
-
-abbrev begun_by : Path → ℕ → Moving
-begun_by path n =
-    record {
-      path = path;
-      fault = None;
-      phase = Begun;
-      missing = 0;
-      further = n;
-      stopped = false;
-    }
-
-pub begun_short : (a : Axis) (to : Pose) (path : Path) (w : Simulated) → IsPlain w
-    → begun path None (duration w.durations (record { axis = a; to = to })) ≡ motion_along path Begun
-begun_short a to path w t =
-    ap (λ (d : Durations). begun_by path (duration d (record { axis = a; to = to }) - 1)) t.short
-    ∙ ap (λ (n : ℕ). begun_by path n) (one_long a to)
 
 -- the world in which an axis was told to move, before it sets out
 unfoldable pub ready : Axis → Simulated → Simulated
@@ -90,7 +61,7 @@ told_other a b w h = at_other w a b _ h
 told_plain : (a : Axis) (w : Simulated) → IsPlain w → IsPlain (told a w)
 unfolding told
 told_plain a w t =
-    record { unwatched = t.unwatched; axes = length-set _ _ _ ∙ t.axes; stations = t.stations; short = t.short }
+    record { unwatched = t.unwatched; axes = length-set _ _ _ ∙ t.axes; stations = t.stations }
 
 pub ready_plain : (a : Axis) (w : Simulated) → IsPlain w → IsPlain (ready a w)
 ready_plain a w t =
@@ -99,7 +70,6 @@ ready_plain a w t =
       unwatched = ready_part (λ (v : Simulated). v.watch.is_on) a w refl ∙ p.unwatched;
       axes = ready_part (λ (v : Simulated). length v.axes) a w refl ∙ p.axes;
       stations = ready_part (λ (v : Simulated). length v.plates) a w refl ∙ p.stations;
-      short = ready_part (λ (v : Simulated). v.durations) a w refl ∙ p.short;
     }
 
 -- the poses are as before
@@ -156,7 +126,7 @@ sets_off a to w s h = ap (λ (o : Option Path). set_out a to None o w) (path_as 
 off_plain : (a : Axis) (to : Pose) (w : Simulated) → IsPlain w → IsPlain (set_off a to w)
 unfolding set_off
 off_plain a to w t =
-    record { unwatched = t.unwatched; axes = length-set _ _ _ ∙ t.axes; stations = t.stations; short = t.short }
+    record { unwatched = t.unwatched; axes = length-set _ _ _ ∙ t.axes; stations = t.stations }
 
 off_it : (a : Axis) (to : Pose) (w : Simulated) → IsPlain w
     → axis_at (set_off a to w) a ≡ sent a to (axis_at w a) w.durations
@@ -168,10 +138,21 @@ off_other : (a b : Axis) (to : Pose) (w : Simulated) → axis_number b ≢ axis_
 unfolding set_off
 off_other a b to w h = at_other w a b _ h
 
-sent_goes : (a : Axis) (to at : Pose) (x : AxisInWorld) (d : Durations) → x.pose ≡ at → d ≡ one_each
-    → Goes at to none (sent a to x d)
+abbrev long : Durations → Axis → Pose → ℕ
+long d a to = duration d (record { axis = a; to = to }) - 1
+
+sent_goes : (a : Axis) (to at : Pose) (x : AxisInWorld) (d : Durations) → x.pose ≡ at
+    → Goes at to (none (long d a to)) (sent a to x d)
 unfolding sent
-sent_goes a to at x d p e = record { pose = p; motion = (let o = one_long a to in rw (p, e, o) refl) }
+sent_goes a to at x d p =
+    record { pose = p; motion = ap (λ (q : Pose). Some (under_way (Poses q to) (none (long d a to)))) p }
+
+told_long : (a : Axis) (w : Simulated) → (told a w).durations ≡ w.durations
+unfolding told
+told_long a w = refl
+
+pub ready_long : (a : Axis) (w : Simulated) → (ready a w).durations ≡ w.durations
+ready_long a w = ready_part (λ (v : Simulated). v.durations) a w refl ∙ told_long a w
 
 pub axis_starts : AxisStarts
 axis_starts J p a to f w s h t =
@@ -183,15 +164,18 @@ axis_starts J p a to f w s h t =
     let at : at_of (one_more J e) a ≡ at_of J a = at_before J e a refl in
     let begins : (axis_at r a).pose ≡ at_of (one_more J e) a =
     ap (λ (x : AxisInWorld). x.pose) (ready_at a a w) ∙ (told_pose a a w t.plain ∙ (it.rests.pose ∙ sym at)) in
-    subst (λ (u : Simulated). AxisGoes (one_more J e) p a to none f u)
+    subst (λ (u : Simulated). AxisGoes (one_more J e) p a to (none (further_in w a to)) f u)
     (sym (on_does a to w t.plain ∙ sets_off a to r s h))
     (record {
       plain = off_plain a to r plain;
       booked = going_now J e a (Some to) (starts_it a to);
       from_pose = ap (λ (q : Pose). is_pose_of a q) at ∙ it.own_pose;
       to_pose = h;
-      goes = subst (λ (x : AxisInWorld). Goes (at_of (one_more J e) a) to none x) (sym (off_it a to r plain))
-          (sent_goes a to (at_of (one_more J e) a) (axis_at r a) r.durations begins plain.short);
+      goes = subst (λ (d : Durations). Goes (at_of (one_more J e) a) to (none (long d a to)) (axis_at v a))
+          (ready_long a w)
+          (subst (λ (x : AxisInWorld). Goes (at_of (one_more J e) a) to (none (long r.durations a to)) x)
+          (sym (off_it a to r plain))
+          (sent_goes a to (at_of (one_more J e) a) (axis_at r a) r.durations begins));
       others = λ b m d. rests_more J e v w b refl (starts_no_other a b to d)
           (off_other a b to r d ∙ (ready_at a b w ∙ told_other a b w d)) (t.rest b m);
       noted = t.unnoted;

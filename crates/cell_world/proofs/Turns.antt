@@ -62,13 +62,14 @@ use Rattle.cell_sim.specs.Simulated.{Simulated}
 use Rattle.cell_world.specs.Agreeing.{has_belt}
 use Rattle.cell_world.specs.Going.{IsPlain}
 use Rattle.cell_world.specs.Handing.{HasBooked, IsHanded, MovesPlate}
-use Rattle.cell_world.specs.Starting.{BringsTo, MachineRests, RobotStands, after_entry, one_more}
+use Rattle.cell_world.specs.Starting.{BringsTo, MachineRests, RobotMayStand, StandsAs, after_entry, one_more}
 use Rattle.cell_world.specs.Tie.{IsTied, MachineCame, WentOn}
 use Rattle.cell_world.specs.Tied.{motion_by}
 use Rattle.cell_world.specs.Turning.{AsBooked, TurnBegins, TurnKeeps, TurnLeaves, after_turn, is_within}
 use Rattle.cell_world.proofs.Any.{moves_as}
 use Rattle.cell_world.proofs.Begins.{from_rest, some_not}
-use Rattle.cell_world.proofs.Clear.{starts_clear}
+use Rattle.cell_world.proofs.Clear.{starts_stay_clear}
+use Rattle.cell_world.proofs.Long.{fair_then, reading_long}
 use Rattle.cell_world.proofs.Ends.{SparesEnds, dropped_spares, gripped_spares, read_spares_ends, spares_same}
 use Rattle.cell_world.proofs.Ends.{spares_then, started_part, started_spares}
 use Rattle.cell_world.proofs.Entries.{at_before, going_before}
@@ -180,8 +181,8 @@ abbrev Kind : Machine → Entry → Type 0
 Kind m (Started a to) = machine_of_axis a ≡ m
 Kind m (Claimed n z) = Unit {0}
 Kind m (Yielded n z) = Unit {0}
-Kind m (Gripped x k s) = Unit {0}
-Kind m (Dropped x k s) = Unit {0}
+Kind m (Gripped x k s) = m ≡ machine.Robot
+Kind m (Dropped x k s) = m ≡ machine.Robot
 Kind m _ = ⊥
 
 kind_of : (l : BookLimits) (c : Situation) (plan : ℕ) (m : Machine) (e : Entry) → has_belt m ≡ false
@@ -197,8 +198,8 @@ kind_of l c plan machine.Robot (Started axis.ArmOne to) b h = refl
 kind_of l c plan machine.Robot (Started axis.ArmTwo to) b h = refl
 kind_of l c plan machine.Robot (Claimed n z) b h = tt
 kind_of l c plan machine.Robot (Yielded n z) b h = tt
-kind_of l c plan machine.Robot (Gripped x k s) b h = tt
-kind_of l c plan machine.Robot (Dropped x k s) b h = tt
+kind_of l c plan machine.Robot (Gripped x k s) b h = refl
+kind_of l c plan machine.Robot (Dropped x k s) b h = refl
 kind_of l c plan machine.Press1 (Started axis.PressOne to) b h = refl
 kind_of l c plan machine.Press1 (Claimed n z) b h = tt
 kind_of l c plan machine.Press1 (Yielded n z) b h = tt
@@ -320,14 +321,15 @@ rests_then J p m f w (inr t) h =
 pub not_robot : (m : Machine) → same_machine m machine.Robot ≡ false → m ≢ machine.Robot
 not_robot m h e = let c : true ≡ false = ap (λ (x : Machine). same_machine x machine.Robot) (sym e) ∙ h in cc c
 
-pub stands_by : (J : List Entry) (w : Simulated) (m : Machine) → IsPlain w → m ≢ machine.Robot → RobotStands J w
-    → RobotStands J (after_reading w m)
+pub stands_by : (J : List Entry) (w : Simulated) (m : Machine) → IsPlain w → m ≢ machine.Robot → RobotMayStand J w
+    → RobotMayStand J (after_reading w m)
 stands_by J w m t d r a e =
-    ap (λ (x : AxisInWorld). x.pose) ((reading_spares J w machine.Robot m t d).axes a e) ∙ r a e
+    subst (λ (x : AxisInWorld). StandsAs J a x.pose) (sym ((reading_spares J w machine.Robot m t d).axes a e)) (r a e)
 
 stands_then : (J : List Entry) (p : Plan) (m : Machine) (f : Option Following) (w : Simulated) → IsPlain w
-    → RobotStands J w → IsTied J p m f (after_reading w m) → RobotStands J (after_reading w m)
-stands_then J p machine.Robot f w t r i = tied_stands J p machine.Robot f (after_reading w machine.Robot) i
+    → RobotMayStand J w → IsTied J p m f (after_reading w m) → RobotMayStand J (after_reading w m)
+stands_then J p machine.Robot f w t r i =
+    λ a e. inl (tied_stands J p machine.Robot f (after_reading w machine.Robot) i a e)
 stands_then J p machine.Feed f w t r i = stands_by J w machine.Feed t (not_robot machine.Feed refl) r
 stands_then J p machine.Table f w t r i = stands_by J w machine.Table t (not_robot machine.Table refl) r
 stands_then J p machine.Press1 f w t r i = stands_by J w machine.Press1 t (not_robot machine.Press1 refl) r
@@ -369,9 +371,10 @@ started_leaves l J p m s w a to t g k free e =
     (rests_then J p m f v t.tied (λ c i. may.rest c (i ∙ sym e))) in
     some_leaves l J p m s w x t.belt t.begins t.agreed (record { unfailed = refl; unasked = refl })
     (λ u h. plates_as J x v (after_entry v x) u g k refl (started_plates a to v u plain) h)
-    (starts_clear J a to v plain stands (safe_state (one_more J x) k))
+    (starts_stay_clear J a to v plain stands (may.rest a refl) (safe_state (one_more J x) k))
     (subst (λ (n : Machine). IsTied (one_more J x) p n f (after_entry v x)) e
-    (machine_starts J p a to f v nb t.begins.fair may.own_pose may.elsewhere rested)) (started_spares J a to v plain)
+    (machine_starts J p a to f v nb (fair_then p w v (reading_long w m) t.begins.fair) may.own_pose may.elsewhere
+    rested)) (started_spares J a to v plain)
 
 -- an entry that speaks of no axis, and whose command moves none
 apart_leaves : (l : BookLimits) (J : List Entry) (p : Plan) (m : Machine) (s : Mind) (w : Simulated) (x : Entry)
@@ -420,15 +423,14 @@ within_arm arm.Arm1 = refl
 within_arm arm.Arm2 = refl
 
 handed_ready : (l : BookLimits) (J : List Entry) (p : Plan) (m : Machine) (s : Mind) (w : Simulated) (x : Arm)
-    (u : Station) (e : Entry) → AtEntry l J p m s w → first_of l J e ≡ None → is_within u ≡ true
+    (u : Station) (e : Entry) → AtEntry l J p m s w → m ≡ machine.Robot → first_of l J e ≡ None → is_within u ≡ true
     → IsHanded l J (after_reading w m) x u e
-handed_ready l J p m s w x u e t free h =
+handed_ready l J p m s w x u e t r free h =
     record {
       legal = t.begins.legal;
       allowed = free;
       plain = tied_plain J p m (Noted J p m s w) (after_reading w m) t.tied;
-      stands = stands_then J p m (Noted J p m s w) w (tied_plain J p m s.axis w t.begins.as_booked.tied) t.begins.robot
-          t.tied;
+      stands = λ a i. tied_stands J p m (Noted J p m s w) (after_reading w m) t.tied a (i ∙ sym r);
       arm = booked_then l J p m s w (station_of_arm x) t (within_arm x);
       there = booked_then l J p m s w u t h;
     }
@@ -446,12 +448,12 @@ kind_leaves l J p m s w (Yielded n z) t g k free h =
     (moves_none J (Yielded n z) v g k (tied_plain J p m (Noted J p m s w) v t.tied) refl refl) (spares_same J v v refl)
 kind_leaves l J p m s w (Gripped x j u) t g k free h =
     let i = within_grips x u (grips_there l J x j u g free) in
-    let h = handed_ready l J p m s w x u (Gripped x j u) t free i in
+    let h = handed_ready l J p m s w x u (Gripped x j u) t h free i in
     apart_leaves l J p m s w (Gripped x j u) t (record { unfailed = refl; unasked = refl }) (λ a. refl) (λ a. refl) refl
     (grips l J (after_reading w m) x j u h) (gripped_spares l J (after_reading w m) x j u g h)
 kind_leaves l J p m s w (Dropped x j u) t g k free h =
     let i = within_drops x u (drops_there l J x j u g free) in
-    let h = handed_ready l J p m s w x u (Dropped x j u) t free i in
+    let h = handed_ready l J p m s w x u (Dropped x j u) t h free i in
     apart_leaves l J p m s w (Dropped x j u) t (record { unfailed = refl; unasked = refl }) (λ a. refl) (λ a. refl) refl
     (drops l J (after_reading w m) x j u h) (dropped_spares l J (after_reading w m) x j u g h)
 kind_leaves l J p m s w x t g k free h = absurd h

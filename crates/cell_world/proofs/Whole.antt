@@ -28,18 +28,21 @@ use Rattle.cell_sim.specs.declared.world.Plate.{Plate}
 use Rattle.cell_sim.specs.Looks.{is_belt}
 use Rattle.cell_sim.specs.Parts.{axis_at, plate_here}
 use Rattle.cell_sim.specs.Readings.{shown}
-use Rattle.cell_sim.specs.Simulated.{Simulated, opening_with}
+use Rattle.cell_sim.specs.Simulated.{Simulated}
 use Rattle.cell_world.specs.Agreeing.{has_belt}
 use Rattle.cell_world.specs.Belts.{Conveying, belt_of, dest_of, from_of, light_of}
 use Rattle.cell_world.specs.Belts.{machine_of, name_of, path_with, to_deposit_end, to_feed_end, to_table}
 use Rattle.cell_world.specs.BeltTurning.{BeltAsBooked, BeltTurnBegins, IsBeltTied, StationsAsBooked, way_of}
 use Rattle.cell_world.specs.Going.{IsPlain}
 use Rattle.cell_world.specs.Laying.{admitted_in}
-use Rattle.cell_world.specs.Starting.{RobotStands}
+use Rattle.cell_world.specs.Starting.{RobotMayStand}
 use Rattle.cell_world.specs.Switched.{with_mind}
-use Rattle.cell_world.specs.Tied.{Given, motion_along, phase_of}
+use Rattle.cell_world.specs.Tied.{Given, under_way}
+use Rattle.cell_world.proofs.Long.{fair_then, turn_long}
 use Rattle.cell_world.specs.Turning.{IsAsBooked, TurnBegins, TurnLeaves, after_turn}
 use Rattle.cell_world.specs.Whole.{BeltsKept, CellAsBooked, CellIsWorld, CellKept, CellOpening, IsTurnOf, WayAsBooked}
+use Rattle.cell_world.specs.Whole.{opening_for}
+use Rattle.cell_measures.specs.declared.durations.Durations.{Durations}
 use Rattle.cell_world.proofs.BeltAgrees.{its_belt}
 use Rattle.cell_world.proofs.BeltOther.{SparesOther}
 use Rattle.cell_world.proofs.BeltReads.{rests_alike, way_back}
@@ -59,9 +62,9 @@ use Rattle.cell_world.proofs.Turns.{tied_plain, turn_does}
 -- WHAT A TURN BEGINS WITH
 
 robot_stands : (l : BookLimits) (J : List Entry) (p : Plan) (minds : Machine → Mind) (w : Simulated)
-    → CellAsBooked l J p minds w → RobotStands J w
-robot_stands l J p minds w t =
-    tied_stands J p machine.Robot (minds machine.Robot).axis w (t.switches machine.Robot refl).tied
+    → CellAsBooked l J p minds w → RobotMayStand J w
+robot_stands l J p minds w t a e =
+    inl (tied_stands J p machine.Robot (minds machine.Robot).axis w (t.switches machine.Robot refl).tied a e)
 
 pub cell_plain : (l : BookLimits) (J : List Entry) (p : Plan) (minds : Machine → Mind) (w : Simulated)
     → CellAsBooked l J p minds w → IsPlain w
@@ -112,7 +115,7 @@ light_kept J to_feed_end w v s = ap (λ (x : LayingPart). x.light) s.part
 light_kept J to_table w v s = ap (λ (x : LayingPart). x.light) s.part
 light_kept J to_deposit_end w v s = s.light
 
-ends_stay : (J : List Entry) (p : Plan) (n : Machine) (f : Option Following) (w v : Simulated)
+pub ends_stay : (J : List Entry) (p : Plan) (n : Machine) (f : Option Following) (w v : Simulated)
     → StationsAsBooked J p w → SparesEnds J w v → EndsStay J p n f w v
 ends_stay J p n f w v t s c k g i o =
     record {
@@ -121,7 +124,7 @@ ends_stay J p n f w v t s c k g i o =
       dest_end = s.here (dest_of c) (cannot_dest J p c w t o.empty);
     }
 
-other_stay : (J : List Entry) (p : Plan) (m n : Machine) (f : Option Following) (w v : Simulated) → m ≢ n
+pub other_stay : (J : List Entry) (p : Plan) (m n : Machine) (f : Option Following) (w v : Simulated) → m ≢ n
     → SparesOther m w v → EndsStay J p n f w v
 other_stay J p m n f w v d s c k g i o = s c (λ j. d (sym j ∙ i))
 
@@ -173,7 +176,7 @@ none_expected (Reinstated j) m i h = absurd (has_no_belt machine.Feed m h i refl
 none_expected (Expected j) m i h = cc h
 none_expected x m i h = refl
 
-stations_kept : (J : List Entry) (p : Plan) (m : Machine) (e : Option Entry) (w v : Simulated) → has_belt m ≡ false
+pub stations_kept : (J : List Entry) (p : Plan) (m : Machine) (e : Option Entry) (w v : Simulated) → has_belt m ≡ false
     → IfSome e (λ x. machine_of_entry x ≡ Some m) → WorldAsBefore J (J ++ option_to_list e) w v
     → StationsAsBooked J p w → StationsAsBooked (J ++ option_to_list e) p v
 stations_kept J p m None w v b h k t =
@@ -188,7 +191,7 @@ stations_kept J p m (Some x) w v b h k t =
       expected = none_expected x m b h;
     }) k t
 
-world_before : (J K : List Entry) (p : Plan) (m : Machine) (s : Mind) (w v : Simulated)
+pub world_before : (J K : List Entry) (p : Plan) (m : Machine) (s : Mind) (w v : Simulated)
     → TurnLeaves J K p m s w v → SparesEnds J w v → WorldAsBefore J K w v
 world_before J K p m s w v t i =
     record {
@@ -201,7 +204,7 @@ world_before J K p m s w v t i =
 
 -- A TURN
 
-other_kind : (m n : Machine) → has_belt m ≡ true → has_belt n ≡ false → m ≡ n → ⊥
+pub other_kind : (m n : Machine) → has_belt m ≡ true → has_belt n ≡ false → m ≡ n → ⊥
 other_kind m n b c e = let x : true ≡ false = sym b ∙ (ap has_belt e ∙ c) in cc x
 
 abbrev Left : BookLimits → List Entry → Plan → (Machine → Mind) → Simulated → Machine → Option Entry → Type 0
@@ -219,7 +222,7 @@ cell_by l J p minds w m e false b t o =
     let left = turn_does l J p m (minds m) w e b (switch_begins l J p minds w m b t) o.decided o.allowed in (
       record {
         legal = legal_then l J e t.legal o.allowed;
-        fair = t.fair;
+        fair = fair_then p w v (turn_long w m e) t.fair;
         switches = λ n c. each_mind (λ x y. IsAsBooked K p x y v) m n s minds (same_machine m n) refl
             (λ i. subst (λ (x : Machine). IsAsBooked K p x s v) i left.0.as_booked)
             (λ d. others_kept J p m n (minds n) w e plain d o.own (t.switches n c));
@@ -236,7 +239,7 @@ cell_by l J p minds w m e true b t o =
     let left = belt_turn_does l J p m (minds m) w e b (belt_begins l J p minds w m b t) o.decided o.allowed in (
       record {
         legal = legal_then l J e t.legal o.allowed;
-        fair = t.fair;
+        fair = fair_then p w v (turn_long w m e) t.fair;
         switches = λ n c. each_mind (λ x y. IsAsBooked K p x y v) m n s minds (same_machine m n) refl
             (λ i. absurd (other_kind m n b c i))
             (λ d. others_kept J p m n (minds n) w e plain d o.own (t.switches n c));
@@ -253,16 +256,16 @@ cell_kept l J p minds w m e t o = cell_by l J p minds w m e (has_belt m) refl t 
 
 -- THE OPENING
 
-belt_opening : (p : Plan) (m : Machine) (n : ℕ) → has_belt m ≡ true
-    → BeltAsBooked [] p m (first_mind [] m) (opening_with n)
-belt_opening p machine.Feed n b =
+belt_opening : (p : Plan) (m : Machine) (ds : Durations) → has_belt m ≡ true
+    → BeltAsBooked [] p m (first_mind [] m) (opening_for p ds)
+belt_opening p machine.Feed ds b =
     record {
       healthy = refl;
       unasked = refl;
       was_healthy = refl;
       was_obeyed = refl;
       tied = inl (record {
-        plain = record { unwatched = refl; axes = refl; stations = refl; short = refl };
+        plain = record { unwatched = refl; axes = refl; stations = refl };
         booked = refl;
         home = refl;
         still = refl;
@@ -270,14 +273,14 @@ belt_opening p machine.Feed n b =
       });
       agreed = none_noted;
     }
-belt_opening p machine.Deposit n b =
+belt_opening p machine.Deposit ds b =
     record {
       healthy = refl;
       unasked = refl;
       was_healthy = refl;
       was_obeyed = refl;
       tied = inl (record {
-        plain = record { unwatched = refl; axes = refl; stations = refl; short = refl };
+        plain = record { unwatched = refl; axes = refl; stations = refl };
         booked = refl;
         home = refl;
         still = refl;
@@ -285,29 +288,29 @@ belt_opening p machine.Deposit n b =
       });
       agreed = none_noted;
     }
-belt_opening p machine.Table n b = let x : false ≡ true = b in cc x
-belt_opening p machine.Robot n b = let x : false ≡ true = b in cc x
-belt_opening p machine.Press1 n b = let x : false ≡ true = b in cc x
-belt_opening p machine.Press2 n b = let x : false ≡ true = b in cc x
+belt_opening p machine.Table ds b = let x : false ≡ true = b in cc x
+belt_opening p machine.Robot ds b = let x : false ≡ true = b in cc x
+belt_opening p machine.Press1 ds b = let x : false ≡ true = b in cc x
+belt_opening p machine.Press2 ds b = let x : false ≡ true = b in cc x
 
 pub cell_opening : CellOpening
-cell_opening l p fair =
+cell_opening l p ds fair =
     record {
       legal = refl;
       fair = fair;
-      switches = λ m b. machine_opening p m p.plates;
-      belts = λ m b. belt_opening p m p.plates b;
+      switches = λ m b. machine_opening p m ds;
+      belts = λ m b. belt_opening p m ds b;
       stations = record {
         laying = record {
           light = refl;
-          laid = inl (record { plate = no_plate station.FeedIn p.plates; count = refl });
+          laid = inl (record { plate = no_plate station.FeedIn p ds; count = refl });
           planned = refl;
           cleared = refl;
           untrusting = refl;
           unexpected = refl;
         };
-        taking = record { light = refl; taken = inl (no_plate station.DepEnd p.plates) };
-        within = λ t h. no_plate t p.plates;
+        taking = record { light = refl; taken = inl (no_plate station.DepEnd p ds) };
+        within = λ t h. no_plate t p ds;
       };
     }
 
@@ -331,7 +334,7 @@ same_way to_deposit_end to_table h k = cc h
 
 abbrev OnWay : Simulated → Conveying → Type 0
 OnWay w c =
-    (k : Plate) × (g : Given) × ((axis_at w (belt_of c)).motion ≡ Some (motion_along (path_with c k) (phase_of g)))
+    (k : Plate) × (g : Given) × ((axis_at w (belt_of c)).motion ≡ Some (under_way (path_with c k) g))
 
 way_as_booked : (J : List Entry) (p : Plan) (c : Conveying) (f : Option Following) (w : Simulated)
     → IsBeltTied J p (machine_of c) f w → WayAsBooked J w c

@@ -14,12 +14,13 @@ use Rattle.cell_sim.specs.declared.world.Plate.{Plate}
 use Rattle.cell_sim.specs.Readings.{shown}
 use Rattle.cell_sim.specs.Simulated.{Simulated}
 use Rattle.cell_world.specs.Agreeing.{has_belt}
-use Rattle.cell_world.specs.Belts.{BeltGoes, BeltRests, Conveying, machine_of, to_deposit_end, to_feed_end}
+use Rattle.cell_world.specs.Belts.{BeltGoes, BeltRests, Conveying, belt_of, machine_of, name_of, to_deposit_end}
+use Rattle.cell_world.specs.Belts.{to_feed_end}
 use Rattle.cell_world.specs.Handing.{HasBooked}
 use Rattle.cell_world.specs.Laying.{LayingAsBooked, TakingAsBooked}
-use Rattle.cell_world.specs.Starting.{RobotStands}
+use Rattle.cell_world.specs.Starting.{RobotMayStand}
 use Rattle.cell_world.specs.Tie.{IsFairPlan}
-use Rattle.cell_world.specs.Tied.{Given}
+use Rattle.cell_world.specs.Tied.{Given, IsFair, further_of, motion_by}
 use Rattle.cell_world.specs.Turning.{AsBooked, after_turn, is_within}
 
 -- a motion of the machine's belt
@@ -33,6 +34,7 @@ pub record BeltCarries (J : List Entry) (p : Plan) (m : Machine) (f : Option Fol
   pub plate : Plate
   pub given : Given
   pub of : machine_of way ≡ m
+  pub fair : IsFair (motion_by J p (belt_of way) (name_of way)) (further_of given)
   pub goes : BeltGoes J p way plate given f w
 
 -- book, world and axis watch of a belt's machine are tied
@@ -53,10 +55,10 @@ pub record StationsAsBooked (J : List Entry) (p : Plan) (w : Simulated) : Type 0
 pub record BeltTurnBegins (l : BookLimits) (J : List Entry) (p : Plan) (m : Machine) (s : Mind) (w : Simulated) : Type 0
   where
     pub legal : legal l J ≡ true
-    pub fair : IsFairPlan p
+    pub fair : IsFairPlan p w
     pub as_booked : BeltAsBooked J p m s w
     pub stations : StationsAsBooked J p w
-    pub robot : RobotStands J w
+    pub robot : RobotMayStand J w
 
 -- what it leaves: the machine and all stations are as booked, and no collision was counted
 pub record BeltTurnLeaves (J : List Entry) (p : Plan) (m : Machine) (s : Mind) (w w' : Simulated) : Type 0 where

@@ -1,6 +1,6 @@
 -- A belt, in the book, in the world and in the machine's axis watch. It has no switches: its machine shows where the
 -- plate is that it carries.
-use Rattle.std.specs.Prelude.{◌≡◌, true, Option, Some, None, List}
+use Rattle.std.specs.Prelude.{◌≡◌, ℕ, true, Option, Some, None, List}
 use Rattle.cell_types.specs.declared.words.Axis.{Axis}
 use Rattle.cell_types.specs.declared.words.Axis.TheVariants as axis
 use Rattle.cell_types.specs.declared.words.Colour.{Colour}
@@ -26,11 +26,11 @@ use Rattle.cell_sim.specs.declared.world.Plate.{Plate}
 use Rattle.cell_sim.specs.Simulated.{Simulated}
 use Rattle.cell_sim.specs.Parts.{axis_at, plate_here}
 use Rattle.cell_sim.specs.Readings.{after_reading, shown}
-use Rattle.cell_world.specs.Tied.{Given, none, one, two, IsFair, motion_along, motion_by, noted_of, phase_of}
+use Rattle.cell_world.specs.Tied.{Given, none, more, IsFair, further_of, motion_by, next_given, noted_of, under_way}
 use Rattle.cell_world.specs.Going.{IsPlain}
 use Rattle.cell_world.specs.Handing.{HasBooked}
 use Rattle.cell_world.specs.Sparing.{IsSpared}
-use Rattle.cell_world.specs.Starting.{after_entry, one_more}
+use Rattle.cell_world.specs.Starting.{after_entry, further_in, one_more}
 
 -- the three motions of belts
 pub data Conveying : Type 0 where
@@ -82,7 +82,7 @@ pub record BeltGoes (J : List Entry) (p : Plan) (c : Conveying) (k : Plate) (g :
     pub red : light_of c w ≡ colour.Red
     pub here : plate_here w (from_of c) ≡ Some k
     pub empty : plate_here w (dest_of c) ≡ None
-    pub goes : (axis_at w (belt_of c)).motion ≡ Some (motion_along (path_with c k) (phase_of g))
+    pub goes : (axis_at w (belt_of c)).motion ≡ Some (under_way (path_with c k) g)
     pub noted : f ≡ noted_of (motion_by J p (belt_of c) (name_of c)) g
 
 -- the plate is at the end in the world where the book has it on its way, and the watch says so
@@ -100,17 +100,17 @@ pub record BeltStays (J : List Entry) (p : Plan) (c : Conveying) (k : Plate) (g 
     pub pending : axis_verdict f ≡ Pending
     pub goes : BeltGoes J p c k g f w
 
--- after one more reading: the first and the second leave it on its way, the third finds that it came
-abbrev pub BeltWent : List Entry → Plan → Conveying → Plate → Given → Option Following → Simulated → Type 0
-BeltWent J p c k none f w = BeltStays J p c k one f w
-BeltWent J p c k one f w = BeltStays J p c k two f w
-BeltWent J p c k two f w = BeltCame J c k f w
+-- after one more reading: it is on its way, or the last one finds that it came
+abbrev pub BeltWent : List Entry → Plan → Conveying → Plate → Option Given → Option Following → Simulated → Type 0
+BeltWent J p c k (Some g) f w = BeltStays J p c k g f w
+BeltWent J p c k None f w = BeltCame J c k f w
 
 abbrev pub BeltGoesOn : Type 0
 BeltGoesOn =
     (J : List Entry) (p : Plan) (c : Conveying) (k : Plate) (g : Given) (f : Option Following) (w : Simulated)
-    → IsFair (motion_by J p (belt_of c) (name_of c)) → BeltGoes J p c k g f w
-    → BeltWent J p c k g (axis_noted J (machine_of c) p f (shown w (machine_of c))) (after_reading w (machine_of c))
+    → IsFair (motion_by J p (belt_of c) (name_of c)) (further_of g) → BeltGoes J p c k g f w
+    → BeltWent J p c k (next_given g) (axis_noted J (machine_of c) p f (shown w (machine_of c)))
+    (after_reading w (machine_of c))
 
 -- a belt rests, in the book and in the world, and its machine's watch follows no motion
 pub record BeltRests (J : List Entry) (c : Conveying) (f : Option Following) (w : Simulated) : Type 0 where
@@ -126,7 +126,7 @@ BeltStarts =
     (J : List Entry) (p : Plan) (c : Conveying) (k : Plate) (f : Option Following) (w : Simulated)
     → BeltRests J c f w → light_of c w ≡ colour.Red → plate_here w (from_of c) ≡ Some k
     → plate_here w (dest_of c) ≡ None
-    → BeltGoes (one_more J (Started (belt_of c) (name_of c))) p c k none f
+    → BeltGoes (one_more J (Started (belt_of c) (name_of c))) p c k (none (further_in w (belt_of c) (name_of c))) f
     (after_entry w (Started (belt_of c) (name_of c)))
 
 -- where it has come and this is booked, it rests
@@ -140,8 +140,10 @@ BeltEnds =
 -- found it
 abbrev pub BeltBrings : Type 0
 BeltBrings =
-    (l : BookLimits) (J : List Entry) (p : Plan) (c : Conveying) (k : Plate) (f : Option Following) (w : Simulated)
-    → legal l J ≡ true → first_of l J (Conveyed (belt_of c) k.number (dest_of c)) ≡ None → BeltGoes J p c k two f w
+    (l : BookLimits) (J : List Entry) (p : Plan) (c : Conveying) (k : Plate) (n : ℕ) (f : Option Following)
+    (w : Simulated)
+    → legal l J ≡ true → first_of l J (Conveyed (belt_of c) k.number (dest_of c)) ≡ None
+    → BeltGoes J p c k (more n 0) f w
     → HasBooked J w (from_of c) → HasBooked J w (dest_of c) → (s : Station) → HasBooked J w s
     → HasBooked (one_more J (Conveyed (belt_of c) k.number (dest_of c)))
     (after_entry (after_reading w (machine_of c)) (Conveyed (belt_of c) k.number (dest_of c))) s

@@ -10,18 +10,17 @@ use Rattle.cell_diagnosis.specs.declared.verdict.Verdict.TheVariants.{Pending, A
 use Rattle.cell_ports.specs.declared.plan.Plan.{Plan}
 use Rattle.cell_turns.specs.Following.{Following}
 use Rattle.cell_turns.specs.Observed.{axis_noted, axis_verdict}
-use Rattle.cell_sim.specs.Simulated.{Simulated, one_each}
+use Rattle.cell_sim.specs.Simulated.{Simulated}
 use Rattle.cell_sim.specs.Looks.{is_belt}
 use Rattle.cell_sim.specs.Parts.{axis_at}
 use Rattle.cell_sim.specs.Readings.{after_reading, shown}
-use Rattle.cell_world.specs.Tied.{Given, none, one, two, Goes, IsFair, Rests, motion_by, noted_of}
+use Rattle.cell_world.specs.Tied.{Given, Goes, IsFair, Rests, further_of, motion_by, next_given, noted_of}
 
--- a world of nine axes and nine stations that looks at no safety rule, and in which motions are as short as they can be
+-- a world of nine axes and nine stations that looks at no safety rule
 pub record IsPlain (w : Simulated) : Type 0 where
   pub unwatched : w.watch.is_on ≡ false
   pub axes : length w.axes ≡ 9
   pub stations : length w.plates ≡ 9
-  pub short : w.durations ≡ one_each
 
 -- an axis is at rest at one of its poses, in the book and in the world
 pub record IsAtRest (J : List Entry) (w : Simulated) (a : Axis) : Type 0 where
@@ -62,15 +61,14 @@ pub record AxisStays (J : List Entry) (p : Plan) (a : Axis) (to : Pose) (g : Giv
   pub pending : axis_verdict f ≡ Pending
   pub goes : AxisGoes J p a to g f w
 
--- after one more reading: the first and the second leave it on its way, the third finds that it came
-abbrev pub AxisWent : List Entry → Plan → Axis → Pose → Given → Option Following → Simulated → Type 0
-AxisWent J p a to none f w = AxisStays J p a to one f w
-AxisWent J p a to one f w = AxisStays J p a to two f w
-AxisWent J p a to two f w = AxisCame J p a to f w
+-- after one more reading: it is on its way, or the last one finds that it came
+abbrev pub AxisWent : List Entry → Plan → Axis → Pose → Option Given → Option Following → Simulated → Type 0
+AxisWent J p a to (Some g) f w = AxisStays J p a to g f w
+AxisWent J p a to None f w = AxisCame J p a to f w
 
 abbrev pub AxisGoesOn : Type 0
 AxisGoesOn =
     (J : List Entry) (p : Plan) (a : Axis) (to : Pose) (g : Given) (f : Option Following) (w : Simulated)
-    → is_belt a ≡ false → IsFair (motion_by J p a to) → AxisGoes J p a to g f w
-    → AxisWent J p a to g (axis_noted J (machine_of_axis a) p f (shown w (machine_of_axis a)))
+    → is_belt a ≡ false → IsFair (motion_by J p a to) (further_of g) → AxisGoes J p a to g f w
+    → AxisWent J p a to (next_given g) (axis_noted J (machine_of_axis a) p f (shown w (machine_of_axis a)))
     (after_reading w (machine_of_axis a))

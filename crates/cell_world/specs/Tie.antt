@@ -1,5 +1,5 @@
 -- The tie of one machine with switches, through readings and entries: it rests, or one axis of it goes
-use Rattle.std.specs.Prelude.{◌≡◌, ◌≢◌, ◌≤◌, Bool, false, true, Option, None, List, ◌⊎◌}
+use Rattle.std.specs.Prelude.{◌≡◌, ◌≢◌, ◌≤◌, ◌+◌, Bool, false, true, Option, None, List, ◌⊎◌}
 use Rattle.cell_types.specs.declared.words.Axis.{Axis}
 use Rattle.cell_types.specs.declared.words.Machine.{Machine}
 use Rattle.cell_types.specs.declared.words.Pose.{Pose}
@@ -19,9 +19,9 @@ use Rattle.cell_sim.specs.Looks.{is_belt}
 use Rattle.cell_sim.specs.Parts.{axis_at, plate_at}
 use Rattle.cell_sim.specs.Readings.{after_reading, shown}
 use Rattle.cell_sim.specs.Simulated.{Simulated}
-use Rattle.cell_world.specs.Tied.{Given, IsFair, motion_by}
+use Rattle.cell_world.specs.Tied.{Given, IsFair, further_of, motion_by}
 use Rattle.cell_world.specs.Going.{AxisCame, AxisGoes}
-use Rattle.cell_world.specs.Starting.{after_entry, one_more, BringsTo, MachineRests}
+use Rattle.cell_world.specs.Starting.{after_entry, further_in, one_more, BringsTo, MachineRests}
 use Rattle.cell_world.specs.Agreeing.{has_belt}
 use Rattle.cell_world.specs.Handing.{HasBooked}
 
@@ -31,7 +31,7 @@ pub record MachineGoes (J : List Entry) (p : Plan) (m : Machine) (f : Option Fol
   pub to : Pose
   pub given : Given
   pub of : machine_of_axis mover ≡ m
-  pub fair : IsFair (motion_by J p mover to)
+  pub fair : IsFair (motion_by J p mover to) (further_of given)
   pub goes : AxisGoes J p mover to given f w
 
 -- book, world and axis watch of a machine with switches are tied
@@ -55,15 +55,17 @@ MachineGoesOn =
     → has_belt m ≡ false → IsTied J p m f w
     → WentOn J p m (axis_noted J m p f (shown w m)) (after_reading w m)
 
--- the plan's limits let each motion be as short as it can be
-abbrev pub IsFairPlan : Plan → Type 0
-IsFairPlan p = (a : Axis) → (2 ≤ (limits_of p a).leave) × (3 ≤ (limits_of p a).limit)
+-- the plan's limits let each motion be as long as it is in this world: a reading shows where it begins, one and so many
+-- further ones show nothing, and one shows where it ends
+abbrev pub IsFairPlan : Plan → Simulated → Type 0
+IsFairPlan p w = (a : Axis) (to : Pose)
+    → (2 ≤ (limits_of p a).leave) × (further_in w a to + 3 ≤ (limits_of p a).limit)
 
 -- a Started to elsewhere leaves a machine that rests tied
 abbrev pub MachineStarts : Type 0
 MachineStarts =
     (J : List Entry) (p : Plan) (a : Axis) (to : Pose) (f : Option Following) (w : Simulated)
-    → is_belt a ≡ false → IsFairPlan p → is_pose_of a to ≡ true → to ≢ at_of J a
+    → is_belt a ≡ false → IsFairPlan p w → is_pose_of a to ≡ true → to ≢ at_of J a
     → MachineRests J (machine_of_axis a) f w
     → IsTied (one_more J (Started a to)) p (machine_of_axis a) f (after_entry w (Started a to))
 

@@ -1,5 +1,6 @@
 -- How an axis of the world and the machine's axis watch are tied, while nothing is amiss
-use Rattle.std.specs.Prelude.{◌≡◌, ◌≤◌, ◌==◌, Bool, true, false, Option, Some, None, List, [], ◌∷◌, ◌++◌}
+use Rattle.std.specs.Prelude.{◌≡◌, ◌≤◌, ◌==◌, ◌+◌, ℕ, zero, suc, Bool, true, false, Option, Some, None, List, [], ◌∷◌}
+use Rattle.std.specs.Prelude.{◌++◌, replicate}
 use Rattle.cell_types.specs.declared.words.Axis.{Axis}
 use Rattle.cell_types.specs.declared.words.Pose.{Pose}
 use Rattle.cell_types.specs.declared.words.Entry.{Entry}
@@ -19,33 +20,51 @@ use Rattle.cell_sim.specs.declared.motion.Path.TheVariants.{Poses}
 use Rattle.cell_sim.specs.declared.motion.Phase.{Phase}
 use Rattle.cell_sim.specs.declared.motion.Phase.TheVariants.{Begun, Seen as IsSeen, Between, Arrived}
 
--- how many readings of a motion were given that isn't over: at most two
+-- which readings of a motion were given that isn't over: none, or the first, which shows where it begins, and so many
+-- are to show nothing beyond the second; or the first two and so many that showed nothing, and so many that are to
 pub data Given : Type 0 where
-  none : Given
-  one : Given
-  two : Given
+  none : ℕ → Given
+  one : ℕ → Given
+  more : ℕ → ℕ → Given
+
+-- how many show nothing beyond the second, of all
+abbrev pub further_of : Given → ℕ
+further_of (none n) = n
+further_of (one n) = n
+further_of (more n k) = n + k
 
 abbrev pub phase_of : Given → Phase
-phase_of none = Begun
-phase_of one = IsSeen
-phase_of two = Between 0
+phase_of (none n) = Begun
+phase_of (one n) = IsSeen
+phase_of (more n k) = Between k
 
--- a motion without a fault, as short as it can be
-abbrev pub motion_along : Path → Phase → Moving
-motion_along path phase =
+-- a motion without a fault
+abbrev pub motion_along : Path → ℕ → Phase → Moving
+motion_along path further phase =
     record {
       path = path;
       fault = None;
       phase = phase;
       missing = 0;
-      further = 0;
+      further = further;
       stopped = false;
     }
+
+-- the same, of which these readings were given
+abbrev pub under_way : Path → Given → Moving
+under_way path g = motion_along path (further_of g) (phase_of g)
+
+-- the readings with one more, if the motion isn't over then
+abbrev pub next_given : Given → Option Given
+next_given (none n) = Some (one n)
+next_given (one n) = Some (more 0 n)
+next_given (more n zero) = None
+next_given (more n (suc k)) = Some (more (suc n) k)
 
 -- an axis with switches rests at a pose: no command moved it since it was put at home, or its motion has arrived there
 abbrev pub RestsBy : Pose → Option Moving → Type 0
 RestsBy at None = Unit {0}
-RestsBy at (Some m) = (from : Pose) × (m ≡ motion_along (Poses from at) Arrived)
+RestsBy at (Some m) = (from : Pose) × (further : ℕ) × (m ≡ motion_along (Poses from at) further Arrived)
 
 pub record Rests (at : Pose) (x : AxisInWorld) : Type 0 where
   pub pose : x.pose ≡ at
@@ -54,7 +73,7 @@ pub record Rests (at : Pose) (x : AxisInWorld) : Type 0 where
 -- it is on its way
 pub record Goes (at to : Pose) (g : Given) (x : AxisInWorld) : Type 0 where
   pub pose : x.pose ≡ at
-  pub motion : x.motion ≡ Some (motion_along (Poses at to) (phase_of g))
+  pub motion : x.motion ≡ Some (under_way (Poses at to) g)
 
 -- the truth values of a pose that is shown alone
 abbrev pub only : Pose → List Bool
@@ -64,15 +83,17 @@ only p =
 
 -- what the axis watch noted of a motion
 abbrev pub noted_of : Motion → Given → Option Following
-noted_of m none = None
-noted_of m one = Some (record { motion = m; readings = Some (only m.from) ∷ [] })
-noted_of m two = Some (record { motion = m; readings = Some (only m.from) ∷ Some no_bits ∷ [] })
+noted_of m (none n) = None
+noted_of m (one n) = Some (record { motion = m; readings = Some (only m.from) ∷ [] })
+noted_of m (more n k) =
+    Some (record { motion = m; readings = Some (only m.from) ∷ Some no_bits ∷ replicate n (Some no_bits) })
 
--- a motion that a watch can follow to its end: it leads elsewhere, and the limits let it be as short as it can be
-pub record IsFair (m : Motion) : Type 0 where
+-- a motion that a watch can follow to its end, of which so many readings show nothing beyond the second: it leads
+-- elsewhere, and the limits let it be so long
+pub record IsFair (m : Motion) (further : ℕ) : Type 0 where
   pub elsewhere : (place_in_axis m.to == place_in_axis m.from) ≡ false
   pub leave : 2 ≤ m.limits.leave
-  pub limit : 3 ≤ m.limits.limit
+  pub limit : further + 3 ≤ m.limits.limit
 
 abbrev pub motion_by : List Entry → Plan → Axis → Pose → Motion
 motion_by J p a to = record { axis = a; from = at_of J a; to = to; limits = limits_of p a }

@@ -16,7 +16,7 @@ use Rattle.cell_sim.specs.Readings.{after_reading, shown}
 use Rattle.cell_sim.specs.Simulated.{Simulated}
 use Rattle.cell_world.specs.Agreeing.{has_belt}
 use Rattle.cell_world.specs.Handing.{HasBooked}
-use Rattle.cell_world.specs.Starting.{RobotStands, after_entry}
+use Rattle.cell_world.specs.Starting.{RobotMayStand, after_entry}
 use Rattle.cell_world.specs.Tie.{IsFairPlan, IsTied}
 
 -- a machine is as booked: it is healthy, as it was at its last turn; book, world and axis watch are tied; and the rest
@@ -42,10 +42,10 @@ is_within _ = true
 pub record TurnBegins (l : BookLimits) (J : List Entry) (p : Plan) (m : Machine) (s : Mind) (w : Simulated) : Type 0
   where
     pub legal : legal l J ≡ true
-    pub fair : IsFairPlan p
+    pub fair : IsFairPlan p w
     pub as_booked : IsAsBooked J p m s w
     pub plates : (t : Station) → is_within t ≡ true → HasBooked J w t
-    pub robot : RobotStands J w
+    pub robot : RobotMayStand J w
 
 -- the world after a turn that read the machine and booked this
 abbrev pub after_turn : Simulated → Machine → Option Entry → Simulated

@@ -8,6 +8,7 @@ use Rattle.cell_types.specs.Entries.{machine_of_entry}
 use Rattle.cell_rules.specs.declared.limits.BookLimits.{BookLimits}
 use Rattle.cell_rules.specs.Legal.{first_of, legal}
 use Rattle.cell_rules.specs.Views.{going_of}
+use Rattle.cell_measures.specs.declared.durations.Durations.{Durations}
 use Rattle.cell_ports.specs.declared.plan.Plan.{Plan}
 use Rattle.cell_turns.specs.Minds.{Mind, first_mind}
 use Rattle.cell_turns.specs.Turns.{IsDecided, mind_after}
@@ -22,14 +23,14 @@ use Rattle.cell_world.specs.Belts.{Conveying, belt_of, name_of, path_with}
 use Rattle.cell_world.specs.BeltTurning.{BeltAsBooked, StationsAsBooked}
 use Rattle.cell_world.specs.Switched.{AxisAsBooked, with_mind}
 use Rattle.cell_world.specs.Tie.{IsFairPlan}
-use Rattle.cell_world.specs.Tied.{Given, motion_along, phase_of}
+use Rattle.cell_world.specs.Tied.{Given, under_way}
 use Rattle.cell_world.specs.Turning.{IsAsBooked, after_turn}
 
 -- all machines are as booked, and all stations, but for a plate that was laid in or taken out under a green light
 pub record CellAsBooked (l : BookLimits) (J : List Entry) (p : Plan) (minds : Machine → Mind) (w : Simulated) : Type 0
   where
     pub legal : legal l J ≡ true
-    pub fair : IsFairPlan p
+    pub fair : IsFairPlan p w
     pub switches : (m : Machine) → has_belt m ≡ false → IsAsBooked J p m (minds m) w
     pub belts : (m : Machine) → has_belt m ≡ true → BeltAsBooked J p m (minds m) w
     pub stations : StationsAsBooked J p w
@@ -70,17 +71,21 @@ RoundKept =
 abbrev pub NoneFails : Type 0
 NoneFails = (w : Simulated) (c : Command) → fails [] w c ≡ false
 
+-- the opening of a cell whose motions take so long
+abbrev pub opening_for : Plan → Durations → Simulated
+opening_for p ds = record (opening_with p.plates) { durations = ds }
+
 -- it is so at the opening
 abbrev pub CellOpening : Type 0
 CellOpening =
-    (l : BookLimits) (p : Plan) → IsFairPlan p
-    → CellAsBooked l [] p (λ m. first_mind [] m) (opening_with p.plates)
+    (l : BookLimits) (p : Plan) (ds : Durations) → IsFairPlan p (opening_for p ds)
+    → CellAsBooked l [] p (λ m. first_mind [] m) (opening_for p ds)
 
 -- where a belt is at rest in the book, it rests in the world, and where it goes, it is on its way with a plate
 pub record WayAsBooked (J : List Entry) (w : Simulated) (c : Conveying) : Type 0 where
   pub rests : going_of J (belt_of c) ≡ None → (axis_at w (belt_of c)).motion ≡ None
   pub goes : going_of J (belt_of c) ≡ Some (name_of c)
-      → (k : Plate) × (g : Given) × ((axis_at w (belt_of c)).motion ≡ Some (motion_along (path_with c k) (phase_of g)))
+      → (k : Plate) × (g : Given) × ((axis_at w (belt_of c)).motion ≡ Some (under_way (path_with c k) g))
 
 -- so it is with each axis of a cell that is as booked
 abbrev pub CellIsWorld : Type 0

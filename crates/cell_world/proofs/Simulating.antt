@@ -1,0 +1,82 @@
+-- The run of which `run_kept` writes in rounds, where its texts have no fault and no line of the operator
+use Rattle.std.proofs.Common.{◌≡◌, ℕ, Bool, List, [], Option, Some, None, Ok, Err, inl, inr, refl, sym, subst, IfSome}
+use Rattle.cell_types.specs.declared.words.Entry.{Entry}
+use Rattle.cell_measures.specs.declared.durations.Durations.{Durations}
+use Rattle.cell_rows.specs.Rows.{rows_of}
+use Rattle.cell_rows.specs.Scripts.{lines_of}
+use Rattle.cell_workers.specs.declared.ends.End.{End}
+use Rattle.operator_desk.specs.Lines.{line_of}
+use Rattle.operator_desk.specs.declared.line.Line.{Line}
+use Rattle.cell_sim.specs.Script.{next_fault}
+use Rattle.cell_sim.specs.Simulated.{one_each}
+use Rattle.cell_sim.specs.declared.fault.PlannedFault.{PlannedFault}
+use Rattle.sim_plant.specs.Answers.{AnswersSo, sim_cell}
+use Rattle.cell_runs.specs.Cells.{Ran}
+use Rattle.cell_runs.specs.Runs.{Kept, Simulates, WritesRounds, kept, limits_of, opening_of}
+use Rattle.cell_runs.specs.declared.inputs.Inputs.{Inputs}
+use Rattle.cell_world.specs.Running.{Allows, opened}
+use Rattle.cell_world.specs.Simulating.{LeavesBooked, OpensSo, TextIsWorld, TimedTextIsWorld}
+use Rattle.cell_world.specs.Whole.{opening_for}
+use Rattle.cell_world.proofs.Fair.{same_read, settings_are_fair}
+use Rattle.cell_world.proofs.Running.{end_is_world, none_collides}
+
+pub opens_so : OpensSo
+opens_so inputs = refl
+
+-- what the texts say
+record IsUndisturbed (i : Inputs) (ds : Durations) : Type 0 where
+  long : i.durations ≡ ds
+  faults : i.faults ≡ []
+  script : i.script ≡ []
+
+simulated : (i : Inputs) (ds : Durations) (J : List Entry) (e : End) → IsUndisturbed i ds → Allows i.plan ds
+    → Simulates i (opening_of i) [] J e → LeavesBooked ds (kept J e i.plan)
+simulated i ds J e t fair (left, sim) =
+    let p = i.plan in let l = limits_of p in
+    let ran = subst (λ (ls : List Line). Ran AnswersSo l p (opened p ds) [] ls left J e) t.script
+    (subst (λ (fs : List PlannedFault). Ran AnswersSo l p (sim_cell (opening_for p ds) fs) [] i.script left J e)
+    t.faults
+    (subst (λ (d : Durations). Ran AnswersSo l p (sim_cell (opening_for p d) i.faults) [] i.script left J e) t.long
+    sim.ran)) in
+    record {
+      left = left;
+      ran = ran;
+      collisions = none_collides l p ds left J e fair ran;
+      booked = λ memory full. end_is_world l p ds left J e fair ran memory full;
+    }
+
+-- what is kept of it, under what is known of its plan
+written : (P : Kept → Type 0) (i : Inputs) (journal : Bool) (old new : Option (List ℕ)) (status : ℕ)
+    (run : Option Kept) → ((J : List Entry) (e : End) → Simulates i (opening_of i) [] J e → P (kept J e i.plan))
+    → WritesRounds journal i old new status run → IfSome run P
+written P i journal old new status run h (inl (e, J, leads, prints, is)) =
+    subst (λ (r : Option Kept). IfSome r P) (sym is) (h J e leads)
+written P i journal old new status run h (inr (writes, is)) =
+    subst (λ (r : Option Kept). IfSome r P) (sym is) tt
+
+undisturbed : (faults operator : List ℕ) (i : Inputs) (ds : Durations) → i.durations ≡ ds
+    → lines_of next_fault (rows_of faults) ≡ Ok i.faults → lines_of line_of (rows_of operator) ≡ Ok i.script
+    → lines_of next_fault (rows_of faults) ≡ Ok [] → lines_of line_of (rows_of operator) ≡ Ok []
+    → IsUndisturbed i ds
+undisturbed faults operator i ds long fs ls none quiet =
+    record {
+      long = long;
+      faults = same_read (lines_of next_fault (rows_of faults)) i.faults [] fs none;
+      script = same_read (lines_of line_of (rows_of operator)) i.script [] ls quiet;
+    }
+
+pub timed_text_is_world : TimedTextIsWorld
+timed_text_is_world ds settings faults operator journal old new status run none quiet (Ok i, read, writes) =
+    let t = undisturbed faults operator i ds read.1 read.0.1 read.0.2 none quiet in
+    written (λ (r : Kept). Allows r.plan ds → LeavesBooked ds r) i journal old new status run
+    (λ J e leads fair. simulated i ds J e t fair leads) writes
+timed_text_is_world ds settings faults operator journal old new status run none quiet (Err e, read, writes) =
+    subst (λ (r : Option Kept). IfSome r (λ (x : Kept). Allows x.plan ds → LeavesBooked ds x)) (sym writes.1) tt
+
+pub text_is_world : TextIsWorld
+text_is_world settings faults operator journal old new status run none quiet (Ok i, read, writes) =
+    let t = undisturbed faults operator i one_each read.1 read.0.1 read.0.2 none quiet in
+    written (LeavesBooked one_each) i journal old new status run
+    (λ J e leads. simulated i one_each J e t (settings_are_fair settings i.plan read.0.0) leads) writes
+text_is_world settings faults operator journal old new status run none quiet (Err e, read, writes) =
+    subst (λ (r : Option Kept). IfSome r (LeavesBooked one_each)) (sym writes.1) tt
