@@ -1,0 +1,151 @@
+-- The whole cell, through the moves of a run in which the operator stops machines without a belt
+use Rattle.std.proofs.Common.{◌≡◌, ◌≢◌, inl, inr, Bool, true, false, Option, Some, None, List, [], ◌∷◌, refl, sym, ap}
+use Rattle.std.proofs.Common.{◌∙◌}
+use Rattle.std.proofs.Common.{subst, if◌then◌else◌}
+use Rattle.std.specs.Option.{option_and_then}
+use Rattle.cell_types.specs.declared.words.Entry.{Entry}
+use Rattle.cell_types.specs.declared.words.Entry.TheVariants.{StopAsked}
+use Rattle.cell_types.specs.declared.words.Machine.{Machine}
+use Rattle.cell_rules.specs.History.{History}
+use Rattle.cell_rules.specs.Legal.{allowed, first_of}
+use Rattle.cell_rules.specs.declared.limits.BookLimits.{BookLimits}
+use Rattle.cell_measures.specs.declared.durations.Durations.{Durations}
+use Rattle.cell_ports.specs.declared.plan.Plan.{Plan}
+use Rattle.cell_turns.specs.Acts.{act_of}
+use Rattle.cell_turns.specs.Minds.{Mind}
+use Rattle.cell_turns.specs.Six.{at}
+use Rattle.cell_plant.specs.declared.keeper.Unkept.{Unkept}
+use Rattle.operator_desk.specs.declared.action.Action.{Action}
+use Rattle.operator_desk.specs.declared.action.Action.TheVariants as action
+use Rattle.operator_desk.specs.declared.line.Line.{Line}
+use Rattle.operator_desk.specs.declared.line.Task.{Task}
+use Rattle.operator_desk.specs.Next.{action_now, action_of, entry_of, holds, if_allowed, left_after, next_of}
+use Rattle.cell_rounds.specs.Moves.{Leads, Terms, terms_of}
+use Rattle.cell_rounds.specs.Stands.{Stand, start}
+use Rattle.cell_sim.specs.Readings.{after_reading, shown}
+use Rattle.cell_sim.specs.Simulated.{Simulated}
+use Rattle.sim_plant.specs.Answers.{AnswersSo, SimCell}
+use Rattle.cell_runs.specs.Cells.{AllKept}
+use Rattle.cell_world.specs.Agreeing.{has_belt}
+use Rattle.cell_world.specs.BeltTurning.{BeltAsBooked}
+use Rattle.cell_world.specs.Running.{Allows, opened}
+use Rattle.cell_world.specs.Starting.{one_more}
+use Rattle.cell_world.specs.StopRuns.{AreStops, EndWithStops, IsBookedOrStopped, NoneCollidesByStops, RunWithStops}
+use Rattle.cell_world.specs.Stopping.{CellWithStops, WorksOrStopped}
+use Rattle.cell_world.proofs.BeltReads.{read_counts}
+use Rattle.cell_world.proofs.Halts.{read_still}
+use Rattle.cell_world.proofs.Hand.{done_by}
+use Rattle.cell_world.proofs.Moves.{Holding, Holds, HoldsOn, clear, come, ended}
+use Rattle.cell_world.proofs.Owned.{decided_owned}
+use Rattle.cell_world.proofs.Rounds.{round_collisions}
+use Rattle.cell_world.proofs.Shows.{leaves_collisions}
+use Rattle.cell_world.proofs.Stopping.{asking_keeps, none_stopped, plain_of, stopped_round_kept, stops_kept}
+use Rattle.cell_world.proofs.Whole.{cell_opening}
+
+-- THE SCRIPT
+
+if_some : {A : Type 0} (b : Bool) (o : Option A) (x : A) → (if b then o else None) ≡ Some x → o ≡ Some x
+if_some true o x h = h
+if_some false o x h = cc h
+
+-- the action of such a line asks a machine without a belt to stop
+record Stops (a : Action) : Type 0 where
+  machine : Machine
+  belt : has_belt machine ≡ false
+  is : action.Stop machine ≡ a
+
+stop_next : (ls : List Line) (h : History) (a : Action) → AreStops ls → next_of ls h ≡ Some a → Stops a
+unfolding action_now action_of
+stop_next [] h a t n = cc n
+stop_next (line ∷ rest) h a ((m, b, e), t) n =
+    let x = if_some (holds h.entries line.when) (option_and_then (if_allowed h) (action_of h.entries line.task)) a n in
+    let y = sym (ap (λ (k : Task). option_and_then (if_allowed h) (action_of h.entries k)) e) ∙ x in
+    let z : Some (action.Stop m) ≡ Some a =
+    if_some (allowed h.limits h.entries (entry_of (action.Stop m))) (Some (action.Stop m)) a y in
+    record { machine = m; belt = b; is = cc z }
+
+left_stops : (ls : List Line) → AreStops ls → AreStops (left_after ls)
+left_stops [] t = tt
+left_stops (line ∷ rest) t = t.1
+
+-- WHAT HOLDS
+
+other_minds : (l : BookLimits) (J : List Entry) (p : Plan) (minds others : Machine → Mind) (w : Simulated)
+    → ((n : Machine) → minds n ≡ others n) → CellWithStops l J p minds w → CellWithStops l J p others w
+other_minds l J p minds others w h t =
+    record {
+      legal = t.legal;
+      fair = t.fair;
+      switches = λ n b. subst (λ (x : Mind). WorksOrStopped J p n x w) (h n) (t.switches n b);
+      belts = λ n b. subst (λ (x : Mind). BeltAsBooked J p n x w) (h n) (t.belts n b);
+      stations = t.stations;
+    }
+
+abbrev WithStops : Terms → Holding
+WithStops T ls J minds w = AreStops ls × IsBookedOrStopped T.limits J T.plan minds w
+
+member_counts : (J : List Entry) (p : Plan) (m : Machine) (s : Mind) (w : Simulated) → has_belt m ≡ false
+    → WorksOrStopped J p m s w → (after_reading w m).collisions ≡ w.collisions
+member_counts J p m s w b (inl t) = leaves_collisions J p m s.axis w b t.tied
+member_counts J p m s w b (inr t) =
+    ap (λ (v : Simulated). v.collisions)
+    (read_still m w b (λ a e. ((t.halted a e).still, (t.halted a e).read)))
+
+read_by : (l : BookLimits) (J : List Entry) (p : Plan) (minds : Machine → Mind) (w : Simulated) (m : Machine)
+    (b : Bool) → has_belt m ≡ b → CellWithStops l J p minds w → (after_reading w m).collisions ≡ w.collisions
+read_by l J p minds w m false b t = member_counts J p m (minds m) w b (t.switches m b)
+read_by l J p minds w m true b t = read_counts J p m (minds m).axis w b (t.belts m b).tied
+
+-- the operator asks for a stop
+hand_kept : (T : Terms) (ls : List Line) (J : List Entry) (f : Machine → Mind) (w : Simulated) (a : Action)
+    → WithStops T ls J f w → Stops a → first_of T.limits J (entry_of a) ≡ None
+    → WithStops T (left_after ls) (one_more J (entry_of a)) f (done_by (act_of (entry_of a)) w)
+hand_kept T ls J f w a t s free =
+    let m = s.machine in let free' = subst (λ (x : Action). first_of T.limits J (entry_of x) ≡ None) (sym s.is) free in
+    subst (λ (x : Action). WithStops T (left_after ls) (one_more J (entry_of x)) f (done_by (act_of (entry_of x)) w))
+    s.is
+    (left_stops ls t.0, (asking_keeps T.limits J T.plan f w m s.belt free' t.1.0, t.1.1))
+
+holds_on : (T : Terms) → HoldsOn T (WithStops T)
+holds_on T =
+    let l = T.limits in let p = T.plan in
+    record {
+      alike = λ ls J f g w h t. (t.0, (other_minds l J p f g w h t.1.0, t.1.1));
+      turn = λ ls J f w m e t decided allowed. let left = stops_kept l J p f w m e t.1.0 (record {
+        decided = decided;
+        allowed = allowed;
+        own = decided_owned l J m p (f m) (shown w m) e t.1.0.legal decided;
+      }) in (t.0, (left.0, left.1 ∙ t.1.1));
+      round = λ ls J f w t. (t.0, (stopped_round_kept l J p f w t.1.0, round_collisions w ∙ t.1.1));
+      hand = λ ls J f w a t next free.
+          hand_kept T ls J f w a t (stop_next ls (record { limits = l; entries = J }) a t.0 next) free;
+      plain = λ ls J f w t. plain_of l J p f w t.1.0;
+      counts = λ ls J f w t. t.1.1;
+      reads = λ ls J f w m t. read_by l J p f w m (has_belt m) refl t.1.0 ∙ t.1.1;
+    }
+
+-- THE RUN
+
+stands : (T : Terms) (ds : Durations) (lines : List Line) (k : Unkept) (t : Stand SimCell Unkept) → Allows T.plan ds
+    → AreStops lines → Leads AnswersSo AllKept T (start (opened T.plan ds) k [] lines None) t
+    → Holds T (WithStops T) t
+stands T ds lines k t fair are leads =
+    come T (WithStops T) (opened T.plan ds) k [] lines t (holds_on T) refl
+    (are, (none_stopped T.limits [] T.plan _ (opened T.plan ds).world (cell_opening T.limits T.plan ds fair), refl))
+    leads
+
+pub run_with_stops : RunWithStops
+run_with_stops T ds lines s fair are (k, leads) = (stands T ds lines k s fair are leads).holds.1
+
+pub end_with_stops : EndWithStops
+end_with_stops l p ds lines new J e fair are (h, k, j, is, halts) memory full =
+    let T = terms_of l p false in
+    let end = ended T (WithStops T) (start (opened p ds) k [] lines None) h new j J
+    (λ t leads. stands T ds lines k t fair are leads) halts (λ i. memory (is ∙ i)) (λ i. full (is ∙ i)) in
+    (end.1, end.2.1)
+
+pub none_collides_by_stops : NoneCollidesByStops
+none_collides_by_stops l p ds lines new J e fair are (h, k, j, is, halts) =
+    let T = terms_of l p false in
+    clear T (WithStops T) (start (opened p ds) k [] lines None) h new j J (holds_on T)
+    (λ t leads. stands T ds lines k t fair are leads) halts

@@ -1,0 +1,57 @@
+-- A run of the simulated cell in which the operator stops machines without a belt, without a fault
+use Rattle.std.specs.Prelude.{◌≡◌, ◌≢◌, false, List, [], ◌∷◌, None}
+use Rattle.cell_types.specs.declared.words.Entry.{Entry}
+use Rattle.cell_types.specs.declared.words.Machine.{Machine}
+use Rattle.cell_rules.specs.declared.limits.BookLimits.{BookLimits}
+use Rattle.cell_measures.specs.declared.durations.Durations.{Durations}
+use Rattle.cell_ports.specs.declared.plan.Plan.{Plan}
+use Rattle.cell_turns.specs.Minds.{Mind}
+use Rattle.cell_turns.specs.Six.{at}
+use Rattle.cell_plant.specs.declared.keeper.Unkept.{Unkept}
+use Rattle.cell_workers.specs.declared.ends.End.{End}
+use Rattle.cell_workers.specs.declared.ends.End.TheVariants as end
+use Rattle.operator_desk.specs.declared.line.Line.{Line}
+use Rattle.operator_desk.specs.declared.line.Task.TheVariants as task
+use Rattle.cell_rounds.specs.Moves.{Leads, Terms}
+use Rattle.cell_rounds.specs.Stands.{Stand, start}
+use Rattle.cell_sim.specs.Simulated.{Simulated}
+use Rattle.sim_plant.specs.Answers.{AnswersSo, SimCell}
+use Rattle.cell_runs.specs.Cells.{AllKept, Ran}
+use Rattle.cell_world.specs.Agreeing.{has_belt}
+use Rattle.cell_world.specs.Running.{Allows, opened}
+use Rattle.cell_world.specs.Stopping.{CellWithStops}
+
+-- each line of the script asks a machine without a belt to stop
+abbrev pub IsStop : Line → Type 0
+IsStop line = (m : Machine) × (has_belt m ≡ false) × (line.task ≡ task.Stop m)
+
+abbrev pub AreStops : List Line → Type 0
+AreStops [] = Unit {0}
+AreStops (line ∷ rest) = IsStop line × AreStops rest
+
+-- a run from the opening with this script comes to this stand
+abbrev pub ComesBy : Terms → Durations → List Line → Stand SimCell Unkept → Type 0
+ComesBy T ds lines s = (k : Unkept) × Leads AnswersSo AllKept T (start (opened T.plan ds) k [] lines None) s
+
+-- each machine without a belt is as booked or has stopped, the rest is as booked, and no collision was counted
+abbrev pub IsBookedOrStopped : BookLimits → List Entry → Plan → (Machine → Mind) → Simulated → Type 0
+IsBookedOrStopped l J p minds w = CellWithStops l J p minds w × (w.collisions ≡ 0)
+
+-- so it is wherever the run comes to
+abbrev pub RunWithStops : Type 0
+RunWithStops =
+    (T : Terms) (ds : Durations) (lines : List Line) (s : Stand SimCell Unkept) → Allows T.plan ds → AreStops lines
+    → ComesBy T ds lines s → IsBookedOrStopped T.limits s.now.journal T.plan (at s.now.minds) s.cell.world
+
+-- and at its end, unless memory or a turn was refused
+abbrev pub EndWithStops : Type 0
+EndWithStops =
+    (l : BookLimits) (p : Plan) (ds : Durations) (lines : List Line) (new : SimCell) (J : List Entry) (e : End)
+    → Allows p ds → AreStops lines → Ran AnswersSo l p (opened p ds) [] lines new J e
+    → e ≢ end.Memory → e ≢ end.Full → (minds : Machine → Mind) × IsBookedOrStopped l J p minds new.world
+
+-- no collision was counted, whatever the end
+abbrev pub NoneCollidesByStops : Type 0
+NoneCollidesByStops =
+    (l : BookLimits) (p : Plan) (ds : Durations) (lines : List Line) (new : SimCell) (J : List Entry) (e : End)
+    → Allows p ds → AreStops lines → Ran AnswersSo l p (opened p ds) [] lines new J e → new.world.collisions ≡ 0

@@ -1,0 +1,89 @@
+-- The whole cell, where the operator stops machines without a belt, without a fault
+use Rattle.std.specs.Prelude.{◌≡◌, ◌⊎◌, true, false, Option, None, List, ◌++◌, option_to_list}
+use Rattle.cell_types.specs.declared.words.Axis.{Axis}
+use Rattle.cell_types.specs.declared.words.Entry.{Entry}
+use Rattle.cell_types.specs.declared.words.Entry.TheVariants.{StopAsked}
+use Rattle.cell_types.specs.declared.words.Machine.{Machine}
+use Rattle.cell_types.specs.Cell.{machine_of_axis}
+use Rattle.cell_rules.specs.declared.limits.BookLimits.{BookLimits}
+use Rattle.cell_rules.specs.Legal.{first_of, legal}
+use Rattle.cell_rules.specs.Views.{is_failed}
+use Rattle.cell_diagnosis.specs.RestRules.{rest}
+use Rattle.cell_diagnosis.specs.declared.verdict.Verdict.TheVariants.{Pending}
+use Rattle.cell_ports.specs.declared.plan.Plan.{Plan}
+use Rattle.cell_turns.specs.Minds.{Mind}
+use Rattle.cell_turns.specs.Turns.{mind_after}
+use Rattle.cell_sim.specs.Moves.{moves}
+use Rattle.cell_sim.specs.Parts.{axis_at}
+use Rattle.cell_sim.specs.Readings.{after_round, is_silent_in, shown}
+use Rattle.cell_sim.specs.Simulated.{Simulated}
+use Rattle.cell_world.specs.Agreeing.{has_belt}
+use Rattle.cell_world.specs.BeltTurning.{BeltAsBooked, StationsAsBooked}
+use Rattle.cell_world.specs.Going.{IsPlain}
+use Rattle.cell_world.specs.Starting.{StandsAs, one_more}
+use Rattle.cell_world.specs.Switched.{with_mind}
+use Rattle.cell_world.specs.Tie.{IsFairPlan, IsTied}
+use Rattle.cell_world.specs.Turning.{after_turn}
+use Rattle.cell_world.specs.Whole.{CellAsBooked, IsTurnOf}
+
+-- an axis stands still in the world, where the book has it or has it on its way to, and no reading of it is missing
+pub record IsHalted (J : List Entry) (w : Simulated) (a : Axis) : Type 0 where
+  pub stands : StandsAs J a (axis_at w a).pose
+  pub still : moves (axis_at w a).motion ≡ false
+  pub read : is_silent_in (axis_at w a).motion ≡ false
+
+-- a machine is booked failed, and all its axes stand still
+pub record HasStopped (J : List Entry) (m : Machine) (w : Simulated) : Type 0 where
+  pub failed : is_failed J m ≡ true
+  pub plain : IsPlain w
+  pub halted : (a : Axis) → machine_of_axis a ≡ m → IsHalted J w a
+
+-- a machine is as booked, whether it is asked to stop or not
+pub record Works (J : List Entry) (m : Machine) (s : Mind) (Tie : Type 0) : Type 0 where
+  pub healthy : is_failed J m ≡ false
+  pub was_healthy : s.memory.failed ≡ false
+  pub was_obeyed : s.memory.command_failed ≡ false
+  pub tied : Tie
+  pub agreed : rest s.rest ≡ Pending
+
+abbrev pub WorksOrStopped : List Entry → Plan → Machine → Mind → Simulated → Type 0
+WorksOrStopped J p m s w = Works J m s (IsTied J p m s.axis w) ⊎ HasStopped J m w
+
+-- each machine without a belt is as booked, or has stopped; the belts are as booked, and all stations, but for a plate
+-- that was laid in or taken out under a green light
+pub record CellWithStops (l : BookLimits) (J : List Entry) (p : Plan) (minds : Machine → Mind) (w : Simulated) : Type 0
+  where
+    pub legal : legal l J ≡ true
+    pub fair : IsFairPlan p w
+    pub switches : (m : Machine) → has_belt m ≡ false → WorksOrStopped J p m (minds m) w
+    pub belts : (m : Machine) → has_belt m ≡ true → BeltAsBooked J p m (minds m) w
+    pub stations : StationsAsBooked J p w
+
+-- so it is where no machine is asked to stop
+abbrev pub NoneStopped : Type 0
+NoneStopped =
+    (l : BookLimits) (J : List Entry) (p : Plan) (minds : Machine → Mind) (w : Simulated)
+    → CellAsBooked l J p minds w → CellWithStops l J p minds w
+
+-- it stays so through the turn of each machine, and no collision is counted
+abbrev pub StopsKept : Type 0
+StopsKept =
+    (l : BookLimits) (J : List Entry) (p : Plan) (minds : Machine → Mind) (w : Simulated) (m : Machine)
+    (e : Option Entry)
+    → CellWithStops l J p minds w → IsTurnOf l J p m (minds m) w e
+    → CellWithStops l (J ++ option_to_list e) p (with_mind m (mind_after J m p (minds m) (shown w m) e) minds)
+    (after_turn w m e)
+    × ((after_turn w m e).collisions ≡ w.collisions)
+
+-- and where the operator asks a machine without a belt to stop, of which nothing comes in the world yet
+abbrev pub AskingKeeps : Type 0
+AskingKeeps =
+    (l : BookLimits) (J : List Entry) (p : Plan) (minds : Machine → Mind) (w : Simulated) (m : Machine)
+    → has_belt m ≡ false → first_of l J (StopAsked m) ≡ None → CellWithStops l J p minds w
+    → CellWithStops l (one_more J (StopAsked m)) p minds w
+
+-- and through the end of each round
+abbrev pub StoppedRoundKept : Type 0
+StoppedRoundKept =
+    (l : BookLimits) (J : List Entry) (p : Plan) (minds : Machine → Mind) (w : Simulated)
+    → CellWithStops l J p minds w → CellWithStops l J p minds (after_round w)
