@@ -94,7 +94,7 @@ others_kept J p m n s w e t d h i =
 pub same_machines : (m : Machine) → same_machine m m ≡ true
 same_machines m = grind (arith, nat_tests)
 
-apart : (m n : Machine) → same_machine m n ≡ false → m ≢ n
+pub apart : (m n : Machine) → same_machine m n ≡ false → m ≢ n
 apart m n h e =
     let c : true ≡ false = sym (same_machines m) ∙ (ap (λ (x : Machine). same_machine m x) e ∙ h) in cc c
 

@@ -1,4 +1,4 @@
--- What AllOff does with the motions of a machine with switches, and a reading with axes that stand still
+-- What AllOff does with a machine's motions, what the operator's hands do, and a reading with axes that stand still
 use Rattle.std.proofs.Common.{◌≡◌, ◌≢◌, ◌⊎◌, inl, inr, Bool, true, false, not, ◌&&◌, Option, Some, None, List, [], ◌∷◌}
 use Rattle.std.proofs.Common.{length}
 use Rattle.std.proofs.Common.{refl, sym, ap, ◌∙◌, subst, length-set}
@@ -7,11 +7,12 @@ use Rattle.cell_types.specs.declared.words.Axis.TheVariants as axis
 use Rattle.cell_types.specs.declared.words.Command.TheVariants.{AllOff}
 use Rattle.cell_types.specs.declared.words.Machine.{Machine}
 use Rattle.cell_types.specs.declared.words.Machine.TheVariants as machine
-use Rattle.cell_types.specs.Cell.{axes_of, machine_of_axis}
+use Rattle.cell_types.specs.Cell.{axes_of, home, machine_of_axis}
 use Rattle.cell_types.specs.Same.{axis_number}
 use Rattle.cell_sim.specs.declared.axis.AxisInWorld.{AxisInWorld}
 use Rattle.cell_sim.specs.declared.motion.Moving.{Moving}
 use Rattle.cell_sim.specs.Commands.{after_command, all_stopped, axis_stopped, fails, stopped_motion, unlit}
+use Rattle.cell_sim.specs.Hands.{after_home, axis_homed}
 use Rattle.cell_sim.specs.Looks.{looked}
 use Rattle.cell_sim.specs.Moves.{moves}
 use Rattle.cell_sim.specs.Parts.{axis_at, in_turn, with_axis}
@@ -19,6 +20,8 @@ use Rattle.cell_sim.specs.Readings.{advanced, after_reading, by_the_hands, is_re
 use Rattle.cell_sim.specs.Simulated.{Simulated}
 use Rattle.cell_world.specs.Agreeing.{has_belt}
 use Rattle.cell_world.specs.Going.{IsPlain}
+use Rattle.cell_world.proofs.Hand.{homed_part}
+use Rattle.cell_world.proofs.Leaves.{apart_number}
 use Rattle.cell_world.proofs.Machines.{hands_off}
 use Rattle.cell_world.proofs.Steps.{at_other, at_same, below_nine, each_axis, unless, unlooked}
 
@@ -131,6 +134,84 @@ stop_does m w b t =
     let v = in_turn axis_stopped (axes_of m) w in
     ap (λ (u : Simulated). looked (Some (AllOff m)) (in_turn axis_stopped (axes_of m) u)) (unlit_none m w b)
     ∙ unlooked (Some (AllOff m)) v (stopped_plain (axes_of m) w t).unwatched
+
+-- AXES THAT ARE PUT AT HOME
+
+pub record IsHome (a : Axis) (x : AxisInWorld) : Type 0 where
+  pub pose : x.pose ≡ home a
+  pub still : x.motion ≡ None
+
+abbrev homed : Axis → AxisInWorld → AxisInWorld
+homed a x = record x { pose = home a; motion = None }
+
+it_homed : (a : Axis) (w : Simulated) → IsPlain w → axis_at (axis_homed a w) a ≡ homed a (axis_at w a)
+it_homed a w t = at_same w a (homed a (axis_at w a)) (below_nine a (length w.axes) t.axes)
+
+home_now : (a : Axis) (w : Simulated) → IsPlain w → IsHome a (axis_at (axis_homed a w) a)
+home_now a w t = subst (IsHome a) (sym (it_homed a w t)) (record { pose = refl; still = refl })
+
+home_still : (a b : Axis) (w : Simulated) → IsPlain w → IsHome b (axis_at w b) → IsHome b (axis_at (axis_homed a w) b)
+home_still a b w t =
+    each_axis (λ (c : Axis). IsHome c (axis_at w c) → IsHome c (axis_at (axis_homed a w) c)) a b
+    (λ h. home_now a w t)
+    (λ d h. subst (IsHome b) (sym (at_other w a b (homed a (axis_at w a)) d)) h)
+
+pub homed_plain : (xs : List Axis) (w : Simulated) → IsPlain w → IsPlain (in_turn axis_homed xs w)
+homed_plain xs w t =
+    record {
+      unwatched = homed_part (λ (v : Simulated). v.watch.is_on) (λ a x u. refl) xs w ∙ t.unwatched;
+      axes = homed_part (λ (v : Simulated). length v.axes) (λ a x u. length-set _ _ _) xs w ∙ t.axes;
+      stations = homed_part (λ (v : Simulated). length v.plates) (λ a x u. refl) xs w ∙ t.stations;
+    }
+
+home_through : (xs : List Axis) (b : Axis) (w : Simulated) → IsPlain w → IsHome b (axis_at w b)
+    → IsHome b (axis_at (in_turn axis_homed xs w) b)
+home_through [] b w t h = h
+home_through (a ∷ xs) b w t h =
+    home_through xs b (axis_homed a w) (homed_plain (a ∷ []) w t) (home_still a b w t h)
+
+home_in : (xs : List Axis) (a : Axis) (w : Simulated) → IsPlain w → IsOneOf a xs
+    → IsHome a (axis_at (in_turn axis_homed xs w) a)
+home_in [] a w t h = absurd h
+home_in (b ∷ xs) a w t (inl e) =
+    home_through xs a (axis_homed b w) (homed_plain (b ∷ []) w t)
+    (subst (λ (c : Axis). IsHome c (axis_at (axis_homed b w) c)) (sym e) (home_now b w t))
+home_in (b ∷ xs) a w t (inr i) = home_in xs a (axis_homed b w) (homed_plain (b ∷ []) w t) i
+
+pub all_home : (m : Machine) (a : Axis) (w : Simulated) → IsPlain w → machine_of_axis a ≡ m
+    → IsHome a (axis_at (in_turn axis_homed (axes_of m) w) a)
+all_home m a w t e =
+    home_in (axes_of m) a w t (subst (λ (n : Machine). IsOneOf a (axes_of n)) e (its_own a))
+
+-- an axis of another machine stays
+abbrev AllOf : Machine → List Axis → Type 0
+AllOf m [] = Unit {0}
+AllOf m (a ∷ xs) = (machine_of_axis a ≡ m) × AllOf m xs
+
+all_its : (m : Machine) → AllOf m (axes_of m)
+all_its machine.Feed = (refl, tt)
+all_its machine.Table = (refl, (refl, tt))
+all_its machine.Robot = (refl, (refl, (refl, tt)))
+all_its machine.Press1 = (refl, tt)
+all_its machine.Press2 = (refl, tt)
+all_its machine.Deposit = (refl, tt)
+
+other_through : (m : Machine) (xs : List Axis) (b : Axis) (w : Simulated) → AllOf m xs → machine_of_axis b ≢ m
+    → axis_at (in_turn axis_homed xs w) b ≡ axis_at w b
+other_through m [] b w h d = refl
+other_through m (a ∷ xs) b w h d =
+    other_through m xs b (axis_homed a w) h.1 d
+    ∙ at_other w a b (homed a (axis_at w a)) (apart_number a b (λ e. d (sym e ∙ h.0)))
+
+pub other_home : (m : Machine) (b : Axis) (w : Simulated) → machine_of_axis b ≢ m
+    → axis_at (in_turn axis_homed (axes_of m) w) b ≡ axis_at w b
+other_home m b w d = other_through m (axes_of m) b w (all_its m) d
+
+-- the act
+pub home_does : (m : Machine) (w : Simulated) → IsPlain w → after_home m w ≡ in_turn axis_homed (axes_of m) w
+unfolding after_home
+home_does m w t =
+    unlooked None (in_turn axis_homed (axes_of m) w) (homed_plain (axes_of m) w t).unwatched
 
 -- A READING WHERE ALL STANDS STILL
 

@@ -104,8 +104,8 @@ rest_after J m w b r =
     ap (λ (v : Simulated). read_on m v) (hands_off m w b)
     ∙ (unless (is_reading_missing w m) _ _ (silent_no J m w b r) ∙ all_stay J m w b r)
 
-nothing_noted : (J : List Entry) (p : Plan) (m : Machine) (f : Option Following) (w : Simulated) (r : Option Reading)
-    → has_belt m ≡ false → MachineRests J m f w → axis_noted J m p f r ≡ None
+pub nothing_noted : (J : List Entry) (p : Plan) (m : Machine) (f : Option Following) (w : Simulated)
+    (r : Option Reading) → has_belt m ≡ false → MachineRests J m f w → axis_noted J m p f r ≡ None
 nothing_noted J p m f w r b t =
     ap (λ (x : Option Following). option_map (with_reading r) (followed x (motion_of_machine J p m))) t.unnoted
     ∙ ap (λ (o : Option Motion). option_map (with_reading r) (followed None o)) (no_motion J p m w b t.rest)
@@ -125,6 +125,14 @@ stays_tied J p a to g h f w e fair t =
         goes = t.goes;
       }),
     )
+
+-- a reading leaves a machine that rests at rest
+pub rests_read : (J : List Entry) (p : Plan) (m : Machine) (f : Option Following) (w : Simulated)
+    → has_belt m ≡ false → MachineRests J m f w
+    → MachineRests J m (axis_noted J m p f (shown w m)) (after_reading w m)
+rests_read J p m f w b t =
+    subst (λ (v : Simulated). MachineRests J m (axis_noted J m p f (shown w m)) v) (sym (rest_after J m w b t.rest))
+    (record { plain = t.plain; rest = t.rest; unnoted = nothing_noted J p m f w (shown w m) b t })
 
 axis_went : (J : List Entry) (p : Plan) (a : Axis) (to : Pose) (g : Given) (f : Option Following) (w : Simulated)
     → IsFair (motion_by J p a to) (further_of g) → AxisWent J p a to (next_given g) f w

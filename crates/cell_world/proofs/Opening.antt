@@ -19,7 +19,7 @@ use Rattle.cell_world.specs.Tied.{Rests}
 use Rattle.cell_world.specs.Turning.{IsAsBooked}
 use Rattle.cell_world.specs.Whole.{opening_for}
 
-home_pose : (a : Axis) → is_pose_of a (home a) ≡ true
+pub home_pose : (a : Axis) → is_pose_of a (home a) ≡ true
 home_pose axis.FeedBelt = refl
 home_pose _ = refl
 

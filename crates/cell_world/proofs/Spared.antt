@@ -52,7 +52,7 @@ use Rattle.cell_world.proofs.Starts.{on_does, ready, ready_at, ready_plain, told
 use Rattle.cell_world.proofs.Steps.{rests_as, unless, unlooked}
 
 -- what is as before is tied as before
-rest_spared : (J J' : List Entry) (m : Machine) (w w' : Simulated) → IsSpared m J J' w w' → (a : Axis)
+pub rest_spared : (J J' : List Entry) (m : Machine) (w w' : Simulated) → IsSpared m J J' w w' → (a : Axis)
     → machine_of_axis a ≡ m → IsAtRest J w a → IsAtRest J' w' a
 rest_spared J J' m w w' s a e t = rests_as J J' w' w a (s.at a e) (s.going a e) (s.axes a e) t
 

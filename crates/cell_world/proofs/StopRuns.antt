@@ -1,16 +1,18 @@
--- The whole cell, through the moves of a run in which the operator stops machines without a belt
-use Rattle.std.proofs.Common.{◌≡◌, ◌≢◌, inl, inr, Bool, true, false, Option, Some, None, List, [], ◌∷◌, refl, sym, ap}
+-- The whole cell, through the moves of a run in which the operator stops and repairs machines without a belt
+use Rattle.std.proofs.Common.{◌≡◌, ◌≢◌, ◌⊎◌, inl, inr, Bool, true, false, Option, Some, None, List, [], ◌∷◌, refl, sym}
+use Rattle.std.proofs.Common.{ap}
 use Rattle.std.proofs.Common.{◌∙◌}
 use Rattle.std.proofs.Common.{subst, if◌then◌else◌}
 use Rattle.std.specs.Option.{option_and_then}
 use Rattle.cell_types.specs.declared.words.Entry.{Entry}
-use Rattle.cell_types.specs.declared.words.Entry.TheVariants.{StopAsked}
+use Rattle.cell_types.specs.declared.words.Entry.TheVariants.{Repaired, StopAsked}
 use Rattle.cell_types.specs.declared.words.Machine.{Machine}
 use Rattle.cell_rules.specs.History.{History}
 use Rattle.cell_rules.specs.Legal.{allowed, first_of}
 use Rattle.cell_rules.specs.declared.limits.BookLimits.{BookLimits}
 use Rattle.cell_measures.specs.declared.durations.Durations.{Durations}
 use Rattle.cell_ports.specs.declared.plan.Plan.{Plan}
+use Rattle.cell_ports.specs.declared.port.Act.TheVariants.{Home}
 use Rattle.cell_turns.specs.Acts.{act_of}
 use Rattle.cell_turns.specs.Minds.{Mind}
 use Rattle.cell_turns.specs.Six.{at}
@@ -19,6 +21,7 @@ use Rattle.operator_desk.specs.declared.action.Action.{Action}
 use Rattle.operator_desk.specs.declared.action.Action.TheVariants as action
 use Rattle.operator_desk.specs.declared.line.Line.{Line}
 use Rattle.operator_desk.specs.declared.line.Task.{Task}
+use Rattle.operator_desk.specs.declared.line.Task.TheVariants as task
 use Rattle.operator_desk.specs.Next.{action_now, action_of, entry_of, holds, if_allowed, left_after, next_of}
 use Rattle.cell_rounds.specs.Moves.{Leads, Terms, terms_of}
 use Rattle.cell_rounds.specs.Stands.{Stand, start}
@@ -30,16 +33,19 @@ use Rattle.cell_world.specs.Agreeing.{has_belt}
 use Rattle.cell_world.specs.BeltTurning.{BeltAsBooked}
 use Rattle.cell_world.specs.Running.{Allows, opened}
 use Rattle.cell_world.specs.Starting.{one_more}
-use Rattle.cell_world.specs.StopRuns.{AreStops, EndWithStops, IsBookedOrStopped, NoneCollidesByStops, RunWithStops}
+use Rattle.cell_world.specs.StopRuns.{AreServices, EndWithStops, IsBookedOrStopped, NoneCollidesByStops, RunWithStops}
 use Rattle.cell_world.specs.Stopping.{CellWithStops, WorksOrStopped}
 use Rattle.cell_world.proofs.BeltReads.{read_counts}
 use Rattle.cell_world.proofs.Halts.{read_still}
-use Rattle.cell_world.proofs.Hand.{done_by}
+use Rattle.cell_world.proofs.Hand.{done_by, hand_counts}
+use Rattle.cell_world.proofs.Machines.{rest_after}
+use Rattle.cell_world.proofs.Spared.{some_same}
 use Rattle.cell_world.proofs.Moves.{Holding, Holds, HoldsOn, clear, come, ended}
 use Rattle.cell_world.proofs.Owned.{decided_owned}
 use Rattle.cell_world.proofs.Rounds.{round_collisions}
 use Rattle.cell_world.proofs.Shows.{leaves_collisions}
-use Rattle.cell_world.proofs.Stopping.{asking_keeps, none_stopped, plain_of, stopped_round_kept, stops_kept}
+use Rattle.cell_world.proofs.Stopping.{asking_keeps, none_stopped, plain_of, repairing_keeps, stopped_round_kept}
+use Rattle.cell_world.proofs.Stopping.{stops_kept}
 use Rattle.cell_world.proofs.Whole.{cell_opening}
 
 -- THE SCRIPT
@@ -48,23 +54,51 @@ if_some : {A : Type 0} (b : Bool) (o : Option A) (x : A) → (if b then o else N
 if_some true o x h = h
 if_some false o x h = cc h
 
--- the action of such a line asks a machine without a belt to stop
-record Stops (a : Action) : Type 0 where
+-- the action of such a line asks a machine without a belt to stop, or repairs one
+record Serves (a : Action) : Type 0 where
   machine : Machine
   belt : has_belt machine ≡ false
-  is : action.Stop machine ≡ a
+  is : (action.Stop machine ≡ a) ⊎ (action.Repair machine ≡ a)
 
-stop_next : (ls : List Line) (h : History) (a : Action) → AreStops ls → next_of ls h ≡ Some a → Stops a
-unfolding action_now action_of
-stop_next [] h a t n = cc n
-stop_next (line ∷ rest) h a ((m, b, e), t) n =
-    let x = if_some (holds h.entries line.when) (option_and_then (if_allowed h) (action_of h.entries line.task)) a n in
-    let y = sym (ap (λ (k : Task). option_and_then (if_allowed h) (action_of h.entries k)) e) ∙ x in
-    let z : Some (action.Stop m) ≡ Some a =
-    if_some (allowed h.limits h.entries (entry_of (action.Stop m))) (Some (action.Stop m)) a y in
-    record { machine = m; belt = b; is = cc z }
+-- the action of a task that is always one
+acts_so : (h : History) (k : Task) (b a : Action) → action_of h.entries k ≡ Some b
+    → option_and_then (if_allowed h) (action_of h.entries k) ≡ Some a → b ≡ a
+acts_so h k b a e n =
+    let x = sym (ap (λ (o : Option Action). option_and_then (if_allowed h) o) e) ∙ n in
+    some_same b a (if_some (allowed h.limits h.entries (entry_of b)) (Some b) a x)
 
-left_stops : (ls : List Line) → AreStops ls → AreStops (left_after ls)
+stop_acts : (h : History) (m : Machine) → action_of h.entries (task.Stop m) ≡ Some (action.Stop m)
+unfolding action_of
+stop_acts h m = refl
+
+repair_acts : (h : History) (m : Machine) → action_of h.entries (task.Repair m) ≡ Some (action.Repair m)
+unfolding action_of
+repair_acts h m = refl
+
+served : (h : History) (k : Task) (a : Action) (m : Machine) → has_belt m ≡ false
+    → (k ≡ task.Stop m) ⊎ (k ≡ task.Repair m) → option_and_then (if_allowed h) (action_of h.entries k) ≡ Some a
+    → Serves a
+served h k a m b (inl e) n =
+    record {
+      machine = m;
+      belt = b;
+      is = inl (acts_so h k (action.Stop m) a (ap (action_of h.entries) e ∙ stop_acts h m) n);
+    }
+served h k a m b (inr e) n =
+    record {
+      machine = m;
+      belt = b;
+      is = inr (acts_so h k (action.Repair m) a (ap (action_of h.entries) e ∙ repair_acts h m) n);
+    }
+
+serves_next : (ls : List Line) (h : History) (a : Action) → AreServices ls → next_of ls h ≡ Some a → Serves a
+unfolding action_now
+serves_next [] h a t n = cc n
+serves_next (line ∷ rest) h a ((m, b, e), t) n =
+    served h line.task a m b e
+    (if_some (holds h.entries line.when) (option_and_then (if_allowed h) (action_of h.entries line.task)) a n)
+
+left_stops : (ls : List Line) → AreServices ls → AreServices (left_after ls)
 left_stops [] t = tt
 left_stops (line ∷ rest) t = t.1
 
@@ -82,12 +116,13 @@ other_minds l J p minds others w h t =
     }
 
 abbrev WithStops : Terms → Holding
-WithStops T ls J minds w = AreStops ls × IsBookedOrStopped T.limits J T.plan minds w
+WithStops T ls J minds w = AreServices ls × IsBookedOrStopped T.limits J T.plan minds w
 
 member_counts : (J : List Entry) (p : Plan) (m : Machine) (s : Mind) (w : Simulated) → has_belt m ≡ false
     → WorksOrStopped J p m s w → (after_reading w m).collisions ≡ w.collisions
 member_counts J p m s w b (inl t) = leaves_collisions J p m s.axis w b t.tied
-member_counts J p m s w b (inr t) =
+member_counts J p m s w b (inr (inr t)) = ap (λ (v : Simulated). v.collisions) (rest_after J m w b t.rest)
+member_counts J p m s w b (inr (inl t)) =
     ap (λ (v : Simulated). v.collisions)
     (read_still m w b (λ a e. ((t.halted a e).still, (t.halted a e).read)))
 
@@ -96,15 +131,36 @@ read_by : (l : BookLimits) (J : List Entry) (p : Plan) (minds : Machine → Mind
 read_by l J p minds w m false b t = member_counts J p m (minds m) w b (t.switches m b)
 read_by l J p minds w m true b t = read_counts J p m (minds m).axis w b (t.belts m b).tied
 
--- the operator asks for a stop
-hand_kept : (T : Terms) (ls : List Line) (J : List Entry) (f : Machine → Mind) (w : Simulated) (a : Action)
-    → WithStops T ls J f w → Stops a → first_of T.limits J (entry_of a) ≡ None
-    → WithStops T (left_after ls) (one_more J (entry_of a)) f (done_by (act_of (entry_of a)) w)
-hand_kept T ls J f w a t s free =
-    let m = s.machine in let free' = subst (λ (x : Action). first_of T.limits J (entry_of x) ≡ None) (sym s.is) free in
-    subst (λ (x : Action). WithStops T (left_after ls) (one_more J (entry_of x)) f (done_by (act_of (entry_of x)) w))
-    s.is
-    (left_stops ls t.0, (asking_keeps T.limits J T.plan f w m s.belt free' t.1.0, t.1.1))
+-- the operator asks for a stop, or repairs
+abbrev Handed : Terms → List Line → List Entry → (Machine → Mind) → Simulated → Action → Type 0
+Handed T ls J f w a =
+    WithStops T (left_after ls) (one_more J (entry_of a)) f (done_by (act_of (entry_of a)) w)
+
+stop_kept : (T : Terms) (ls : List Line) (J : List Entry) (f : Machine → Mind) (w : Simulated) (m : Machine)
+    → WithStops T ls J f w → has_belt m ≡ false → first_of T.limits J (StopAsked m) ≡ None
+    → Handed T ls J f w (action.Stop m)
+stop_kept T ls J f w m t b free = (left_stops ls t.0, (asking_keeps T.limits J T.plan f w m b free t.1.0, t.1.1))
+
+repair_kept : (T : Terms) (ls : List Line) (J : List Entry) (f : Machine → Mind) (w : Simulated) (m : Machine)
+    → WithStops T ls J f w → has_belt m ≡ false → first_of T.limits J (Repaired m) ≡ None
+    → Handed T ls J f w (action.Repair m)
+repair_kept T ls J f w m t b free = (
+  left_stops ls t.0,
+  (
+    repairing_keeps T.limits J T.plan f w m b free t.1.0,
+    hand_counts (Some (Home m)) w (plain_of T.limits J T.plan f w t.1.0) ∙ t.1.1,
+  ),
+)
+
+hand_by : (T : Terms) (ls : List Line) (J : List Entry) (f : Machine → Mind) (w : Simulated) (a : Action)
+    (m : Machine) → WithStops T ls J f w → has_belt m ≡ false → (action.Stop m ≡ a) ⊎ (action.Repair m ≡ a)
+    → first_of T.limits J (entry_of a) ≡ None → Handed T ls J f w a
+hand_by T ls J f w a m t b (inl e) free =
+    subst (Handed T ls J f w) e
+    (stop_kept T ls J f w m t b (subst (λ (x : Action). first_of T.limits J (entry_of x) ≡ None) (sym e) free))
+hand_by T ls J f w a m t b (inr e) free =
+    subst (Handed T ls J f w) e
+    (repair_kept T ls J f w m t b (subst (λ (x : Action). first_of T.limits J (entry_of x) ≡ None) (sym e) free))
 
 holds_on : (T : Terms) → HoldsOn T (WithStops T)
 holds_on T =
@@ -118,7 +174,8 @@ holds_on T =
       }) in (t.0, (left.0, left.1 ∙ t.1.1));
       round = λ ls J f w t. (t.0, (stopped_round_kept l J p f w t.1.0, round_collisions w ∙ t.1.1));
       hand = λ ls J f w a t next free.
-          hand_kept T ls J f w a t (stop_next ls (record { limits = l; entries = J }) a t.0 next) free;
+          let s = serves_next ls (record { limits = l; entries = J }) a t.0 next in
+          hand_by T ls J f w a s.machine t s.belt s.is free;
       plain = λ ls J f w t. plain_of l J p f w t.1.0;
       counts = λ ls J f w t. t.1.1;
       reads = λ ls J f w m t. read_by l J p f w m (has_belt m) refl t.1.0 ∙ t.1.1;
@@ -127,7 +184,7 @@ holds_on T =
 -- THE RUN
 
 stands : (T : Terms) (ds : Durations) (lines : List Line) (k : Unkept) (t : Stand SimCell Unkept) → Allows T.plan ds
-    → AreStops lines → Leads AnswersSo AllKept T (start (opened T.plan ds) k [] lines None) t
+    → AreServices lines → Leads AnswersSo AllKept T (start (opened T.plan ds) k [] lines None) t
     → Holds T (WithStops T) t
 stands T ds lines k t fair are leads =
     come T (WithStops T) (opened T.plan ds) k [] lines t (holds_on T) refl

@@ -1,27 +1,30 @@
--- The whole cell, where the operator stops machines without a belt
+-- The whole cell, where the operator stops and repairs machines without a belt
 use Rattle.std.proofs.Common.{◌≡◌, ◌≢◌, ◌⊎◌, inl, inr, Bool, true, false, Option, Some, None, List, [], ◌∷◌, ◌++◌, refl}
 use Rattle.std.proofs.Common.{sym}
 use Rattle.std.proofs.Common.{ap, ◌∙◌, subst, IfSome}
 use Rattle.std.proofs.lemmas.List.{append-nil}
-use Rattle.std.specs.Prelude.{option_to_list, unwrap_or}
+use Rattle.std.specs.Option.{option_map}
+use Rattle.std.specs.Prelude.{◌&&◌, ◌||◌, if◌then◌else◌, is_none, option_to_list, unwrap_or}
 use Rattle.cell_types.specs.declared.words.Axis.{Axis}
 use Rattle.cell_types.specs.declared.words.Cause.TheVariants as cause
 use Rattle.cell_types.specs.declared.words.Entry.{Entry}
-use Rattle.cell_types.specs.declared.words.Entry.TheVariants.{Declared, StopAsked}
+use Rattle.cell_types.specs.declared.words.Entry.TheVariants.{Declared, Repaired, StopAsked}
 use Rattle.cell_types.specs.declared.words.Machine.{Machine}
 use Rattle.cell_types.specs.declared.words.Machine.TheVariants as machine
 use Rattle.cell_types.specs.declared.words.Pose.{Pose}
 use Rattle.cell_types.specs.declared.words.Station.{Station}
 use Rattle.cell_types.specs.declared.words.Station.TheVariants as station
-use Rattle.cell_types.specs.Cell.{axes_of, machine_of_axis}
+use Rattle.cell_types.specs.After.{after}
+use Rattle.cell_types.specs.Cell.{axes_of, home, is_pose_of, machine_of_axis}
 use Rattle.cell_types.specs.Entries.{machine_of_entry}
 use Rattle.cell_types.specs.Same.{axis_number, same_machine}
 use Rattle.cell_rules.specs.declared.limits.BookLimits.{BookLimits}
 use Rattle.cell_rules.specs.Last.{when}
-use Rattle.cell_rules.specs.Legal.{first_of, legal}
+use Rattle.cell_rules.specs.Legal.{allowed, first_of, legal}
+use Rattle.cell_rules.specs.declared.refusal.Refusal.{Refusal}
 use Rattle.cell_rules.specs.Views.{asks, at_of, fails, going_of, is_asked, is_failed}
-use Rattle.cell_rules.proofs.Safe.Bridge.{good_when_legal}
-use Rattle.cell_rules.proofs.Safe.Facts.{machine_same}
+use Rattle.cell_rules.proofs.Safe.Bridge.{Good, good_passed, good_when_legal}
+use Rattle.cell_rules.proofs.Safe.Facts.{machine_same, not_false}
 use Rattle.cell_rules.proofs.Safe.Views.{view_snoc}
 use Rattle.cell_diagnosis.specs.RestRules.{rest}
 use Rattle.cell_diagnosis.specs.declared.reading.Reading.{Reading}
@@ -30,11 +33,13 @@ use Rattle.cell_ports.specs.declared.plan.Plan.{Plan}
 use Rattle.cell_turns.specs.declared.turns.decide.Ruling.{Ruling}
 use Rattle.cell_turns.specs.declared.turns.decide.Ruling.TheVariants.{Books, Nothing, Proposes}
 use Rattle.cell_turns.specs.Following.{Following}
-use Rattle.cell_turns.specs.Minds.{Mind}
+use Rattle.cell_turns.specs.Minds.{Mind, first_mind}
+use Rattle.cell_turns.specs.Observed.{axis_noted, rest_noted}
 use Rattle.cell_turns.specs.Rulings.{declares, first_ruling, ruling}
-use Rattle.cell_turns.specs.Turns.{IsDecided, IsRuled, mind_after}
+use Rattle.cell_turns.specs.Turns.{IsDecided, IsProposed, IsRuled, begins_anew, ends_motion, mind_after}
 use Rattle.cell_sim.specs.declared.motion.Moving.{Moving}
 use Rattle.cell_sim.specs.Commands.{axis_stopped}
+use Rattle.cell_sim.specs.Hands.{axis_homed}
 use Rattle.cell_sim.specs.Moves.{moves}
 use Rattle.cell_sim.specs.Parts.{axis_at, in_turn, plate_at, plate_here}
 use Rattle.cell_sim.specs.Readings.{after_reading, after_round, is_silent_in, shown}
@@ -43,9 +48,12 @@ use Rattle.cell_world.specs.Agreeing.{has_belt}
 use Rattle.cell_world.specs.BeltTurning.{BeltAsBooked, BeltTurnBegins, IsBeltTied, StationsAsBooked}
 use Rattle.cell_world.specs.Going.{IsAtRest, IsPlain}
 use Rattle.cell_world.specs.Sparing.{IsSpared}
-use Rattle.cell_world.specs.Starting.{RobotMayStand, StandsAs, after_entry, one_more}
+use Rattle.cell_world.specs.Starting.{MachineRests, RobotMayStand, StandsAs, after_entry, one_more}
 use Rattle.cell_world.specs.Stopping.{AskingKeeps, CellWithStops, HasStopped, IsHalted, NoneStopped, StoppedRoundKept}
-use Rattle.cell_world.specs.Stopping.{StopsKept, Works, WorksOrStopped}
+use Rattle.cell_world.specs.Stopping.{IsRepaired, RepairingKeeps, StopsKept, Works, WorksOrStopped}
+use Rattle.cell_world.specs.Belts.{Conveying, EndsAsBefore, dest_of, from_of, light_of, to_deposit_end, to_feed_end}
+use Rattle.cell_world.specs.Belts.{to_table}
+use Rattle.cell_world.specs.Tied.{RestsBy}
 use Rattle.cell_world.specs.Switched.{with_mind}
 use Rattle.cell_world.specs.Tie.{IsTied, WentOn}
 use Rattle.cell_world.specs.Turning.{AsBooked, TurnBegins, after_turn}
@@ -53,19 +61,23 @@ use Rattle.cell_world.specs.Whole.{IsTurnOf}
 use Rattle.cell_world.proofs.BeltTurns.{belt_turn_does}
 use Rattle.cell_world.proofs.BeltWays.{EndsStay, belt_stays}
 use Rattle.cell_world.proofs.Ends.{SparesEnds, read_spares_ends, spares_same, spares_then}
-use Rattle.cell_world.proofs.Entries.{at_before, going_before}
+use Rattle.cell_world.proofs.Entries.{at_before, at_now, going_before, going_now}
+use Rattle.cell_world.proofs.Four.{apart}
 use Rattle.cell_world.proofs.Four.{each_mind, kept_as, legal_then, same_machines, turn_healthy, turn_spared}
 use Rattle.cell_world.proofs.Four.{turn_unasked}
 use Rattle.cell_world.proofs.Halts.{IsAsStill, all_as_still, all_still, read_still, stop_does, stopped_part}
-use Rattle.cell_world.proofs.Halts.{stopped_plain}
+use Rattle.cell_world.proofs.Halts.{IsHome, all_home, home_does, homed_plain, other_home, stopped_plain}
+use Rattle.cell_world.proofs.Hand.{homed_part}
 use Rattle.cell_world.proofs.Laying.{WorldAsBefore, laying_of, stations_after}
 use Rattle.cell_world.proofs.Long.{fair_then, turn_long}
-use Rattle.cell_world.proofs.Machines.{machine_goes, tied_stands}
+use Rattle.cell_world.proofs.Machines.{machine_goes, nothing_noted, rest_after, tied_stands}
+use Rattle.cell_world.proofs.Opening.{home_pose, none_noted}
 use Rattle.cell_world.proofs.Plates.{number_of}
 use Rattle.cell_world.proofs.Rounds.{round_ends, round_fair, round_spares, round_stations}
 use Rattle.cell_world.proofs.Shows.{leaves_collisions, leaves_plates}
-use Rattle.cell_world.proofs.Spared.{spared_stays}
+use Rattle.cell_world.proofs.Spared.{rest_spared, spared_stays}
 use Rattle.cell_world.proofs.Steps.{each_axis, not_true, rest_silent}
+use Rattle.cell_world.proofs.Turns.{and_false, proposed_does}
 use Rattle.cell_world.proofs.Turns.{good_then, plates_as, tied_plain, turn_does, when_no}
 use Rattle.cell_world.proofs.Whole.{ends_stay, other_kind, other_stay, stations_kept, world_before}
 
@@ -114,18 +126,44 @@ by_first : {a : Option Ruling} (b c d v q e g : Option Ruling) (k : Ruling) → 
     → first_ruling (a ∷ b ∷ c ∷ d ∷ v ∷ q ∷ e ∷ g ∷ Some Proposes ∷ []) ≡ k
 by_first b c d v q e g k ha = rw ha refl
 
-ruled_stop : {T : Type 0} (J : List Entry) (p : Plan) (m : Machine) (s : Mind) (r : Option Reading)
-    → Works J m s T → is_asked J m ≡ true → ruling J m p s r ≡ Books (Declared m cause.OperatorStop)
+ruled_stop : (J : List Entry) (p : Plan) (m : Machine) (s : Mind) (r : Option Reading) → is_failed J m ≡ false
+    → s.memory.command_failed ≡ false → is_asked J m ≡ true
+    → ruling J m p s r ≡ Books (Declared m cause.OperatorStop)
 unfolding ruling
-ruled_stop J p m s r t h =
-    by_third _ _ _ _ _ (declares m cause.OperatorStop) (when_no (is_failed J m) Nothing t.healthy)
-    (when_no s.memory.command_failed (declares m cause.CommandFault) t.was_obeyed)
+ruled_stop J p m s r healthy obeyed h =
+    by_third _ _ _ _ _ (declares m cause.OperatorStop) (when_no (is_failed J m) Nothing healthy)
+    (when_no s.memory.command_failed (declares m cause.CommandFault) obeyed)
     (ap (λ (x : Bool). when x (declares m cause.OperatorStop)) h)
 
 ruled_nothing : (J : List Entry) (p : Plan) (m : Machine) (s : Mind) (r : Option Reading) → is_failed J m ≡ true
     → ruling J m p s r ≡ Nothing
 unfolding ruling
 ruled_nothing J p m s r h = by_first _ _ _ _ _ _ _ Nothing (ap (λ (x : Bool). when x Nothing) h)
+
+by_fourth : {a b c d : Option Ruling} (v q e g : Option Ruling) (k : Ruling) → a ≡ None → b ≡ None → c ≡ None
+    → d ≡ Some k → first_ruling (a ∷ b ∷ c ∷ d ∷ v ∷ q ∷ e ∷ g ∷ Some Proposes ∷ []) ≡ k
+by_fourth v q e g k ha hb hc hd = rw (ha, hb, hc, hd) refl
+
+ruled_anew : (J : List Entry) (p : Plan) (m : Machine) (s : Mind) (w : Simulated) (r : Option Reading)
+    → IsRepaired J m s w → is_asked J m ≡ false → ruling J m p s r ≡ Proposes
+unfolding ruling
+ruled_anew J p m s w r t h =
+    by_fourth _ _ _ _ Proposes (when_no (is_failed J m) Nothing t.healthy)
+    (when_no s.memory.command_failed (declares m cause.CommandFault) t.was_obeyed)
+    (when_no (is_asked J m) (declares m cause.OperatorStop) h)
+    (ap (λ (x : Bool). when x Proposes) t.was_failed)
+
+-- WHAT IS KEPT OF A TURN
+
+failed_after : (J : List Entry) (p : Plan) (m : Machine) (s : Mind) (r : Option Reading) (e : Option Entry)
+    → (mind_after J m p s r e).memory.failed ≡ is_failed (J ++ option_to_list e) m
+unfolding mind_after
+failed_after J p m s r e = refl
+
+obeyed_after : (J : List Entry) (p : Plan) (m : Machine) (s : Mind) (r : Option Reading) (e : Option Entry)
+    → s.memory.command_failed ≡ false → (mind_after J m p s r e).memory.command_failed ≡ false
+unfolding mind_after
+obeyed_after J p m s r e h = ap (λ (x : Bool). is_none e && x) h ∙ and_false (is_none e)
 
 -- WHAT A TURN OF A MACHINE WITH SWITCHES LEAVES
 
@@ -192,17 +230,47 @@ declared_failed J m =
     view_snoc (fails m) false J (Declared m cause.OperatorStop)
     ∙ ap (λ (b : Bool). unwrap_or (when b true) (is_failed J m)) (same_machines m)
 
+-- what a reading leaves of a machine that is to stop
+record ReadsSo (J : List Entry) (m : Machine) (w : Simulated) : Type 0 where
+  plain : IsPlain (after_reading w m)
+  seen : (a : Axis) → machine_of_axis a ≡ m → Seen J (after_reading w m) a
+  spares : SparesEnds J w (after_reading w m)
+  plates : (u : Station) → plate_at (after_reading w m) u ≡ plate_at w u
+  collisions : (after_reading w m).collisions ≡ w.collisions
+
+works_reads : (J : List Entry) (p : Plan) (m : Machine) (f : Option Following) (w : Simulated) → has_belt m ≡ false
+    → IsTied J p m f w → ReadsSo J m w
+works_reads J p m f w b t =
+    let went = machine_goes J p m f w b t in
+    record {
+      plain = went_plain J p m _ (after_reading w m) went;
+      seen = went_seen J p m _ (after_reading w m) went;
+      spares = read_spares_ends J p m f w b t;
+      plates = leaves_plates J p m f w b t;
+      collisions = leaves_collisions J p m f w b t;
+    }
+
+repaired_reads : (J : List Entry) (m : Machine) (s : Mind) (w : Simulated) → has_belt m ≡ false
+    → IsRepaired J m s w → ReadsSo J m w
+repaired_reads J m s w b t =
+    let so = rest_after J m w b t.rest in
+    record {
+      plain = subst IsPlain (sym so) t.plain;
+      seen = λ a e. subst (λ (v : Simulated). Seen J v a) (sym so) (rest_seen J w a (t.rest a e));
+      spares = spares_same J w (after_reading w m) so;
+      plates = λ u. ap (λ (v : Simulated). plate_at v u) so;
+      collisions = ap (λ (v : Simulated). v.collisions) so;
+    }
+
 stopping_turn : (l : BookLimits) (J : List Entry) (p : Plan) (m : Machine) (s : Mind) (w : Simulated)
-    → has_belt m ≡ false → legal l J ≡ true → Works J m s (IsTied J p m s.axis w)
+    → has_belt m ≡ false → legal l J ≡ true → s.memory.command_failed ≡ false → ReadsSo J m w
     → first_of l J (Declared m cause.OperatorStop) ≡ None
     → SwitchTurn J p m s w (Some (Declared m cause.OperatorStop))
-stopping_turn l J p m s w b law t free =
+stopping_turn l J p m s w b law obeyed t free =
     let x = Declared m cause.OperatorStop in let K = one_more J x in
     let r = after_reading w m in let u = in_turn axis_stopped (axes_of m) r in
-    let went = machine_goes J p m s.axis w b t.tied in
-    let f = shown w m in
-    let plain = went_plain J p m _ r went in
-    let so : after_entry r x ≡ u = stop_does m r b plain in
+    let s' = mind_after J m p s (shown w m) (Some x) in
+    let so : after_entry r x ≡ u = stop_does m r b t.plain in
     let g = good_when_legal l J law in
     let k = good_then l J x g free in
     let still : SparesEnds J r u = record {
@@ -210,17 +278,18 @@ stopping_turn l J p m s w b law t free =
       light = stopped_part (λ (v : Simulated). v.deposit_light) (λ a y v. refl) (axes_of m) r;
       here = λ c i. stopped_part (λ (v : Simulated). plate_here v c) (λ a y v. refl) (axes_of m) r;
     } in
-    let read = read_spares_ends J p m s.axis w b t.tied in
-    let spares = spares_then J w r u read still in
-    let halted : HasStopped K m u = record {
+    let spares = spares_then J w r u t.spares still in
+    let halted : HasStopped K m s' u = record {
       failed = declared_failed J m;
-      plain = stopped_plain (axes_of m) r plain;
-      halted = λ a e. let seen = went_seen J p m _ r went a e in let then = all_as_still (axes_of m) a r plain in
+      was_failed = failed_after J p m s (shown w m) (Some x) ∙ declared_failed J m;
+      was_obeyed = obeyed_after J p m s (shown w m) (Some x) obeyed;
+      plain = stopped_plain (axes_of m) r t.plain;
+      halted = λ a e. let seen = t.seen a e in let next = all_as_still (axes_of m) a r t.plain in
           record {
-            stands = subst (λ (q : Pose). StandsAs K a q) (sym then.pose)
+            stands = subst (λ (q : Pose). StandsAs K a q) (sym next.pose)
                 (stands_more J m a (axis_at r a).pose seen.stands);
-            still = all_still m a r plain e;
-            read = then.read ∙ seen.read;
+            still = all_still m a r t.plain e;
+            read = next.read ∙ seen.read;
           };
     } in
     let before : WorldAsBefore J K w u = record {
@@ -229,13 +298,11 @@ stopping_turn l J p m s w b law t free =
       laid = λ c. ap number_of (spares.here station.FeedIn tt);
       taken = λ c. ap number_of (spares.here station.DepEnd tt);
       booked = λ c h. plates_as J x r u c g k refl
-          (stopped_part (λ (v : Simulated). plate_at v c) (λ a y v. refl) (axes_of m) r)
-          (leaves_plates J p m s.axis w b t.tied c ∙ h);
+          (stopped_part (λ (v : Simulated). plate_at v c) (λ a y v. refl) (axes_of m) r) (t.plates c ∙ h);
     } in
-    let counts = stopped_part (λ (v : Simulated). v.collisions) (λ a y v. refl) (axes_of m) r
-    ∙ leaves_collisions J p m s.axis w b t.tied in
+    let counts = stopped_part (λ (v : Simulated). v.collisions) (λ a y v. refl) (axes_of m) r ∙ t.collisions in
     record {
-      member = inr (subst (λ (v : Simulated). HasStopped K m v) (sym so) halted);
+      member = inr (inl (subst (λ (v : Simulated). HasStopped K m s' v) (sym so) halted));
       before = subst (λ (v : Simulated). WorldAsBefore J K w v) (sym so) before;
       spares = subst (λ (v : Simulated). SparesEnds J w v) (sym so) spares;
       collisions = ap (λ (v : Simulated). v.collisions) so ∙ counts;
@@ -243,13 +310,22 @@ stopping_turn l J p m s w b law t free =
 
 -- of one that has stopped
 stopped_turn : (J : List Entry) (p : Plan) (m : Machine) (s : Mind) (w : Simulated) → has_belt m ≡ false
-    → HasStopped J m w → SwitchTurn J p m s w None
+    → HasStopped J m s w → SwitchTurn J p m s w None
 stopped_turn J p m s w b t =
     let so = read_still m w b (λ a e. ((t.halted a e).still, (t.halted a e).read)) in
     let same = append-nil J in
+    let stays : HasStopped J m (mind_after J m p s (shown w m) None) w = record {
+      failed = t.failed;
+      was_failed = failed_after J p m s (shown w m) None
+          ∙ (ap (λ (K : List Entry). is_failed K m) same ∙ t.failed);
+      was_obeyed = obeyed_after J p m s (shown w m) None t.was_obeyed;
+      plain = t.plain;
+      halted = t.halted;
+    } in
     record {
-      member = inr (subst (λ (K : List Entry). HasStopped K m (after_reading w m)) (sym same)
-          (subst (λ (v : Simulated). HasStopped J m v) (sym so) t));
+      member = inr (inl (subst (λ (K : List Entry). HasStopped K m (mind_after J m p s (shown w m) None)
+          (after_reading w m)) (sym same)
+          (subst (λ (v : Simulated). HasStopped J m (mind_after J m p s (shown w m) None) v) (sym so) stays)));
       before = subst (λ (K : List Entry). WorldAsBefore J K w (after_reading w m)) (sym same)
           (subst (λ (v : Simulated). WorldAsBefore J J w v) (sym so)
           (record { part = refl; light = refl; laid = λ c. refl; taken = λ c. refl; booked = λ c h. h }));
@@ -257,41 +333,125 @@ stopped_turn J p m s w b t =
       collisions = ap (λ (v : Simulated). v.collisions) so;
     }
 
+-- of one that was repaired: it is as one that begins anew
+none_if : (b : Bool) (o : Option Following) → o ≡ None → (if b then None else o) ≡ None
+none_if true o h = refl
+none_if false o h = h
+
+anew : (J : List Entry) (m : Machine) (s : Mind) (w : Simulated) → IsRepaired J m s w → is_asked J m ≡ false
+    → begins_anew J m s.memory ≡ true
+anew J m s w t h = let a = t.was_failed in let b = t.healthy in let c = t.was_obeyed in rw (a, b, c, h) refl
+
+first_axis : (J : List Entry) (p : Plan) (m : Machine) (w : Simulated) (r : Option Reading) (e : Option Entry)
+    → axis_noted J m p None r ≡ None → (mind_after J m p (first_mind J m) r e).axis ≡ None
+unfolding mind_after
+first_axis J p m w r e h =
+    none_if (begins_anew J m (first_mind J m).memory || ends_motion e) (axis_noted J m p None r) h
+
+anew_axis : (J : List Entry) (p : Plan) (m : Machine) (s : Mind) (r : Option Reading) (e : Option Entry)
+    → begins_anew J m s.memory ≡ true → (mind_after J m p s r e).axis ≡ None
+unfolding mind_after
+anew_axis J p m s r e h =
+    ap (λ (x : Bool). if x || ends_motion e then None else axis_noted J m p s.axis r) h
+
+anew_rest : (J : List Entry) (p : Plan) (m : Machine) (s : Mind) (r : Option Reading) (e : Option Entry)
+    → begins_anew J m s.memory ≡ true → rest (mind_after J m p s r e).rest ≡ Pending
+unfolding mind_after
+anew_rest J p m s r e h =
+    ap (λ (x : Bool). rest (if x then [] else rest_noted J m s.memory s.rest r)) h ∙ none_noted
+
+repaired_turn : (l : BookLimits) (J : List Entry) (p : Plan) (m : Machine) (s : Mind) (w : Simulated)
+    (e : Option Entry) → has_belt m ≡ false → IsRepaired J m s w → is_asked J m ≡ false
+    → ((t : Mind) → AsBooked J m t (IsTied J p m t.axis w) → TurnBegins l J p m t w)
+    → IsProposed l J m p.plates e → IfSome e (λ x. first_of l J x ≡ None) → SwitchTurn J p m s w e
+repaired_turn l J p m s w e b t h begins d free =
+    let f = first_mind J m in let r = shown w m in let K = J ++ option_to_list e in
+    let rests : MachineRests J m None w = record { plain = t.plain; rest = t.rest; unnoted = refl } in
+    let as_first : AsBooked J m f (IsTied J p m f.axis w) = record {
+      healthy = t.healthy;
+      unasked = h;
+      was_healthy = t.healthy;
+      was_obeyed = refl;
+      tied = inl rests;
+      agreed = none_noted;
+    } in
+    let left = proposed_does l J p m f w e b (begins f as_first) rests d free in
+    let new = anew J m s w t h in
+    let nothing = nothing_noted J p m None w r b rests in
+    let tied = subst (λ (x : Option Following). IsTied K p m x (after_turn w m e))
+    (first_axis J p m w r e nothing ∙ sym (anew_axis J p m s r e new)) left.0.as_booked.tied in
+    record {
+      member = inl (record {
+        healthy = left.0.as_booked.healthy;
+        was_healthy = failed_after J p m s r e ∙ left.0.as_booked.healthy;
+        was_obeyed = obeyed_after J p m s r e t.was_obeyed;
+        tied = tied;
+        agreed = anew_rest J p m s r e new;
+      });
+      before = world_before J K p m (mind_after J m p f r e) w (after_turn w m e) left.0 left.1;
+      spares = left.1;
+      collisions = left.0.collisions;
+    }
+
 -- whichever it is
-by_asked : (l : BookLimits) (J : List Entry) (p : Plan) (m : Machine) (s : Mind) (w : Simulated) (e : Option Entry)
-    (a : Bool) → is_asked J m ≡ a → has_belt m ≡ false → Works J m s (IsTied J p m s.axis w)
-    → (AsBooked J m s (IsTied J p m s.axis w) → TurnBegins l J p m s w) → legal l J ≡ true
-    → IsDecided l J m p s (shown w m) e → IfSome e (λ x. first_of l J x ≡ None) → SwitchTurn J p m s w e
-by_asked l J p m s w e false h b t begins law d free =
-    working_turn l J p m s w e b (begins (booked_of J m s t h)) d free
-by_asked l J p m s w e true h b t begins law d free =
+abbrev Begins : BookLimits → List Entry → Plan → Machine → Simulated → Type 0
+Begins l J p m w = (t : Mind) → AsBooked J m t (IsTied J p m t.axis w) → TurnBegins l J p m t w
+
+stops_by : (l : BookLimits) (J : List Entry) (p : Plan) (m : Machine) (s : Mind) (w : Simulated) (e : Option Entry)
+    → has_belt m ≡ false → legal l J ≡ true → is_failed J m ≡ false → s.memory.command_failed ≡ false
+    → is_asked J m ≡ true → ReadsSo J m w → IsDecided l J m p s (shown w m) e
+    → IfSome e (λ x. first_of l J x ≡ None) → SwitchTurn J p m s w e
+stops_by l J p m s w e b law healthy obeyed h t d free =
     let is : e ≡ Some (Declared m cause.OperatorStop) =
-    subst (λ (k : Ruling). IsRuled l J m p.plates k e) (ruled_stop J p m s (shown w m) t h) d in
+    subst (λ (k : Ruling). IsRuled l J m p.plates k e) (ruled_stop J p m s (shown w m) healthy obeyed h) d in
     subst (λ (o : Option Entry). SwitchTurn J p m s w o) (sym is)
-    (stopping_turn l J p m s w b law t (subst (λ (o : Option Entry). IfSome o (λ x. first_of l J x ≡ None)) is free))
+    (stopping_turn l J p m s w b law obeyed t
+    (subst (λ (o : Option Entry). IfSome o (λ x. first_of l J x ≡ None)) is free))
+
+works_turn : (l : BookLimits) (J : List Entry) (p : Plan) (m : Machine) (s : Mind) (w : Simulated) (e : Option Entry)
+    (a : Bool) → is_asked J m ≡ a → has_belt m ≡ false → Works J m s (IsTied J p m s.axis w) → Begins l J p m w
+    → legal l J ≡ true → IsDecided l J m p s (shown w m) e → IfSome e (λ x. first_of l J x ≡ None)
+    → SwitchTurn J p m s w e
+works_turn l J p m s w e false h b t begins law d free =
+    working_turn l J p m s w e b (begins s (booked_of J m s t h)) d free
+works_turn l J p m s w e true h b t begins law d free =
+    stops_by l J p m s w e b law t.healthy t.was_obeyed h (works_reads J p m s.axis w b t.tied) d free
+
+anew_turn : (l : BookLimits) (J : List Entry) (p : Plan) (m : Machine) (s : Mind) (w : Simulated) (e : Option Entry)
+    (a : Bool) → is_asked J m ≡ a → has_belt m ≡ false → IsRepaired J m s w → Begins l J p m w
+    → legal l J ≡ true → IsDecided l J m p s (shown w m) e → IfSome e (λ x. first_of l J x ≡ None)
+    → SwitchTurn J p m s w e
+anew_turn l J p m s w e false h b t begins law d free =
+    repaired_turn l J p m s w e b t h begins
+    (subst (λ (k : Ruling). IsRuled l J m p.plates k e) (ruled_anew J p m s w (shown w m) t h) d) free
+anew_turn l J p m s w e true h b t begins law d free =
+    stops_by l J p m s w e b law t.healthy t.was_obeyed h (repaired_reads J m s w b t) d free
 
 switch_turn : (l : BookLimits) (J : List Entry) (p : Plan) (m : Machine) (s : Mind) (w : Simulated) (e : Option Entry)
-    → has_belt m ≡ false → WorksOrStopped J p m s w
-    → (AsBooked J m s (IsTied J p m s.axis w) → TurnBegins l J p m s w) → legal l J ≡ true
+    → has_belt m ≡ false → WorksOrStopped J p m s w → Begins l J p m w → legal l J ≡ true
     → IsDecided l J m p s (shown w m) e → IfSome e (λ x. first_of l J x ≡ None) → SwitchTurn J p m s w e
 switch_turn l J p m s w e b (inl t) begins law d free =
-    by_asked l J p m s w e (is_asked J m) refl b t begins law d free
-switch_turn l J p m s w e b (inr t) begins law d free =
+    works_turn l J p m s w e (is_asked J m) refl b t begins law d free
+switch_turn l J p m s w e b (inr (inl t)) begins law d free =
     let is : e ≡ None =
     subst (λ (k : Ruling). IsRuled l J m p.plates k e) (ruled_nothing J p m s (shown w m) t.failed) d in
     subst (λ (o : Option Entry). SwitchTurn J p m s w o) (sym is) (stopped_turn J p m s w b t)
+switch_turn l J p m s w e b (inr (inr t)) begins law d free =
+    anew_turn l J p m s w e (is_asked J m) refl b t begins law d free
 
 -- THE WHOLE CELL
 
 member_plain : (J : List Entry) (p : Plan) (m : Machine) (s : Mind) (w : Simulated) → WorksOrStopped J p m s w
     → IsPlain w
 member_plain J p m s w (inl t) = tied_plain J p m s.axis w t.tied
-member_plain J p m s w (inr t) = t.plain
+member_plain J p m s w (inr (inl t)) = t.plain
+member_plain J p m s w (inr (inr t)) = t.plain
 
 member_stands : (J : List Entry) (p : Plan) (m : Machine) (s : Mind) (w : Simulated) → WorksOrStopped J p m s w
     → (a : Axis) → machine_of_axis a ≡ m → StandsAs J a (axis_at w a).pose
 member_stands J p m s w (inl t) a e = inl (tied_stands J p m s.axis w t.tied a e)
-member_stands J p m s w (inr t) a e = (t.halted a e).stands
+member_stands J p m s w (inr (inl t)) a e = (t.halted a e).stands
+member_stands J p m s w (inr (inr t)) a e = inl (t.rest a e).rests.pose
 
 pub plain_of : (l : BookLimits) (J : List Entry) (p : Plan) (minds : Machine → Mind) (w : Simulated)
     → CellWithStops l J p minds w → IsPlain w
@@ -307,18 +467,20 @@ stands_spared : (J K : List Entry) (a : Axis) (p q : Pose) → at_of K a ≡ at_
 stands_spared J K a p q h k i (inl x) = inl (i ∙ (x ∙ sym h))
 stands_spared J K a p q h k i (inr x) = inr (k ∙ (x ∙ ap (λ (y : Pose). Some y) (sym i)))
 
-stopped_spared : (J K : List Entry) (n : Machine) (w v : Simulated) → is_failed K n ≡ is_failed J n
-    → IsSpared n J K w v → HasStopped J n w → HasStopped K n v
-stopped_spared J K n w v h s t =
+stopped_spared : (J K : List Entry) (n : Machine) (i : Mind) (w v : Simulated) → is_failed K n ≡ is_failed J n
+    → IsSpared n J K w v → HasStopped J n i w → HasStopped K n i v
+stopped_spared J K n i w v h s t =
     record {
       failed = h ∙ t.failed;
+      was_failed = t.was_failed;
+      was_obeyed = t.was_obeyed;
       plain = s.plain;
-      halted = λ a e. let i = t.halted a e in let x = s.axes a e in
+      halted = λ a e. let y = t.halted a e in let x = s.axes a e in
           record {
             stands = stands_spared J K a (axis_at w a).pose (axis_at v a).pose (s.at a e) (s.going a e)
-                (ap (λ y. y.pose) x) i.stands;
-            still = ap (λ y. moves y.motion) x ∙ i.still;
-            read = ap (λ y. is_silent_in y.motion) x ∙ i.read;
+                (ap (λ z. z.pose) x) y.stands;
+            still = ap (λ z. moves z.motion) x ∙ y.still;
+            read = ap (λ z. is_silent_in z.motion) x ∙ y.read;
           };
     }
 
@@ -326,7 +488,15 @@ member_spared : (J K : List Entry) (p : Plan) (n : Machine) (s : Mind) (w v : Si
     → is_failed K n ≡ is_failed J n → IsSpared n J K w v → WorksOrStopped J p n s w → WorksOrStopped K p n s v
 member_spared J K p n s w v h i (inl t) =
     inl (works_as J K n s h (λ k. spared_stays J K p n s.axis w v i k) t)
-member_spared J K p n s w v h i (inr t) = inr (stopped_spared J K n w v h i t)
+member_spared J K p n s w v h i (inr (inl t)) = inr (inl (stopped_spared J K n s w v h i t))
+member_spared J K p n s w v h i (inr (inr t)) =
+    inr (inr (record {
+      healthy = h ∙ t.healthy;
+      was_failed = t.was_failed;
+      was_obeyed = t.was_obeyed;
+      plain = i.plain;
+      rest = λ a e. rest_spared J K n w v i a e (t.rest a e);
+    }))
 
 belt_spared_by : (J : List Entry) (p : Plan) (m n : Machine) (s : Mind) (w : Simulated) (e : Option Entry)
     → has_belt n ≡ true → m ≢ n → IfSome e (λ x. machine_of_entry x ≡ Some m) → IsPlain w
@@ -350,7 +520,7 @@ cell_by l J p minds w m e false b t o =
     let K = J ++ option_to_list e in let v = after_turn w m e in let s = mind_after J m p (minds m) (shown w m) e in
     let plain = plain_of l J p minds w t in
     let left = switch_turn l J p m (minds m) w e b (t.switches m b)
-    (λ c. record {
+    (λ i c. record {
       legal = t.legal;
       fair = t.fair;
       as_booked = c;
@@ -460,6 +630,138 @@ asking_keeps l J p minds w m b free t =
             booked = λ c h. plates_as J x w w c g k refl refl h;
           }) t.stations;
     }
+
+-- WHERE HE REPAIRS ONE
+
+-- the book repairs only a machine that failed
+repairs_failed : (l : BookLimits) (J : List Entry) (m : Machine) → Good J → first_of l J (Repaired m) ≡ None
+    → is_failed J m ≡ true
+repairs_failed l J m g free =
+    let ok : allowed l J (Repaired m) ≡ true = ap (λ (o : Option Refusal). is_none o) free in
+    let test = (good_passed l J (Repaired m) g ok).1.0 in
+    g.agrees.failed m ∙ not_false ((after J).failed m) test
+
+stopped_only : (J : List Entry) (p : Plan) (m : Machine) (s : Mind) (w : Simulated) → is_failed J m ≡ true
+    → WorksOrStopped J p m s w → HasStopped J m s w
+stopped_only J p m s w h (inl t) = let x : true ≡ false = sym h ∙ t.healthy in cc x
+stopped_only J p m s w h (inr (inl t)) = t
+stopped_only J p m s w h (inr (inr t)) = let x : true ≡ false = sym h ∙ t.healthy in cc x
+
+abbrev to_rest : Option Pose → Option (Option Pose)
+to_rest o = option_map (λ _. None) o
+
+repaired_it : (a : Axis) (m : Machine) → machine_of_axis a ≡ m → same_machine (machine_of_axis a) m ≡ true
+repaired_it a m e = ap (λ (n : Machine). same_machine (machine_of_axis a) n) (sym e) ∙ same_machines (machine_of_axis a)
+
+at_home : (J : List Entry) (m : Machine) (a : Axis) → machine_of_axis a ≡ m
+    → at_of (one_more J (Repaired m)) a ≡ home a
+at_home J m a e = at_now J (Repaired m) a (home a) (ap (λ (b : Bool). when b (home a)) (repaired_it a m e))
+
+still_home : (J : List Entry) (m : Machine) (a : Axis) → machine_of_axis a ≡ m
+    → going_of (one_more J (Repaired m)) a ≡ None
+still_home J m a e =
+    going_now J (Repaired m) a None
+    (ap (λ (b : Bool). to_rest (when b (home a))) (repaired_it a m e))
+
+home_rests : (J : List Entry) (m : Machine) (a : Axis) (w : Simulated) → machine_of_axis a ≡ m
+    → IsHome a (axis_at w a) → IsAtRest (one_more J (Repaired m)) w a
+home_rests J m a w e t =
+    let at = at_home J m a e in
+    record {
+      booked = still_home J m a e;
+      own_pose = ap (λ (q : Pose). is_pose_of a q) at ∙ home_pose a;
+      rests = record {
+        pose = t.pose ∙ sym at;
+        motion = subst (λ (o : Option Moving). RestsBy (at_of (one_more J (Repaired m)) a) o) (sym t.still) tt;
+      };
+    }
+
+not_its : (a : Axis) (m n : Machine) → machine_of_axis a ≡ n → (m ≡ n → ⊥) → same_machine (machine_of_axis a) m ≡ false
+not_its a m n i d = other_machine (machine_of_axis a) m (λ e. d (sym e ∙ i))
+
+home_spares : (J : List Entry) (m n : Machine) (w : Simulated) → IsPlain w → (m ≡ n → ⊥)
+    → IsSpared n J (one_more J (Repaired m)) w (in_turn axis_homed (axes_of m) w)
+home_spares J m n w t d =
+    let x = Repaired m in
+    record {
+      plain = homed_plain (axes_of m) w t;
+      at = λ a i. at_before J x a (ap (λ (b : Bool). when b (home a)) (not_its a m n i d));
+      going = λ a i. going_before J x a
+          (ap (λ (b : Bool). to_rest (when b (home a))) (not_its a m n i d));
+      axes = λ a i. other_home m a w (λ e. d (sym e ∙ i));
+    }
+
+repaired_healthy : (J : List Entry) (m : Machine) → is_failed (one_more J (Repaired m)) m ≡ false
+repaired_healthy J m =
+    view_snoc (fails m) false J (Repaired m)
+    ∙ ap (λ (b : Bool). unwrap_or (when b false) (is_failed J m)) (same_machines m)
+
+repairs_no_other : (J : List Entry) (m n : Machine) → same_machine m n ≡ false
+    → (is_failed (one_more J (Repaired m)) n ≡ is_failed J n) × (is_asked (one_more J (Repaired m)) n ≡ is_asked J n)
+repairs_no_other J m n h = (
+  view_snoc (fails n) false J (Repaired m) ∙ ap (λ (b : Bool). unwrap_or (when b false) (is_failed J n)) h,
+  view_snoc (asks n) false J (Repaired m) ∙ ap (λ (b : Bool). unwrap_or (when b false) (is_asked J n)) h,
+)
+
+homed_light : (c : Conveying) (m : Machine) (w : Simulated)
+    → light_of c (in_turn axis_homed (axes_of m) w) ≡ light_of c w
+homed_light to_feed_end m w = homed_part (λ (u : Simulated). u.feed_light) (λ a y u. refl) (axes_of m) w
+homed_light to_table m w = homed_part (λ (u : Simulated). u.feed_light) (λ a y u. refl) (axes_of m) w
+homed_light to_deposit_end m w = homed_part (λ (u : Simulated). u.deposit_light) (λ a y u. refl) (axes_of m) w
+
+homed_ends : (c : Conveying) (m : Machine) (w : Simulated) → EndsAsBefore c w (in_turn axis_homed (axes_of m) w)
+homed_ends c m w =
+    record {
+      light = homed_light c m w;
+      from_end = homed_part (λ (u : Simulated). plate_here u (from_of c)) (λ a y u. refl) (axes_of m) w;
+      dest_end = homed_part (λ (u : Simulated). plate_here u (dest_of c)) (λ a y u. refl) (axes_of m) w;
+    }
+
+repaired_member : (J : List Entry) (p : Plan) (m n : Machine) (s : Mind) (w : Simulated) (b : Bool)
+    → same_machine m n ≡ b → IsPlain w → is_failed J m ≡ true → WorksOrStopped J p n s w
+    → WorksOrStopped (one_more J (Repaired m)) p n s (in_turn axis_homed (axes_of m) w)
+repaired_member J p m n s w true h plain failed t =
+    let e = machine_same m n h in
+    let was = stopped_only J p n s w (subst (λ (x : Machine). is_failed J x ≡ true) e failed) t in
+    subst (λ (x : Machine). WorksOrStopped (one_more J (Repaired x)) p n s (in_turn axis_homed (axes_of x) w)) (sym e)
+    (inr (inr (record {
+      healthy = repaired_healthy J n;
+      was_failed = was.was_failed;
+      was_obeyed = was.was_obeyed;
+      plain = homed_plain (axes_of n) w plain;
+      rest = λ a i. home_rests J n a (in_turn axis_homed (axes_of n) w) i (all_home n a w plain i);
+    })))
+repaired_member J p m n s w false h plain failed t =
+    let d : m ≡ n → ⊥ = apart m n h in
+    member_spared J (one_more J (Repaired m)) p n s w (in_turn axis_homed (axes_of m) w)
+    (repairs_no_other J m n h).0 (home_spares J m n w plain d) t
+
+pub repairing_keeps : RepairingKeeps
+repairing_keeps l J p minds w m b free t =
+    let x = Repaired m in let K = one_more J x in let v = in_turn axis_homed (axes_of m) w in
+    let plain = plain_of l J p minds w t in
+    let g = good_when_legal l J t.legal in let k = good_then l J x g free in
+    let failed = repairs_failed l J m g free in
+    subst (λ (u : Simulated). CellWithStops l K p minds u) (sym (home_does m w plain))
+    (record {
+      legal = legal_then l J (Some x) t.legal free;
+      fair = fair_then p w v (homed_part (λ (u : Simulated). u.durations) (λ a y u. refl) (axes_of m) w) t.fair;
+      switches = λ n c. repaired_member J p m n (minds n) w (same_machine m n) refl plain failed (t.switches n c);
+      belts = λ n c. let d : m ≡ n → ⊥ = λ i. other_kind n m c b (sym i) in
+          kept_as J K n (minds n) (repairs_no_other J m n (other_machine m n d)).0
+          (repairs_no_other J m n (other_machine m n d)).1
+          (λ i. belt_stays J K p n (minds n).axis w v c (home_spares J m n w plain d)
+          (λ q z h j o. homed_ends q m w) i) (t.belts n c);
+      stations = stations_after J p x w v (record { lamps = λ c. refl; admitted = refl; expected = refl })
+          (record {
+            part = homed_part laying_of (λ a y u. refl) (axes_of m) w;
+            light = homed_part (λ (u : Simulated). u.deposit_light) (λ a y u. refl) (axes_of m) w;
+            laid = λ c. homed_part (λ (u : Simulated). plate_at u station.FeedIn) (λ a y u. refl) (axes_of m) w;
+            taken = λ c. homed_part (λ (u : Simulated). plate_at u station.DepEnd) (λ a y u. refl) (axes_of m) w;
+            booked = λ c h. plates_as J x w v c g k refl
+                (homed_part (λ (u : Simulated). plate_at u c) (λ a y u. refl) (axes_of m) w) h;
+          }) t.stations;
+    })
 
 -- THE END OF A ROUND
 

@@ -74,6 +74,7 @@ use Rattle.cell_world.proofs.Ends.{SparesEnds, dropped_spares, gripped_spares, r
 use Rattle.cell_world.proofs.Ends.{spares_then, started_part, started_spares}
 use Rattle.cell_world.proofs.Entries.{at_before, going_before}
 use Rattle.cell_world.proofs.Hands.{drops, drops_there, grips, grips_there}
+use Rattle.cell_world.proofs.Machines.{rests_read}
 use Rattle.cell_world.proofs.Machines.{machine_ends, machine_goes, machine_starts, no_belt, tied_stands}
 use Rattle.cell_world.proofs.Plates.{Left, told_left}
 use Rattle.cell_world.proofs.Read.{reading_spares}
@@ -562,7 +563,7 @@ good_then l J x g free =
 abbrev pub Free : BookLimits → List Entry → Option Entry → Type 0
 Free l J e = IfSome e (λ x. first_of l J x ≡ None)
 
-abbrev Turned : List Entry → Plan → Machine → Mind → Simulated → Option Entry → Type 0
+abbrev pub Turned : List Entry → Plan → Machine → Mind → Simulated → Option Entry → Type 0
 Turned J p m s w e =
     TurnLeaves J (J ++ option_to_list e) p m (mind_after J m p s (shown w m) e) w (after_turn w m e)
     × SparesEnds J w (after_turn w m e)
@@ -573,6 +574,18 @@ proposed_leaves l J p m s w None t g d free = none_leaves l J p m s w t.belt t.b
 proposed_leaves l J p m s w (Some x) t g d free =
     kind_leaves l J p m s w x t g (good_then l J x g free) free
     (kind_of l (situation_of J) p.plates m x t.belt (useful_wants l J p.plates m x d))
+
+-- a machine that rests and proposes, whatever else it would decide
+pub proposed_does : (l : BookLimits) (J : List Entry) (p : Plan) (m : Machine) (s : Mind) (w : Simulated)
+    (e : Option Entry) → has_belt m ≡ false → TurnBegins l J p m s w → MachineRests J m s.axis w
+    → IsProposed l J m p.plates e → Free l J e → Turned J p m s w e
+proposed_does l J p m s w e b t r d free =
+    proposed_leaves l J p m s w e (record {
+      belt = b;
+      begins = t;
+      agreed = agreed_then l J p m s w b t;
+      tied = inl (rests_read J p m s.axis w b r);
+    }) (good_when_legal l J t.legal) d free
 
 ended_leaves : (l : BookLimits) (J : List Entry) (p : Plan) (m : Machine) (s : Mind) (w : Simulated) (e : Option Entry)
     → has_belt m ≡ false → TurnBegins l J p m s w → Agreed J m s (shown w m) → Good J

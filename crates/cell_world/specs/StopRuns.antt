@@ -1,5 +1,5 @@
--- A run of the simulated cell in which the operator stops machines without a belt, without a fault
-use Rattle.std.specs.Prelude.{◌≡◌, ◌≢◌, false, List, [], ◌∷◌, None}
+-- A run of the simulated cell in which the operator stops and repairs machines without a belt, without a fault
+use Rattle.std.specs.Prelude.{◌≡◌, ◌≢◌, ◌⊎◌, false, List, [], ◌∷◌, None}
 use Rattle.cell_types.specs.declared.words.Entry.{Entry}
 use Rattle.cell_types.specs.declared.words.Machine.{Machine}
 use Rattle.cell_rules.specs.declared.limits.BookLimits.{BookLimits}
@@ -21,37 +21,39 @@ use Rattle.cell_world.specs.Agreeing.{has_belt}
 use Rattle.cell_world.specs.Running.{Allows, opened}
 use Rattle.cell_world.specs.Stopping.{CellWithStops}
 
--- each line of the script asks a machine without a belt to stop
-abbrev pub IsStop : Line → Type 0
-IsStop line = (m : Machine) × (has_belt m ≡ false) × (line.task ≡ task.Stop m)
+-- each line of the script asks a machine without a belt to stop, or is a repair of one
+abbrev pub IsService : Line → Type 0
+IsService line =
+    (m : Machine) × (has_belt m ≡ false) × ((line.task ≡ task.Stop m) ⊎ (line.task ≡ task.Repair m))
 
-abbrev pub AreStops : List Line → Type 0
-AreStops [] = Unit {0}
-AreStops (line ∷ rest) = IsStop line × AreStops rest
+abbrev pub AreServices : List Line → Type 0
+AreServices [] = Unit {0}
+AreServices (line ∷ rest) = IsService line × AreServices rest
 
 -- a run from the opening with this script comes to this stand
 abbrev pub ComesBy : Terms → Durations → List Line → Stand SimCell Unkept → Type 0
 ComesBy T ds lines s = (k : Unkept) × Leads AnswersSo AllKept T (start (opened T.plan ds) k [] lines None) s
 
--- each machine without a belt is as booked or has stopped, the rest is as booked, and no collision was counted
+-- each machine without a belt is as booked, has stopped or was repaired, the rest is as booked, and no collision was
+-- counted
 abbrev pub IsBookedOrStopped : BookLimits → List Entry → Plan → (Machine → Mind) → Simulated → Type 0
 IsBookedOrStopped l J p minds w = CellWithStops l J p minds w × (w.collisions ≡ 0)
 
 -- so it is wherever the run comes to
 abbrev pub RunWithStops : Type 0
 RunWithStops =
-    (T : Terms) (ds : Durations) (lines : List Line) (s : Stand SimCell Unkept) → Allows T.plan ds → AreStops lines
+    (T : Terms) (ds : Durations) (lines : List Line) (s : Stand SimCell Unkept) → Allows T.plan ds → AreServices lines
     → ComesBy T ds lines s → IsBookedOrStopped T.limits s.now.journal T.plan (at s.now.minds) s.cell.world
 
 -- and at its end, unless memory or a turn was refused
 abbrev pub EndWithStops : Type 0
 EndWithStops =
     (l : BookLimits) (p : Plan) (ds : Durations) (lines : List Line) (new : SimCell) (J : List Entry) (e : End)
-    → Allows p ds → AreStops lines → Ran AnswersSo l p (opened p ds) [] lines new J e
+    → Allows p ds → AreServices lines → Ran AnswersSo l p (opened p ds) [] lines new J e
     → e ≢ end.Memory → e ≢ end.Full → (minds : Machine → Mind) × IsBookedOrStopped l J p minds new.world
 
 -- no collision was counted, whatever the end
 abbrev pub NoneCollidesByStops : Type 0
 NoneCollidesByStops =
     (l : BookLimits) (p : Plan) (ds : Durations) (lines : List Line) (new : SimCell) (J : List Entry) (e : End)
-    → Allows p ds → AreStops lines → Ran AnswersSo l p (opened p ds) [] lines new J e → new.world.collisions ≡ 0
+    → Allows p ds → AreServices lines → Ran AnswersSo l p (opened p ds) [] lines new J e → new.world.collisions ≡ 0

@@ -1,8 +1,8 @@
--- The whole cell, where the operator stops machines without a belt, without a fault
+-- The whole cell, where the operator stops and repairs machines without a belt, without a fault
 use Rattle.std.specs.Prelude.{◌≡◌, ◌⊎◌, true, false, Option, None, List, ◌++◌, option_to_list}
 use Rattle.cell_types.specs.declared.words.Axis.{Axis}
 use Rattle.cell_types.specs.declared.words.Entry.{Entry}
-use Rattle.cell_types.specs.declared.words.Entry.TheVariants.{StopAsked}
+use Rattle.cell_types.specs.declared.words.Entry.TheVariants.{Repaired, StopAsked}
 use Rattle.cell_types.specs.declared.words.Machine.{Machine}
 use Rattle.cell_types.specs.Cell.{machine_of_axis}
 use Rattle.cell_rules.specs.declared.limits.BookLimits.{BookLimits}
@@ -13,13 +13,14 @@ use Rattle.cell_diagnosis.specs.declared.verdict.Verdict.TheVariants.{Pending}
 use Rattle.cell_ports.specs.declared.plan.Plan.{Plan}
 use Rattle.cell_turns.specs.Minds.{Mind}
 use Rattle.cell_turns.specs.Turns.{mind_after}
+use Rattle.cell_sim.specs.Hands.{after_home}
 use Rattle.cell_sim.specs.Moves.{moves}
 use Rattle.cell_sim.specs.Parts.{axis_at}
 use Rattle.cell_sim.specs.Readings.{after_round, is_silent_in, shown}
 use Rattle.cell_sim.specs.Simulated.{Simulated}
 use Rattle.cell_world.specs.Agreeing.{has_belt}
 use Rattle.cell_world.specs.BeltTurning.{BeltAsBooked, StationsAsBooked}
-use Rattle.cell_world.specs.Going.{IsPlain}
+use Rattle.cell_world.specs.Going.{IsAtRest, IsPlain}
 use Rattle.cell_world.specs.Starting.{StandsAs, one_more}
 use Rattle.cell_world.specs.Switched.{with_mind}
 use Rattle.cell_world.specs.Tie.{IsFairPlan, IsTied}
@@ -32,11 +33,21 @@ pub record IsHalted (J : List Entry) (w : Simulated) (a : Axis) : Type 0 where
   pub still : moves (axis_at w a).motion ≡ false
   pub read : is_silent_in (axis_at w a).motion ≡ false
 
--- a machine is booked failed, and all its axes stand still
-pub record HasStopped (J : List Entry) (m : Machine) (w : Simulated) : Type 0 where
+-- a machine is booked failed, as it was at its last turn, and all its axes stand still
+pub record HasStopped (J : List Entry) (m : Machine) (s : Mind) (w : Simulated) : Type 0 where
   pub failed : is_failed J m ≡ true
+  pub was_failed : s.memory.failed ≡ true
+  pub was_obeyed : s.memory.command_failed ≡ false
   pub plain : IsPlain w
   pub halted : (a : Axis) → machine_of_axis a ≡ m → IsHalted J w a
+
+-- a machine was repaired since its last turn, and its axes are at rest in the book and in the world
+pub record IsRepaired (J : List Entry) (m : Machine) (s : Mind) (w : Simulated) : Type 0 where
+  pub healthy : is_failed J m ≡ false
+  pub was_failed : s.memory.failed ≡ true
+  pub was_obeyed : s.memory.command_failed ≡ false
+  pub plain : IsPlain w
+  pub rest : (a : Axis) → machine_of_axis a ≡ m → IsAtRest J w a
 
 -- a machine is as booked, whether it is asked to stop or not
 pub record Works (J : List Entry) (m : Machine) (s : Mind) (Tie : Type 0) : Type 0 where
@@ -47,10 +58,10 @@ pub record Works (J : List Entry) (m : Machine) (s : Mind) (Tie : Type 0) : Type
   pub agreed : rest s.rest ≡ Pending
 
 abbrev pub WorksOrStopped : List Entry → Plan → Machine → Mind → Simulated → Type 0
-WorksOrStopped J p m s w = Works J m s (IsTied J p m s.axis w) ⊎ HasStopped J m w
+WorksOrStopped J p m s w = Works J m s (IsTied J p m s.axis w) ⊎ (HasStopped J m s w ⊎ IsRepaired J m s w)
 
--- each machine without a belt is as booked, or has stopped; the belts are as booked, and all stations, but for a plate
--- that was laid in or taken out under a green light
+-- each machine without a belt is as booked, has stopped or was repaired; the belts are as booked, and all stations, but
+-- for a plate that was laid in or taken out under a green light
 pub record CellWithStops (l : BookLimits) (J : List Entry) (p : Plan) (minds : Machine → Mind) (w : Simulated) : Type 0
   where
     pub legal : legal l J ≡ true
@@ -81,6 +92,13 @@ AskingKeeps =
     (l : BookLimits) (J : List Entry) (p : Plan) (minds : Machine → Mind) (w : Simulated) (m : Machine)
     → has_belt m ≡ false → first_of l J (StopAsked m) ≡ None → CellWithStops l J p minds w
     → CellWithStops l (one_more J (StopAsked m)) p minds w
+
+-- and where he repairs one, whose axes he first puts at home
+abbrev pub RepairingKeeps : Type 0
+RepairingKeeps =
+    (l : BookLimits) (J : List Entry) (p : Plan) (minds : Machine → Mind) (w : Simulated) (m : Machine)
+    → has_belt m ≡ false → first_of l J (Repaired m) ≡ None → CellWithStops l J p minds w
+    → CellWithStops l (one_more J (Repaired m)) p minds (after_home m w)
 
 -- and through the end of each round
 abbrev pub StoppedRoundKept : Type 0
