@@ -1,4 +1,4 @@
--- The run of which `run_kept` writes in rounds, where its texts have no fault and no line of the operator
+-- The run of which `run_kept` writes in rounds, where its texts have no fault
 use Rattle.std.proofs.Common.{◌≡◌, ℕ, Bool, List, [], Option, Some, None, Ok, Err, inl, inr, refl, sym, subst, IfSome}
 use Rattle.cell_types.specs.declared.words.Entry.{Entry}
 use Rattle.cell_measures.specs.declared.durations.Durations.{Durations}
@@ -10,39 +10,61 @@ use Rattle.operator_desk.specs.declared.line.Line.{Line}
 use Rattle.cell_sim.specs.Script.{next_fault}
 use Rattle.cell_sim.specs.Simulated.{one_each}
 use Rattle.cell_sim.specs.declared.fault.PlannedFault.{PlannedFault}
-use Rattle.sim_plant.specs.Answers.{AnswersSo, sim_cell}
+use Rattle.sim_plant.specs.Answers.{AnswersSo, SimCell, sim_cell}
 use Rattle.cell_runs.specs.Cells.{Ran}
 use Rattle.cell_runs.specs.Runs.{Kept, Simulates, WritesRounds, kept, limits_of, opening_of}
 use Rattle.cell_runs.specs.declared.inputs.Inputs.{Inputs}
 use Rattle.cell_world.specs.Running.{Allows, opened}
-use Rattle.cell_world.specs.Simulating.{LeavesBooked, OpensSo, TextIsWorld, TimedTextIsWorld}
+use Rattle.cell_world.specs.Simulating.{LeavesBooked, LeavesServed, OpensSo, ServedTextIsWorld, TextIsWorld}
+use Rattle.cell_world.specs.Simulating.{TimedTextIsWorld}
+use Rattle.cell_world.specs.StopRuns.{AreServices}
 use Rattle.cell_world.specs.Whole.{opening_for}
 use Rattle.cell_world.proofs.Fair.{same_read, settings_are_fair}
 use Rattle.cell_world.proofs.Running.{end_is_world, none_collides}
+use Rattle.cell_world.proofs.StopRuns.{end_with_stops, none_collides_by_stops}
 
 pub opens_so : OpensSo
 opens_so inputs = refl
 
 -- what the texts say
-record IsUndisturbed (i : Inputs) (ds : Durations) : Type 0 where
+record IsFaultless (i : Inputs) (ds : Durations) (lines : List Line) : Type 0 where
   long : i.durations ≡ ds
   faults : i.faults ≡ []
-  script : i.script ≡ []
+  script : i.script ≡ lines
 
-simulated : (i : Inputs) (ds : Durations) (J : List Entry) (e : End) → IsUndisturbed i ds → Allows i.plan ds
-    → Simulates i (opening_of i) [] J e → LeavesBooked ds (kept J e i.plan)
-simulated i ds J e t fair (left, sim) =
+ran_so : (i : Inputs) (ds : Durations) (lines : List Line) (J : List Entry) (e : End) (left : SimCell)
+    → IsFaultless i ds lines
+    → Ran AnswersSo (limits_of i.plan) i.plan (sim_cell (opening_of i) i.faults) [] i.script left J e
+    → Ran AnswersSo (limits_of i.plan) i.plan (opened i.plan ds) [] lines left J e
+ran_so i ds lines J e left t ran =
     let p = i.plan in let l = limits_of p in
-    let ran = subst (λ (ls : List Line). Ran AnswersSo l p (opened p ds) [] ls left J e) t.script
+    subst (λ (ls : List Line). Ran AnswersSo l p (opened p ds) [] ls left J e) t.script
     (subst (λ (fs : List PlannedFault). Ran AnswersSo l p (sim_cell (opening_for p ds) fs) [] i.script left J e)
     t.faults
     (subst (λ (d : Durations). Ran AnswersSo l p (sim_cell (opening_for p d) i.faults) [] i.script left J e) t.long
-    sim.ran)) in
+    ran))
+
+simulated : (i : Inputs) (ds : Durations) (J : List Entry) (e : End) → IsFaultless i ds [] → Allows i.plan ds
+    → Simulates i (opening_of i) [] J e → LeavesBooked ds (kept J e i.plan)
+simulated i ds J e t fair (left, sim) =
+    let p = i.plan in let l = limits_of p in let ran = ran_so i ds [] J e left t sim.ran in
     record {
       left = left;
       ran = ran;
       collisions = none_collides l p ds left J e fair ran;
       booked = λ memory full. end_is_world l p ds left J e fair ran memory full;
+    }
+
+served : (i : Inputs) (ds : Durations) (lines : List Line) (J : List Entry) (e : End) → IsFaultless i ds lines
+    → AreServices lines → Allows i.plan ds → Simulates i (opening_of i) [] J e
+    → LeavesServed ds lines (kept J e i.plan)
+served i ds lines J e t are fair (left, sim) =
+    let p = i.plan in let l = limits_of p in let ran = ran_so i ds lines J e left t sim.ran in
+    record {
+      left = left;
+      ran = ran;
+      collisions = none_collides_by_stops l p ds lines left J e fair are ran;
+      booked = λ memory full. end_with_stops l p ds lines left J e fair are ran memory full;
     }
 
 -- what is kept of it, under what is known of its plan
@@ -54,20 +76,20 @@ written P i journal old new status run h (inl (e, J, leads, prints, is)) =
 written P i journal old new status run h (inr (writes, is)) =
     subst (λ (r : Option Kept). IfSome r P) (sym is) tt
 
-undisturbed : (faults operator : List ℕ) (i : Inputs) (ds : Durations) → i.durations ≡ ds
+faultless : (faults operator : List ℕ) (i : Inputs) (ds : Durations) (lines : List Line) → i.durations ≡ ds
     → lines_of next_fault (rows_of faults) ≡ Ok i.faults → lines_of line_of (rows_of operator) ≡ Ok i.script
-    → lines_of next_fault (rows_of faults) ≡ Ok [] → lines_of line_of (rows_of operator) ≡ Ok []
-    → IsUndisturbed i ds
-undisturbed faults operator i ds long fs ls none quiet =
+    → lines_of next_fault (rows_of faults) ≡ Ok [] → lines_of line_of (rows_of operator) ≡ Ok lines
+    → IsFaultless i ds lines
+faultless faults operator i ds lines long fs ls none script =
     record {
       long = long;
       faults = same_read (lines_of next_fault (rows_of faults)) i.faults [] fs none;
-      script = same_read (lines_of line_of (rows_of operator)) i.script [] ls quiet;
+      script = same_read (lines_of line_of (rows_of operator)) i.script lines ls script;
     }
 
 pub timed_text_is_world : TimedTextIsWorld
 timed_text_is_world ds settings faults operator journal old new status run none quiet (Ok i, read, writes) =
-    let t = undisturbed faults operator i ds read.1 read.0.1 read.0.2 none quiet in
+    let t = faultless faults operator i ds [] read.1 read.0.1 read.0.2 none quiet in
     written (λ (r : Kept). Allows r.plan ds → LeavesBooked ds r) i journal old new status run
     (λ J e leads fair. simulated i ds J e t fair leads) writes
 timed_text_is_world ds settings faults operator journal old new status run none quiet (Err e, read, writes) =
@@ -75,8 +97,18 @@ timed_text_is_world ds settings faults operator journal old new status run none 
 
 pub text_is_world : TextIsWorld
 text_is_world settings faults operator journal old new status run none quiet (Ok i, read, writes) =
-    let t = undisturbed faults operator i one_each read.1 read.0.1 read.0.2 none quiet in
+    let t = faultless faults operator i one_each [] read.1 read.0.1 read.0.2 none quiet in
     written (LeavesBooked one_each) i journal old new status run
     (λ J e leads. simulated i one_each J e t (settings_are_fair settings i.plan read.0.0) leads) writes
 text_is_world settings faults operator journal old new status run none quiet (Err e, read, writes) =
     subst (λ (r : Option Kept). IfSome r (LeavesBooked one_each)) (sym writes.1) tt
+
+pub served_text_is_world : ServedTextIsWorld
+served_text_is_world ds settings faults operator lines journal old new status run none script are
+    (Ok i, read, writes) =
+    let t = faultless faults operator i ds lines read.1 read.0.1 read.0.2 none script in
+    written (λ (r : Kept). Allows r.plan ds → LeavesServed ds lines r) i journal old new status run
+    (λ J e leads fair. served i ds lines J e t are fair leads) writes
+served_text_is_world ds settings faults operator lines journal old new status run none script are
+    (Err e, read, writes) =
+    subst (λ (r : Option Kept). IfSome r (λ (x : Kept). Allows x.plan ds → LeavesServed ds lines x)) (sym writes.1) tt

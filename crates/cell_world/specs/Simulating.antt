@@ -6,6 +6,7 @@ use Rattle.cell_ports.specs.declared.plan.Plan.{Plan}
 use Rattle.cell_settings.specs.Settings.{plan_numbers}
 use Rattle.cell_turns.specs.Minds.{Mind}
 use Rattle.cell_workers.specs.declared.ends.End.TheVariants as end
+use Rattle.operator_desk.specs.declared.line.Line.{Line}
 use Rattle.cell_sim.specs.Simulated.{one_each}
 use Rattle.sim_plant.specs.Answers.{AnswersSo, SimCell}
 use Rattle.cell_runs.specs.Cells.{Ran}
@@ -14,6 +15,7 @@ use Rattle.cell_runs.specs.Runs.{KeepsRun, Kept, limits_of, opening_of}
 use Rattle.cell_runs.specs.declared.inputs.Inputs.{Inputs}
 use Rattle.cell_runs.specs.declared.texts.Mode.TheVariants as mode
 use Rattle.cell_world.specs.Running.{Allows, IsBooked, opened}
+use Rattle.cell_world.specs.StopRuns.{AreServices, IsBookedOrStopped}
 use Rattle.cell_world.specs.Whole.{opening_for}
 
 -- it begins in the opening that is as booked
@@ -49,3 +51,20 @@ TextIsWorld =
     → AreFaults faults [] → AreLines operator []
     → KeepsRun one_each settings faults operator mode.Rounds journal old new status run
     → IfSome run (LeavesBooked one_each)
+
+-- the same of a run with this script, where each machine without a belt is as booked, stands still or is at home
+pub record LeavesServed (ds : Durations) (lines : List Line) (run : Kept) : Type 0 where
+  pub left : SimCell
+  pub ran : Ran AnswersSo (limits_of run.plan) run.plan (opened run.plan ds) [] lines left run.entries run.end
+  pub collisions : left.world.collisions ≡ 0
+  pub booked : run.end ≢ end.Memory → run.end ≢ end.Full
+      → (minds : Machine → Mind) × IsBookedOrStopped (limits_of run.plan) run.entries run.plan minds left.world
+
+-- so it is with the run of which is written, if the operator's script stops and repairs machines without a belt
+abbrev pub ServedTextIsWorld : Type 0
+ServedTextIsWorld =
+    (ds : Durations) (settings faults operator : List ℕ) (lines : List Line) (journal : Bool)
+    (old new : Option (List ℕ)) (status : ℕ) (run : Option Kept)
+    → AreFaults faults [] → AreLines operator lines → AreServices lines
+    → KeepsRun ds settings faults operator mode.Rounds journal old new status run
+    → IfSome run (λ r. Allows r.plan ds → LeavesServed ds lines r)

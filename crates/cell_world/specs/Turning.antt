@@ -65,3 +65,7 @@ TurnKeeps =
     → has_belt m ≡ false → TurnBegins l J p m s w → IsDecided l J m p s (shown w m) e
     → IfSome e (λ x. first_of l J x ≡ None)
     → TurnLeaves J (J ++ option_to_list e) p m (mind_after J m p s (shown w m) e) w (after_turn w m e)
+
+-- no turn changes how long motions take
+abbrev pub DurationsStay : Type 0
+DurationsStay = (w : Simulated) (m : Machine) (e : Option Entry) → (after_turn w m e).durations ≡ w.durations
