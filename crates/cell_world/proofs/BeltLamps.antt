@@ -59,6 +59,7 @@ use Rattle.cell_world.proofs.BeltReads.{rests_alike, way_back}
 use Rattle.cell_world.proofs.Entries.{at_before, going_before}
 use Rattle.cell_world.proofs.Laying.{admitted_before, apart_back}
 use Rattle.cell_world.proofs.Laying.{apart_edges, apart_in, apart_out}
+use Rattle.cell_world.proofs.Laying.{less_of}
 use Rattle.cell_world.proofs.Laying.{expected_before, lamp_before, lamp_now, lays_before}
 use Rattle.cell_world.proofs.Laying.{takes_before}
 use Rattle.cell_world.proofs.Plates.{Left, not_elsewhere, put_none, put_to}
@@ -133,7 +134,8 @@ light_leaves l J p c s w x to t calm o e rs sd rest st =
     (λ d i. subst (λ (y : Simulated). EndsAsBefore d v y) (sym so) (lit_ends c d to v i))
 
 -- where no plate is laid in that isn't booked, the stations are as booked with the light as it is booked
-record FeedBooked (J : List Entry) (x : Entry) (to : Colour) (v : Simulated) : Type 0 where
+record FeedBooked (J : List Entry) (p : Plan) (x : Entry) (to : Colour) (v : Simulated) : Type 0 where
+  wanted : to ≡ colour.Green → admitted_in (one_more J x) < p.plates
   lamp : lamp_of (one_more J x) belt.Feed ≡ to
   other : lamp_of (one_more J x) belt.Deposit ≡ lamp_of J belt.Deposit
   expected : expects x ≡ None
@@ -143,7 +145,7 @@ record FeedBooked (J : List Entry) (x : Entry) (to : Colour) (v : Simulated) : T
       → HasBooked (one_more J x) v t
 
 feed_stations : (J : List Entry) (p : Plan) (x : Entry) (to : Colour) (v : Simulated) → IsPlain v
-    → FeedBooked J x to v → StationsAsBooked J p v → StationsAsBooked (one_more J x) p (lit belt.Feed to v)
+    → FeedBooked J p x to v → StationsAsBooked J p v → StationsAsBooked (one_more J x) p (lit belt.Feed to v)
 unfolding feed_lit
 feed_stations J p x to v t b st =
     let y = st.laying in
@@ -152,7 +154,7 @@ feed_stations J p x to v t b st =
         light = sym b.lamp;
         laid = inl (record { plate = b.plate; count = b.count });
         planned = y.planned;
-        cleared = y.cleared;
+        sparing = inr (λ g. b.wanted (sym b.lamp ∙ g));
         untrusting = unless (not (same_colour v.feed_light to) && v.watch.is_on) (same_colour to colour.Green)
             v.is_trusting (ap (λ (i : Bool). not (same_colour v.feed_light to) && i) t.unwatched
             ∙ and_false (not (same_colour v.feed_light to)))
@@ -263,6 +265,33 @@ feed_green J p v g ok still z =
     (occupied_by J station.FeedEnd false g (ap (λ (q : Option ℕ). is_some q) o.back))
     (less_test (admitted_in J) p.plates z.planned)
 
+-- and it is wanted green only while plates of the plan aren't admitted yet
+wanted_by : (a b c d e x : Bool) → green_where (a && (b && (c && (d && (e || x))))) ≡ colour.Green → x ≡ false
+    → e ≡ true
+wanted_by false b c d e x h k = cc h
+wanted_by true false c d e x h k = cc h
+wanted_by true true false d e x h k = cc h
+wanted_by true true true false e x h k = cc h
+wanted_by true true true true true x h k = refl
+wanted_by true true true true false x h k =
+    let c : colour.Red ≡ colour.Green = sym (ap green_where k) ∙ h in cc c
+
+pub green_wanted : (J : List Entry) (p : Plan) → expected_of J ≡ None
+    → feed_light (situation_of J) p.plates ≡ colour.Green → admitted_in J < p.plates
+unfolding feed_light
+green_wanted J p none h =
+    less_of (admitted_in J) p.plates
+    (wanted_by (not (is_failed J machine.Feed)) (is_none (going_of J axis.FeedBelt))
+    (not (is_occupied J station.FeedIn)) (not (is_occupied J station.FeedEnd)) (nat_lt (admitted_in J) p.plates)
+    (is_some (expected_of J)) h (ap (λ (o : Option ℕ). is_some o) none))
+
+lamp_wanted : (J : List Entry) (p : Plan) (x : Entry) (to : Colour) → admitted_in (one_more J x) ≡ admitted_in J
+    → expected_of J ≡ None → same_colour to (feed_light (situation_of J) p.plates) ≡ true → to ≡ colour.Green
+    → admitted_in (one_more J x) < p.plates
+lamp_wanted J p x to same none h e =
+    subst (λ (n : ℕ). n < p.plates) (sym same)
+    (green_wanted J p none (sym (colour_same to (feed_light (situation_of J) p.plates) h) ∙ e))
+
 feed_none : (J : List Entry) (p : Plan) (v : Simulated) (to : Colour) → Good J → is_failed J machine.Feed ≡ false
     → going_of J axis.FeedBelt ≡ None → same_colour to (feed_light (situation_of J) p.plates) ≡ true
     → lamp_of J belt.Feed ≢ to → NoneIsLaid J v ⊎ OneIsLaid J p v → NoneIsLaid J v
@@ -285,6 +314,7 @@ feed_lamp_leaves l J p s w to t r g k allow h =
     light_leaves l J p to_feed_end s w x to t (record { unfailed = refl; unasked = refl }) refl refl refl refl y.rest
     (feed_stations J p x to v y.rest.plain
     (record {
+      wanted = λ e. lamp_wanted J p x to (admitted_before J x refl) r.stations.laying.unexpected h e;
       lamp = lamp_now J x belt.Feed to refl;
       other = lamp_before J x belt.Deposit refl;
       expected = refl;
@@ -347,7 +377,7 @@ nowhere_yet J t g =
     let c : Place.At t ≡ Place.Nowhere = sym there ∙ none in cc c)
 
 -- what the book has at a station after one entry more
-told_then : (J : List Entry) (x : Entry) (t : Station) → Good (one_more J x)
+pub told_then : (J : List Entry) (x : Entry) (t : Station) → Good (one_more J x)
     → plate_of (one_more J x) t ≡ (step x (after J)).plate t
 told_then J x t k =
     told_left (one_more J x) t k ∙ ap (λ (y : Snapshot). y.plate t) (after_snoc opening J x)
@@ -363,6 +393,7 @@ admitted_leaves l J p s w t st g k rest z =
     rest
     (feed_stations J p x colour.Red v rest.plain
     (record {
+      wanted = λ e. let c : colour.Red ≡ colour.Green = e in cc c;
       lamp = lamp_now J x belt.Feed colour.Red refl;
       other = lamp_before J x belt.Deposit refl;
       expected = refl;
@@ -372,7 +403,7 @@ admitted_leaves l J p s w t st g k rest z =
           ∙ put_none n station.FeedIn u (after J).plate d (nowhere_yet J u g)));
     }) st)
 
-left_none : (j : ℕ) (o : Option ℕ) → o ≡ Some j → left_by j o ≡ None
+pub left_none : (j : ℕ) (o : Option ℕ) → o ≡ Some j → left_by j o ≡ None
 left_none j o h = let e = same_number j j refl in ap (λ (y : Option ℕ). left_by j y) h ∙ rw e refl
 
 pub delivered_leaves : (l : BookLimits) (J : List Entry) (p : Plan) (s : Mind) (w : Simulated) (j : ℕ)

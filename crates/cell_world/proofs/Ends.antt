@@ -132,7 +132,7 @@ went_here a at to (more n zero) t w d e =
     either (λ (x : Simulated). plate_here x t) (same_pose to pose.Top) (forges a v) v (plate_here w t)
     (forges_here a t v d e) refl
 
-apart_by : (t s : Station) → (t ≡ s → ⊥) → station_number t ≢ station_number s
+pub apart_by : (t s : Station) → (t ≡ s → ⊥) → station_number t ≢ station_number s
 apart_by t s h e = h (station_same t s (same_number (station_number t) (station_number s) e))
 
 no_press : (J : List Entry) (t : Station) → CannotHand J t → (t ≡ station.Press1 → ⊥) × (t ≡ station.Press2 → ⊥)

@@ -24,6 +24,7 @@ use Rattle.cell_sim.specs.Simulated.{Simulated}
 use Rattle.cell_world.specs.BeltTurning.{StationsAsBooked}
 use Rattle.cell_world.specs.Going.{IsPlain}
 use Rattle.cell_world.specs.Handing.{HasBooked}
+use Rattle.cell_world.specs.Laying.{GreenIsWanted}
 use Rattle.cell_world.specs.Laying.{LayingAsBooked, NoneIsLaid, OneIsLaid, OneIsTaken, TakingAsBooked, admitted_in}
 use Rattle.cell_world.specs.Starting.{one_more}
 use Rattle.cell_world.specs.Turning.{is_within}
@@ -74,6 +75,12 @@ laid_before J K p w v b (inr t) =
       planned = subst (λ (n : ℕ). n < p.plates) more t.planned;
     })
 
+sparing_before : (J K : List Entry) (p : Plan) (w v : Simulated) → LaysAsBefore J K w v
+    → (w.cleared ≡ 0) ⊎ GreenIsWanted J p → (v.cleared ≡ 0) ⊎ GreenIsWanted K p
+sparing_before J K p w v b (inl h) = inl (ap (λ (x : LayingPart). x.cleared) b.part ∙ h)
+sparing_before J K p w v b (inr h) =
+    inr (λ g. subst (λ (n : ℕ). n < p.plates) (sym b.admitted) (h (sym b.lamp ∙ g)))
+
 pub lays_before : (J K : List Entry) (p : Plan) (w v : Simulated) → LaysAsBefore J K w v → LayingAsBooked J p w
     → LayingAsBooked K p v
 lays_before J K p w v b t =
@@ -81,7 +88,7 @@ lays_before J K p w v b t =
       light = ap (λ (x : LayingPart). x.light) b.part ∙ (t.light ∙ sym b.lamp);
       laid = laid_before J K p w v b t.laid;
       planned = ap (λ (x : LayingPart). x.planned) b.part ∙ t.planned;
-      cleared = ap (λ (x : LayingPart). x.cleared) b.part ∙ t.cleared;
+      sparing = sparing_before J K p w v b t.sparing;
       untrusting = ap (λ (x : LayingPart). x.trusting) b.part ∙ t.untrusting;
       unexpected = b.expected ∙ t.unexpected;
     }
@@ -177,7 +184,7 @@ or_first : (x y : Bool) → (x || y) ≡ true → y ≡ false → x ≡ true
 or_first true y h k = refl
 or_first false y h k = let c : true ≡ false = sym h ∙ k in cc c
 
-less_of : (a b : ℕ) → nat_lt a b ≡ true → a < b
+pub less_of : (a b : ℕ) → nat_lt a b ≡ true → a < b
 less_of a b h = grind (arith, nat_tests)
 
 left_below : (a b c : ℕ) → nat_lt a (min (b + c) (2 ^ 32 - 1)) ≡ true → c ≡ 0 → a < b
@@ -226,19 +233,27 @@ laid_so w e h =
     ap (λ (b : Bool). laid_in (w.laid + 1) b (next_laid w)) e
     ∙ unless (has_plate w station.FeedIn) (record (next_laid w) { lost = counted w.lost }) (with_new w) h
 
+-- so a plate that is laid in is one of the plan
+still_planned : (J : List Entry) (p : Plan) (w : Simulated) → is_plate_left w ≡ true → w.laid ≡ admitted_in J
+    → w.planned ≡ p.plates → lamp_of J belt.Feed ≡ colour.Green → (w.cleared ≡ 0) ⊎ GreenIsWanted J p
+    → admitted_in J < p.plates
+still_planned J p w l count planned g (inl h) =
+    subst (λ (n : ℕ). n < p.plates) count
+    (subst (λ (n : ℕ). w.laid < n) planned (left_below w.laid w.planned w.cleared l h))
+still_planned J p w l count planned g (inr h) = h g
+
 new_laid : (J : List Entry) (p : Plan) (w : Simulated) → IsPlain w → w.feed_light ≡ colour.Green
     → is_plate_left w ≡ true → has_plate w station.FeedIn ≡ false → LayingAsBooked J p w
     → NoneIsLaid J w ⊎ OneIsLaid J p w → OneIsLaid J p (with_new w)
 new_laid J p w t g l n y (inr z) =
     let c : true ≡ false = sym (ap (λ (o : Option ℕ). is_some o) z.plate) ∙ n in cc c
 new_laid J p w t g l n y (inl z) =
-    let less : w.laid < w.planned = left_below w.laid w.planned w.cleared l y.cleared in
     record {
       green = sym y.light ∙ g;
       plate = ap number_of (here_now station.FeedIn (Some (new_plate (w.laid + 1))) (next_laid w) t.stations)
           ∙ ap (λ (k : ℕ). Some (k + 1)) z.count;
       count = ap (λ (k : ℕ). k + 1) z.count;
-      planned = subst (λ (n : ℕ). n < p.plates) z.count (subst (λ (n : ℕ). w.laid < n) y.planned less);
+      planned = still_planned J p w l z.count y.planned (sym y.light ∙ g) y.sparing;
     }
 
 new_elsewhere : (w : Simulated) (t : Station) → station_number t ≢ station_number station.FeedIn
@@ -263,7 +278,7 @@ laid_more J p w t s h =
         light = s.laying.light;
         laid = inr (new_laid J p w t green b.0 none s.laying s.laying.laid);
         planned = s.laying.planned;
-        cleared = s.laying.cleared;
+        sparing = s.laying.sparing;
         untrusting = refl;
         unexpected = s.laying.unexpected;
       };

@@ -1,4 +1,4 @@
--- How long motions take never changes
+-- No turn changes how long motions take, and how many plates were cleared
 use Rattle.std.proofs.Common.{◌≡◌, ℕ, Bool, true, false, not, ◌&&◌, ◌||◌, ◌+◌, Option, Some, None, List, [], ◌∷◌, refl}
 use Rattle.std.proofs.Common.{sym}
 use Rattle.std.proofs.Common.{ap, ◌∙◌, subst, ◌≤◌, ◌-◌, is_some, if◌then◌else◌}
@@ -59,11 +59,11 @@ use Rattle.cell_sim.specs.Script.{fault_in}
 use Rattle.cell_sim.specs.Simulated.{Simulated}
 use Rattle.cell_world.specs.Starting.{after_entry, after_order}
 use Rattle.cell_world.specs.Tie.{IsFairPlan}
-use Rattle.cell_world.specs.Turning.{after_turn}
+use Rattle.cell_world.specs.Turning.{DurationsStay, after_turn}
 use Rattle.cell_world.proofs.Steps.{either}
 
-abbrev long : Simulated → Durations
-long w = w.durations
+abbrev long : Simulated → Durations × ℕ
+long w = (w.durations, w.cleared)
 
 -- where one of two things is done, neither of which changes it
 one_of : (b : Bool) (v u w : Simulated) → long v ≡ long w → long u ≡ long w → long (if b then v else u) ≡ long w
@@ -207,9 +207,12 @@ hands_long machine.Deposit w =
     one_of (same_colour w.deposit_light colour.Green && has_plate w station.DepEnd) _ w w refl refl
 hands_long m w = refl
 
-pub reading_long : (w : Simulated) (m : Machine) → (after_reading w m).durations ≡ w.durations
+read_keeps : (w : Simulated) (m : Machine) → long (after_reading w m) ≡ long w
 unfolding after_reading
-reading_long w m = read_long m (by_the_hands w m) ∙ hands_long m w
+read_keeps w m = read_long m (by_the_hands w m) ∙ hands_long m w
+
+pub reading_long : (w : Simulated) (m : Machine) → (after_reading w m).durations ≡ w.durations
+reading_long w m = ap (λ (x : Durations × ℕ). x.0) (read_keeps w m)
 
 -- A COMMAND
 
@@ -280,20 +283,28 @@ obeyed_long fs w (MagnetOn a) = gripped_long a w
 obeyed_long fs w (MagnetOff a) = down_by_long a w
 obeyed_long fs w (AllOff m) = stopped_long m w
 
-pub command_long : (fs : List PlannedFault) (w : Simulated) (c : Command)
-    → (after_command fs w c).durations ≡ w.durations
+command_long : (fs : List PlannedFault) (w : Simulated) (c : Command) → long (after_command fs w c) ≡ long w
 unfolding after_command
 command_long fs w c =
     one_of (fails fs w c) (obeyed fs w c) (looked (Some c) (obeyed fs w c)) w (obeyed_long fs w c)
     (looked_long (Some c) (obeyed fs w c) ∙ obeyed_long fs w c)
 
-order_long : (w : Simulated) (o : Option Command) → (after_order w o).durations ≡ w.durations
+order_long : (w : Simulated) (o : Option Command) → long (after_order w o) ≡ long w
 order_long w None = refl
 order_long w (Some c) = command_long [] w c
 
+turn_keeps : (w : Simulated) (m : Machine) (e : Option Entry) → long (after_turn w m e) ≡ long w
+turn_keeps w m None = read_keeps w m
+turn_keeps w m (Some x) = order_long (after_reading w m) (command_of x) ∙ read_keeps w m
+
 pub turn_long : (w : Simulated) (m : Machine) (e : Option Entry) → (after_turn w m e).durations ≡ w.durations
-turn_long w m None = reading_long w m
-turn_long w m (Some x) = order_long (after_reading w m) (command_of x) ∙ reading_long w m
+turn_long w m e = ap (λ (x : Durations × ℕ). x.0) (turn_keeps w m e)
+
+pub turn_clears : (w : Simulated) (m : Machine) (e : Option Entry) → (after_turn w m e).cleared ≡ w.cleared
+turn_clears w m e = ap (λ (x : Durations × ℕ). x.1) (turn_keeps w m e)
+
+pub stays_so : DurationsStay
+stays_so w m e = (turn_long w m e, turn_clears w m e)
 
 -- the plan's limits allow it then as before
 pub fair_then : (p : Plan) (w v : Simulated) → v.durations ≡ w.durations → IsFairPlan p w → IsFairPlan p v

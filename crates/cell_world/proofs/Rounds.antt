@@ -119,6 +119,8 @@ round_kept l J p minds w t =
     record {
       legal = t.legal;
       fair = round_fair p w t.fair;
+      uncleared = round_same (λ (u : Simulated). u.cleared)
+          (record { moving = λ n u. refl; round = λ n u. refl }) w ∙ t.uncleared;
       switches = λ m b. kept_as J J m (minds m) refl refl
           (λ i. spared_stays J J p m (minds m).axis w v (round_spares J m w plain) i) (t.switches m b);
       belts = λ m b. kept_as J J m (minds m) refl refl

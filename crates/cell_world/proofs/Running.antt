@@ -38,6 +38,7 @@ other_minds l J p minds others w h t =
     record {
       legal = t.legal;
       fair = t.fair;
+      uncleared = t.uncleared;
       switches = λ n b. subst (λ (x : Mind). IsAsBooked J p n x w) (h n) (t.switches n b);
       belts = λ n b. subst (λ (x : Mind). BeltAsBooked J p n x w) (h n) (t.belts n b);
       stations = t.stations;

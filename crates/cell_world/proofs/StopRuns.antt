@@ -1,20 +1,26 @@
--- The whole cell, through the moves of a run in which the operator stops and repairs machines without a belt
+-- The whole cell, through the moves of a run in which the operator stops, clears and repairs machines
+-- without a belt
 use Rattle.std.proofs.Common.{◌≡◌, ◌≢◌, ◌⊎◌, inl, inr, Bool, true, false, Option, Some, None, List, [], ◌∷◌, refl, sym}
 use Rattle.std.proofs.Common.{ap}
 use Rattle.std.proofs.Common.{◌∙◌}
 use Rattle.std.proofs.Common.{subst, if◌then◌else◌}
-use Rattle.std.specs.Option.{option_and_then}
+use Rattle.std.specs.Option.{option_and_then, option_map}
+use Rattle.std.proofs.Common.{ℕ}
 use Rattle.cell_types.specs.declared.words.Entry.{Entry}
-use Rattle.cell_types.specs.declared.words.Entry.TheVariants.{Repaired, StopAsked}
+use Rattle.cell_types.specs.declared.words.Colour.TheVariants as colour
+use Rattle.cell_types.specs.declared.words.Entry.TheVariants.{Quarantined, Repaired, StopAsked}
+use Rattle.cell_types.specs.declared.words.Station.{Station}
+use Rattle.cell_types.specs.Cell.{machine_of_station}
+use Rattle.cell_rules.specs.Views.{plate_of}
 use Rattle.cell_types.specs.declared.words.Machine.{Machine}
 use Rattle.cell_rules.specs.History.{History}
 use Rattle.cell_rules.specs.Legal.{allowed, first_of}
 use Rattle.cell_rules.specs.declared.limits.BookLimits.{BookLimits}
 use Rattle.cell_measures.specs.declared.durations.Durations.{Durations}
 use Rattle.cell_ports.specs.declared.plan.Plan.{Plan}
-use Rattle.cell_ports.specs.declared.port.Act.TheVariants.{Home}
+use Rattle.cell_ports.specs.declared.port.Act.TheVariants.{Home, Remove}
 use Rattle.cell_turns.specs.Acts.{act_of}
-use Rattle.cell_turns.specs.Minds.{Mind}
+use Rattle.cell_turns.specs.Minds.{Mind, first_mind}
 use Rattle.cell_turns.specs.Six.{at}
 use Rattle.cell_plant.specs.declared.keeper.Unkept.{Unkept}
 use Rattle.operator_desk.specs.declared.action.Action.{Action}
@@ -36,6 +42,7 @@ use Rattle.cell_world.specs.Starting.{one_more}
 use Rattle.cell_world.specs.StopRuns.{AreServices, EndWithStops, IsBookedOrStopped, NoneCollidesByStops, RunWithStops}
 use Rattle.cell_world.specs.Stopping.{CellWithStops, WorksOrStopped}
 use Rattle.cell_world.proofs.BeltReads.{read_counts}
+use Rattle.cell_world.proofs.Clearing.{clearing_keeps}
 use Rattle.cell_world.proofs.Halts.{read_still}
 use Rattle.cell_world.proofs.Hand.{done_by, hand_counts}
 use Rattle.cell_world.proofs.Machines.{rest_after}
@@ -54,11 +61,12 @@ if_some : {A : Type 0} (b : Bool) (o : Option A) (x : A) → (if b then o else N
 if_some true o x h = h
 if_some false o x h = cc h
 
--- the action of such a line asks a machine without a belt to stop, or repairs one
-record Serves (a : Action) : Type 0 where
-  machine : Machine
-  belt : has_belt machine ≡ false
-  is : (action.Stop machine ≡ a) ⊎ (action.Repair machine ≡ a)
+-- the action of such a line asks a machine without a belt to stop, repairs one, or clears a station of one
+data Serves (J : List Entry) (a : Action) : Type 0 where
+  stops : (m : Machine) → has_belt m ≡ false → action.Stop m ≡ a → Serves J a
+  repairs : (m : Machine) → has_belt m ≡ false → action.Repair m ≡ a → Serves J a
+  clears : (s : Station) (k : ℕ) → has_belt (machine_of_station s) ≡ false → plate_of J s ≡ Some k
+      → action.Clear s k ≡ a → Serves J a
 
 -- the action of a task that is always one
 acts_so : (h : History) (k : Task) (b a : Action) → action_of h.entries k ≡ Some b
@@ -77,25 +85,42 @@ repair_acts h m = refl
 
 served : (h : History) (k : Task) (a : Action) (m : Machine) → has_belt m ≡ false
     → (k ≡ task.Stop m) ⊎ (k ≡ task.Repair m) → option_and_then (if_allowed h) (action_of h.entries k) ≡ Some a
-    → Serves a
+    → Serves h.entries a
 served h k a m b (inl e) n =
-    record {
-      machine = m;
-      belt = b;
-      is = inl (acts_so h k (action.Stop m) a (ap (action_of h.entries) e ∙ stop_acts h m) n);
-    }
+    stops m b (acts_so h k (action.Stop m) a (ap (action_of h.entries) e ∙ stop_acts h m) n)
 served h k a m b (inr e) n =
-    record {
-      machine = m;
-      belt = b;
-      is = inr (acts_so h k (action.Repair m) a (ap (action_of h.entries) e ∙ repair_acts h m) n);
-    }
+    repairs m b (acts_so h k (action.Repair m) a (ap (action_of h.entries) e ∙ repair_acts h m) n)
 
-serves_next : (ls : List Line) (h : History) (a : Action) → AreServices ls → next_of ls h ≡ Some a → Serves a
+clear_acts : (h : History) (s : Station) (k : ℕ) → plate_of h.entries s ≡ Some k
+    → action_of h.entries (task.Clear s) ≡ Some (action.Clear s k)
+unfolding action_of
+clear_acts h s k e = ap (λ (o : Option ℕ). option_map (λ i. action.Clear s i) o) e
+
+clear_none : (h : History) (s : Station) → plate_of h.entries s ≡ None → action_of h.entries (task.Clear s) ≡ None
+unfolding action_of
+clear_none h s e = ap (λ (o : Option ℕ). option_map (λ i. action.Clear s i) o) e
+
+none_acts : (h : History) (o : Option Action) (a : Action) → o ≡ None → option_and_then (if_allowed h) o ≡ Some a → ⊥
+none_acts h o a e n =
+    let x : None ≡ Some a = sym (ap (λ (y : Option Action). option_and_then (if_allowed h) y) e) ∙ n in cc x
+
+cleared_by : (h : History) (k : Task) (a : Action) (s : Station) (o : Option ℕ)
+    → has_belt (machine_of_station s) ≡ false → plate_of h.entries s ≡ o → k ≡ task.Clear s
+    → option_and_then (if_allowed h) (action_of h.entries k) ≡ Some a → Serves h.entries a
+cleared_by h k a s None b o e n =
+    absurd (none_acts h (action_of h.entries k) a (ap (action_of h.entries) e ∙ clear_none h s o) n)
+cleared_by h k a s (Some j) b o e n =
+    clears s j b o (acts_so h k (action.Clear s j) a (ap (action_of h.entries) e ∙ clear_acts h s j o) n)
+
+serves_next : (ls : List Line) (h : History) (a : Action) → AreServices ls → next_of ls h ≡ Some a
+    → Serves h.entries a
 unfolding action_now
 serves_next [] h a t n = cc n
-serves_next (line ∷ rest) h a ((m, b, e), t) n =
+serves_next (line ∷ rest) h a (inl (m, b, e), t) n =
     served h line.task a m b e
+    (if_some (holds h.entries line.when) (option_and_then (if_allowed h) (action_of h.entries line.task)) a n)
+serves_next (line ∷ rest) h a (inr (s, b, e), t) n =
+    cleared_by h line.task a s (plate_of h.entries s) b refl e
     (if_some (holds h.entries line.when) (option_and_then (if_allowed h) (action_of h.entries line.task)) a n)
 
 left_stops : (ls : List Line) → AreServices ls → AreServices (left_after ls)
@@ -110,6 +135,7 @@ other_minds l J p minds others w h t =
     record {
       legal = t.legal;
       fair = t.fair;
+      wanted = t.wanted;
       switches = λ n b. subst (λ (x : Mind). WorksOrStopped J p n x w) (h n) (t.switches n b);
       belts = λ n b. subst (λ (x : Mind). BeltAsBooked J p n x w) (h n) (t.belts n b);
       stations = t.stations;
@@ -131,7 +157,7 @@ read_by : (l : BookLimits) (J : List Entry) (p : Plan) (minds : Machine → Mind
 read_by l J p minds w m false b t = member_counts J p m (minds m) w b (t.switches m b)
 read_by l J p minds w m true b t = read_counts J p m (minds m).axis w b (t.belts m b).tied
 
--- the operator asks for a stop, or repairs
+-- the operator asks for a stop, repairs or clears
 abbrev Handed : Terms → List Line → List Entry → (Machine → Mind) → Simulated → Action → Type 0
 Handed T ls J f w a =
     WithStops T (left_after ls) (one_more J (entry_of a)) f (done_by (act_of (entry_of a)) w)
@@ -152,15 +178,28 @@ repair_kept T ls J f w m t b free = (
   ),
 )
 
+clear_kept : (T : Terms) (ls : List Line) (J : List Entry) (f : Machine → Mind) (w : Simulated) (s : Station) (k : ℕ)
+    → WithStops T ls J f w → has_belt (machine_of_station s) ≡ false → plate_of J s ≡ Some k
+    → first_of T.limits J (Quarantined k s) ≡ None → Handed T ls J f w (action.Clear s k)
+clear_kept T ls J f w s k t b here free = (
+  left_stops ls t.0,
+  (
+    clearing_keeps T.limits J T.plan f w k s b here free t.1.0,
+    hand_counts (Some (Remove s)) w (plain_of T.limits J T.plan f w t.1.0) ∙ t.1.1,
+  ),
+)
+
+abbrev Free : Terms → List Entry → Action → Type 0
+Free T J a = first_of T.limits J (entry_of a) ≡ None
+
 hand_by : (T : Terms) (ls : List Line) (J : List Entry) (f : Machine → Mind) (w : Simulated) (a : Action)
-    (m : Machine) → WithStops T ls J f w → has_belt m ≡ false → (action.Stop m ≡ a) ⊎ (action.Repair m ≡ a)
-    → first_of T.limits J (entry_of a) ≡ None → Handed T ls J f w a
-hand_by T ls J f w a m t b (inl e) free =
-    subst (Handed T ls J f w) e
-    (stop_kept T ls J f w m t b (subst (λ (x : Action). first_of T.limits J (entry_of x) ≡ None) (sym e) free))
-hand_by T ls J f w a m t b (inr e) free =
-    subst (Handed T ls J f w) e
-    (repair_kept T ls J f w m t b (subst (λ (x : Action). first_of T.limits J (entry_of x) ≡ None) (sym e) free))
+    → WithStops T ls J f w → Serves J a → Free T J a → Handed T ls J f w a
+hand_by T ls J f w a t (stops m b e) free =
+    subst (Handed T ls J f w) e (stop_kept T ls J f w m t b (subst (Free T J) (sym e) free))
+hand_by T ls J f w a t (repairs m b e) free =
+    subst (Handed T ls J f w) e (repair_kept T ls J f w m t b (subst (Free T J) (sym e) free))
+hand_by T ls J f w a t (clears s k b h e) free =
+    subst (Handed T ls J f w) e (clear_kept T ls J f w s k t b h (subst (Free T J) (sym e) free))
 
 holds_on : (T : Terms) → HoldsOn T (WithStops T)
 holds_on T =
@@ -174,8 +213,7 @@ holds_on T =
       }) in (t.0, (left.0, left.1 ∙ t.1.1));
       round = λ ls J f w t. (t.0, (stopped_round_kept l J p f w t.1.0, round_collisions w ∙ t.1.1));
       hand = λ ls J f w a t next free.
-          let s = serves_next ls (record { limits = l; entries = J }) a t.0 next in
-          hand_by T ls J f w a s.machine t s.belt s.is free;
+          hand_by T ls J f w a t (serves_next ls (record { limits = l; entries = J }) a t.0 next) free;
       plain = λ ls J f w t. plain_of l J p f w t.1.0;
       counts = λ ls J f w t. t.1.1;
       reads = λ ls J f w m t. read_by l J p f w m (has_belt m) refl t.1.0 ∙ t.1.1;
@@ -183,12 +221,18 @@ holds_on T =
 
 -- THE RUN
 
+first_held : (T : Terms) (ds : Durations) → Allows T.plan ds
+    → CellWithStops T.limits [] T.plan (λ m. first_mind [] m) (opened T.plan ds).world
+first_held T ds fair =
+    none_stopped T.limits [] T.plan (λ m. first_mind [] m) (opened T.plan ds).world
+    (cell_opening T.limits T.plan ds fair) (λ g. let c : colour.Red ≡ colour.Green = g in cc c)
+
 stands : (T : Terms) (ds : Durations) (lines : List Line) (k : Unkept) (t : Stand SimCell Unkept) → Allows T.plan ds
     → AreServices lines → Leads AnswersSo AllKept T (start (opened T.plan ds) k [] lines None) t
     → Holds T (WithStops T) t
 stands T ds lines k t fair are leads =
     come T (WithStops T) (opened T.plan ds) k [] lines t (holds_on T) refl
-    (are, (none_stopped T.limits [] T.plan _ (opened T.plan ds).world (cell_opening T.limits T.plan ds fair), refl))
+    (are, (first_held T ds fair, refl))
     leads
 
 pub run_with_stops : RunWithStops

@@ -79,6 +79,7 @@ use Rattle.cell_world.proofs.Spared.{rest_spared, spared_stays}
 use Rattle.cell_world.proofs.Steps.{each_axis, not_true, rest_silent}
 use Rattle.cell_world.proofs.Turns.{and_false, proposed_does}
 use Rattle.cell_world.proofs.Turns.{good_then, plates_as, tied_plain, turn_does, when_no}
+use Rattle.cell_world.proofs.Wanted.{wanted_kept, wanted_more}
 use Rattle.cell_world.proofs.Whole.{ends_stay, other_kind, other_stay, stations_kept, world_before}
 
 -- A MACHINE THAT WORKS
@@ -484,7 +485,7 @@ stopped_spared J K n i w v h s t =
           };
     }
 
-member_spared : (J K : List Entry) (p : Plan) (n : Machine) (s : Mind) (w v : Simulated)
+pub member_spared : (J K : List Entry) (p : Plan) (n : Machine) (s : Mind) (w v : Simulated)
     → is_failed K n ≡ is_failed J n → IsSpared n J K w v → WorksOrStopped J p n s w → WorksOrStopped K p n s v
 member_spared J K p n s w v h i (inl t) =
     inl (works_as J K n s h (λ k. spared_stays J K p n s.axis w v i k) t)
@@ -530,6 +531,7 @@ cell_by l J p minds w m e false b t o =
       record {
         legal = legal_then l J e t.legal o.allowed;
         fair = fair_then p w v (turn_long w m e) t.fair;
+        wanted = wanted_kept l J p m (minds m) (shown w m) e o.decided t.stations.laying.unexpected t.wanted;
         switches = λ n c. each_mind (λ x y. WorksOrStopped K p x y v) m n s minds (same_machine m n) refl
             (λ i. subst (λ (x : Machine). WorksOrStopped K p x s v) i left.member)
             (λ d. member_spared J K p n (minds n) w v (turn_healthy J m n e d o.own)
@@ -556,6 +558,7 @@ cell_by l J p minds w m e true b t o =
       record {
         legal = legal_then l J e t.legal o.allowed;
         fair = fair_then p w v (turn_long w m e) t.fair;
+        wanted = wanted_kept l J p m (minds m) (shown w m) e o.decided t.stations.laying.unexpected t.wanted;
         switches = λ n c. each_mind (λ x y. WorksOrStopped K p x y v) m n s minds (same_machine m n) refl
             (λ i. absurd (other_kind m n b c i))
             (λ d. member_spared J K p n (minds n) w v (turn_healthy J m n e d o.own)
@@ -573,10 +576,11 @@ pub stops_kept : StopsKept
 stops_kept l J p minds w m e t o = cell_by l J p minds w m e (has_belt m) refl t o
 
 pub none_stopped : NoneStopped
-none_stopped l J p minds w t =
+none_stopped l J p minds w t wanted =
     record {
       legal = t.legal;
       fair = t.fair;
+      wanted = wanted;
       switches = λ m b. inl (works_of J m (minds m) (t.switches m b));
       belts = t.belts;
       stations = t.stations;
@@ -615,6 +619,7 @@ asking_keeps l J p minds w m b free t =
     record {
       legal = legal_then l J (Some x) t.legal free;
       fair = t.fair;
+      wanted = wanted_more J p x refl refl t.wanted;
       switches = λ n c. member_spared J K p n (minds n) w w (asked_fails_none J m n) (asked_spares J m n w plain)
           (t.switches n c);
       belts = λ n c. kept_as J K n (minds n) (asked_fails_none J m n)
@@ -746,6 +751,7 @@ repairing_keeps l J p minds w m b free t =
     (record {
       legal = legal_then l J (Some x) t.legal free;
       fair = fair_then p w v (homed_part (λ (u : Simulated). u.durations) (λ a y u. refl) (axes_of m) w) t.fair;
+      wanted = wanted_more J p x refl refl t.wanted;
       switches = λ n c. repaired_member J p m n (minds n) w (same_machine m n) refl plain failed (t.switches n c);
       belts = λ n c. let d : m ≡ n → ⊥ = λ i. other_kind n m c b (sym i) in
           kept_as J K n (minds n) (repairs_no_other J m n (other_machine m n d)).0
@@ -771,6 +777,7 @@ stopped_round_kept l J p minds w t =
     record {
       legal = t.legal;
       fair = round_fair p w t.fair;
+      wanted = t.wanted;
       switches = λ n c. member_spared J J p n (minds n) w v refl (round_spares J n w plain) (t.switches n c);
       belts = λ n c. kept_as J J n (minds n) refl refl
           (λ i. belt_stays J J p n (minds n).axis w v c (round_spares J n w plain)

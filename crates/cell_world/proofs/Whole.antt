@@ -38,7 +38,7 @@ use Rattle.cell_world.specs.Laying.{admitted_in}
 use Rattle.cell_world.specs.Starting.{RobotMayStand}
 use Rattle.cell_world.specs.Switched.{with_mind}
 use Rattle.cell_world.specs.Tied.{Given, under_way}
-use Rattle.cell_world.proofs.Long.{fair_then, turn_long}
+use Rattle.cell_world.proofs.Long.{fair_then, turn_clears, turn_long}
 use Rattle.cell_world.specs.Turning.{IsAsBooked, TurnBegins, TurnLeaves, after_turn}
 use Rattle.cell_world.specs.Whole.{BeltsKept, CellAsBooked, CellIsWorld, CellKept, CellOpening, IsTurnOf, WayAsBooked}
 use Rattle.cell_world.specs.Whole.{opening_for}
@@ -223,6 +223,7 @@ cell_by l J p minds w m e false b t o =
       record {
         legal = legal_then l J e t.legal o.allowed;
         fair = fair_then p w v (turn_long w m e) t.fair;
+        uncleared = turn_clears w m e ∙ t.uncleared;
         switches = λ n c. each_mind (λ x y. IsAsBooked K p x y v) m n s minds (same_machine m n) refl
             (λ i. subst (λ (x : Machine). IsAsBooked K p x s v) i left.0.as_booked)
             (λ d. others_kept J p m n (minds n) w e plain d o.own (t.switches n c));
@@ -240,6 +241,7 @@ cell_by l J p minds w m e true b t o =
       record {
         legal = legal_then l J e t.legal o.allowed;
         fair = fair_then p w v (turn_long w m e) t.fair;
+        uncleared = turn_clears w m e ∙ t.uncleared;
         switches = λ n c. each_mind (λ x y. IsAsBooked K p x y v) m n s minds (same_machine m n) refl
             (λ i. absurd (other_kind m n b c i))
             (λ d. others_kept J p m n (minds n) w e plain d o.own (t.switches n c));
@@ -298,6 +300,7 @@ cell_opening l p ds fair =
     record {
       legal = refl;
       fair = fair;
+      uncleared = refl;
       switches = λ m b. machine_opening p m ds;
       belts = λ m b. belt_opening p m ds b;
       stations = record {
@@ -305,7 +308,7 @@ cell_opening l p ds fair =
           light = refl;
           laid = inl (record { plate = no_plate station.FeedIn p ds; count = refl });
           planned = refl;
-          cleared = refl;
+          sparing = inl refl;
           untrusting = refl;
           unexpected = refl;
         };

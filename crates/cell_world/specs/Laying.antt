@@ -26,13 +26,18 @@ pub record OneIsLaid (J : List Entry) (p : Plan) (w : Simulated) : Type 0 where
   pub count : w.laid ≡ admitted_in J + 1
   pub planned : admitted_in J < p.plates
 
+-- while the light is green, plates of the plan aren't admitted yet
+abbrev pub GreenIsWanted : List Entry → Plan → Type 0
+GreenIsWanted J p = lamp_of J belt.Feed ≡ colour.Green → admitted_in J < p.plates
+
 -- where plates are laid in the light is the book's, and a plate that isn't booked lies there only under the green one;
--- as many are planned as the plan says, none is trusted to be laid onto another, and none is to be laid back
+-- as many are planned as the plan says, and none was cleared that could be laid in besides, or none is while the light
+-- is green; none is trusted to be laid onto another, and none is to be laid back
 pub record LayingAsBooked (J : List Entry) (p : Plan) (w : Simulated) : Type 0 where
   pub light : w.feed_light ≡ lamp_of J belt.Feed
   pub laid : NoneIsLaid J w ⊎ OneIsLaid J p w
   pub planned : w.planned ≡ p.plates
-  pub cleared : w.cleared ≡ 0
+  pub sparing : (w.cleared ≡ 0) ⊎ GreenIsWanted J p
   pub untrusting : w.is_trusting ≡ false
   pub unexpected : expected_of J ≡ None
 

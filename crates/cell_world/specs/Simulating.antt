@@ -60,7 +60,8 @@ pub record LeavesServed (ds : Durations) (lines : List Line) (run : Kept) : Type
   pub booked : run.end ≢ end.Memory → run.end ≢ end.Full
       → (minds : Machine → Mind) × IsBookedOrStopped (limits_of run.plan) run.entries run.plan minds left.world
 
--- so it is with the run of which is written, if the operator's script stops and repairs machines without a belt
+-- so it is with the run of which is written, if the operator's script stops, clears and repairs
+-- machines without a belt
 abbrev pub ServedTextIsWorld : Type 0
 ServedTextIsWorld =
     (ds : Durations) (settings faults operator : List ℕ) (lines : List Line) (journal : Bool)

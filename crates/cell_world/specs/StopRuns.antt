@@ -1,7 +1,9 @@
--- A run of the simulated cell in which the operator stops and repairs machines without a belt, without a fault
+-- A run of the simulated cell in which the operator stops, clears and repairs machines without a belt, without a fault
 use Rattle.std.specs.Prelude.{◌≡◌, ◌≢◌, ◌⊎◌, false, List, [], ◌∷◌, None}
 use Rattle.cell_types.specs.declared.words.Entry.{Entry}
 use Rattle.cell_types.specs.declared.words.Machine.{Machine}
+use Rattle.cell_types.specs.declared.words.Station.{Station}
+use Rattle.cell_types.specs.Cell.{machine_of_station}
 use Rattle.cell_rules.specs.declared.limits.BookLimits.{BookLimits}
 use Rattle.cell_measures.specs.declared.durations.Durations.{Durations}
 use Rattle.cell_ports.specs.declared.plan.Plan.{Plan}
@@ -21,10 +23,16 @@ use Rattle.cell_world.specs.Agreeing.{has_belt}
 use Rattle.cell_world.specs.Running.{Allows, opened}
 use Rattle.cell_world.specs.Stopping.{CellWithStops}
 
--- each line of the script asks a machine without a belt to stop, or is a repair of one
-abbrev pub IsService : Line → Type 0
-IsService line =
+-- each line of the script asks a machine without a belt to stop, is a repair of one, or clears a station of one
+abbrev pub IsOfMachine : Line → Type 0
+IsOfMachine line =
     (m : Machine) × (has_belt m ≡ false) × ((line.task ≡ task.Stop m) ⊎ (line.task ≡ task.Repair m))
+
+abbrev pub IsClearing : Line → Type 0
+IsClearing line = (s : Station) × (has_belt (machine_of_station s) ≡ false) × (line.task ≡ task.Clear s)
+
+abbrev pub IsService : Line → Type 0
+IsService line = IsOfMachine line ⊎ IsClearing line
 
 abbrev pub AreServices : List Line → Type 0
 AreServices [] = Unit {0}

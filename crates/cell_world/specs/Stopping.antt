@@ -1,19 +1,20 @@
--- The whole cell, where the operator stops and repairs machines without a belt, without a fault
-use Rattle.std.specs.Prelude.{◌≡◌, ◌⊎◌, true, false, Option, None, List, ◌++◌, option_to_list}
+-- The whole cell, where the operator stops, clears and repairs machines without a belt, without a fault
+use Rattle.std.specs.Prelude.{◌≡◌, ◌⊎◌, ℕ, true, false, Option, Some, None, List, ◌++◌, option_to_list}
 use Rattle.cell_types.specs.declared.words.Axis.{Axis}
 use Rattle.cell_types.specs.declared.words.Entry.{Entry}
-use Rattle.cell_types.specs.declared.words.Entry.TheVariants.{Repaired, StopAsked}
+use Rattle.cell_types.specs.declared.words.Entry.TheVariants.{Quarantined, Repaired, StopAsked}
 use Rattle.cell_types.specs.declared.words.Machine.{Machine}
-use Rattle.cell_types.specs.Cell.{machine_of_axis}
+use Rattle.cell_types.specs.declared.words.Station.{Station}
+use Rattle.cell_types.specs.Cell.{machine_of_axis, machine_of_station}
 use Rattle.cell_rules.specs.declared.limits.BookLimits.{BookLimits}
 use Rattle.cell_rules.specs.Legal.{first_of, legal}
-use Rattle.cell_rules.specs.Views.{is_failed}
+use Rattle.cell_rules.specs.Views.{is_failed, plate_of}
 use Rattle.cell_diagnosis.specs.RestRules.{rest}
 use Rattle.cell_diagnosis.specs.declared.verdict.Verdict.TheVariants.{Pending}
 use Rattle.cell_ports.specs.declared.plan.Plan.{Plan}
 use Rattle.cell_turns.specs.Minds.{Mind}
 use Rattle.cell_turns.specs.Turns.{mind_after}
-use Rattle.cell_sim.specs.Hands.{after_home}
+use Rattle.cell_sim.specs.Hands.{after_home, after_remove}
 use Rattle.cell_sim.specs.Moves.{moves}
 use Rattle.cell_sim.specs.Parts.{axis_at}
 use Rattle.cell_sim.specs.Readings.{after_round, is_silent_in, shown}
@@ -21,6 +22,7 @@ use Rattle.cell_sim.specs.Simulated.{Simulated}
 use Rattle.cell_world.specs.Agreeing.{has_belt}
 use Rattle.cell_world.specs.BeltTurning.{BeltAsBooked, StationsAsBooked}
 use Rattle.cell_world.specs.Going.{IsAtRest, IsPlain}
+use Rattle.cell_world.specs.Laying.{GreenIsWanted}
 use Rattle.cell_world.specs.Starting.{StandsAs, one_more}
 use Rattle.cell_world.specs.Switched.{with_mind}
 use Rattle.cell_world.specs.Tie.{IsFairPlan, IsTied}
@@ -61,11 +63,12 @@ abbrev pub WorksOrStopped : List Entry → Plan → Machine → Mind → Simulat
 WorksOrStopped J p m s w = Works J m s (IsTied J p m s.axis w) ⊎ (HasStopped J m s w ⊎ IsRepaired J m s w)
 
 -- each machine without a belt is as booked, has stopped or was repaired; the belts are as booked, and all stations, but
--- for a plate that was laid in or taken out under a green light
+-- for a plate that was laid in or taken out under a green light; and the light is green only while it is wanted
 pub record CellWithStops (l : BookLimits) (J : List Entry) (p : Plan) (minds : Machine → Mind) (w : Simulated) : Type 0
   where
     pub legal : legal l J ≡ true
     pub fair : IsFairPlan p w
+    pub wanted : GreenIsWanted J p
     pub switches : (m : Machine) → has_belt m ≡ false → WorksOrStopped J p m (minds m) w
     pub belts : (m : Machine) → has_belt m ≡ true → BeltAsBooked J p m (minds m) w
     pub stations : StationsAsBooked J p w
@@ -74,7 +77,7 @@ pub record CellWithStops (l : BookLimits) (J : List Entry) (p : Plan) (minds : M
 abbrev pub NoneStopped : Type 0
 NoneStopped =
     (l : BookLimits) (J : List Entry) (p : Plan) (minds : Machine → Mind) (w : Simulated)
-    → CellAsBooked l J p minds w → CellWithStops l J p minds w
+    → CellAsBooked l J p minds w → GreenIsWanted J p → CellWithStops l J p minds w
 
 -- it stays so through the turn of each machine, and no collision is counted
 abbrev pub StopsKept : Type 0
@@ -99,6 +102,13 @@ RepairingKeeps =
     (l : BookLimits) (J : List Entry) (p : Plan) (minds : Machine → Mind) (w : Simulated) (m : Machine)
     → has_belt m ≡ false → first_of l J (Repaired m) ≡ None → CellWithStops l J p minds w
     → CellWithStops l (one_more J (Repaired m)) p minds (after_home m w)
+
+-- and where he clears a station of one, from which he takes the plate that the book has there
+abbrev pub ClearingKeeps : Type 0
+ClearingKeeps =
+    (l : BookLimits) (J : List Entry) (p : Plan) (minds : Machine → Mind) (w : Simulated) (k : ℕ) (s : Station)
+    → has_belt (machine_of_station s) ≡ false → plate_of J s ≡ Some k → first_of l J (Quarantined k s) ≡ None
+    → CellWithStops l J p minds w → CellWithStops l (one_more J (Quarantined k s)) p minds (after_remove s w)
 
 -- and through the end of each round
 abbrev pub StoppedRoundKept : Type 0

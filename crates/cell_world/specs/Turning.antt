@@ -66,6 +66,8 @@ TurnKeeps =
     → IfSome e (λ x. first_of l J x ≡ None)
     → TurnLeaves J (J ++ option_to_list e) p m (mind_after J m p s (shown w m) e) w (after_turn w m e)
 
--- no turn changes how long motions take
+-- no turn changes how long motions take, or how many plates were cleared
 abbrev pub DurationsStay : Type 0
-DurationsStay = (w : Simulated) (m : Machine) (e : Option Entry) → (after_turn w m e).durations ≡ w.durations
+DurationsStay =
+    (w : Simulated) (m : Machine) (e : Option Entry)
+    → ((after_turn w m e).durations ≡ w.durations) × ((after_turn w m e).cleared ≡ w.cleared)

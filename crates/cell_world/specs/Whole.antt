@@ -26,11 +26,13 @@ use Rattle.cell_world.specs.Tie.{IsFairPlan}
 use Rattle.cell_world.specs.Tied.{Given, under_way}
 use Rattle.cell_world.specs.Turning.{IsAsBooked, after_turn}
 
--- all machines are as booked, and all stations, but for a plate that was laid in or taken out under a green light
+-- all machines are as booked, and all stations, but for a plate that was laid in or taken out under a green light; and
+-- no plate was cleared
 pub record CellAsBooked (l : BookLimits) (J : List Entry) (p : Plan) (minds : Machine → Mind) (w : Simulated) : Type 0
   where
     pub legal : legal l J ≡ true
     pub fair : IsFairPlan p w
+    pub uncleared : w.cleared ≡ 0
     pub switches : (m : Machine) → has_belt m ≡ false → IsAsBooked J p m (minds m) w
     pub belts : (m : Machine) → has_belt m ≡ true → BeltAsBooked J p m (minds m) w
     pub stations : StationsAsBooked J p w
