@@ -11,10 +11,8 @@ use Rattle.cell_rules.specs.Legal.{allowed}
 use Rattle.cell_rules.specs.Views.{rests, sends}
 use Rattle.cell_rules.proofs.Safe.Bridge.{Good, good_step, good_when_legal}
 use Rattle.cell_sim.specs.declared.axis.AxisInWorld.{AxisInWorld}
-use Rattle.cell_sim.specs.declared.motion.Moving.{Moving}
 use Rattle.cell_sim.specs.declared.motion.Path.{Path}
 use Rattle.cell_sim.specs.declared.motion.Path.TheVariants.{Stations}
-use Rattle.cell_sim.specs.declared.motion.Phase.TheVariants.{Begun}
 use Rattle.cell_sim.specs.declared.world.Plate.{Plate}
 use Rattle.cell_sim.specs.Commands.{after_command, fails, path_of, set_on, set_out, told}
 use Rattle.cell_sim.specs.Parts.{axis_at, plate_at, plate_here, with_motion}

@@ -1,5 +1,5 @@
 -- A station of a machine without a belt is cleared
-use Rattle.std.proofs.Common.{◌≡◌, ◌≢◌, ◌⊎◌, inl, inr, ℕ, Bool, true, false, Option, Some, None, List, [], ◌∷◌, is_some}
+use Rattle.std.proofs.Common.{◌≡◌, ◌≢◌, ◌⊎◌, inl, inr, ℕ, Bool, true, false, Option, Some, None, List, is_some}
 use Rattle.std.proofs.Common.{length-set, refl, sym, ap, ◌∙◌, subst, if◌then◌else◌}
 use Rattle.cell_types.specs.declared.words.Belt.TheVariants as belt
 use Rattle.cell_types.specs.declared.words.Entry.{Entry}
@@ -7,24 +7,20 @@ use Rattle.cell_types.specs.declared.words.Entry.TheVariants.{Quarantined}
 use Rattle.cell_types.specs.declared.words.Machine.{Machine}
 use Rattle.cell_types.specs.declared.words.Station.{Station}
 use Rattle.cell_types.specs.declared.words.Station.TheVariants as station
-use Rattle.cell_types.specs.Cell.{machine_of_axis, machine_of_station}
+use Rattle.cell_types.specs.Cell.{machine_of_station}
 use Rattle.cell_types.specs.Same.{station_number}
-use Rattle.cell_rules.specs.Views.{asks, fails, is_asked, is_failed, plate_of}
-use Rattle.cell_rules.specs.Legal.{first_of}
-use Rattle.cell_rules.specs.declared.limits.BookLimits.{BookLimits}
+use Rattle.cell_rules.specs.Views.{asks, fails, is_failed}
 use Rattle.cell_rules.proofs.Safe.Bridge.{Good, good_when_legal}
 use Rattle.cell_rules.proofs.Safe.Views.{view_snoc}
 use Rattle.cell_ports.specs.declared.plan.Plan.{Plan}
 use Rattle.cell_turns.specs.Following.{Following}
-use Rattle.cell_turns.specs.Minds.{Mind}
-use Rattle.cell_sim.specs.declared.world.Plate.{Plate}
-use Rattle.cell_sim.specs.Hands.{after_remove, carried, count_removed, is_anywhere, taken_out}
+use Rattle.cell_sim.specs.Hands.{after_remove, count_removed}
 use Rattle.cell_sim.specs.Parts.{has_plate, plate_at, plate_here, with_plate}
 use Rattle.cell_sim.specs.Simulated.{Simulated}
 use Rattle.cell_types.specs.After.{is_plate}
 use Rattle.cell_world.specs.Agreeing.{has_belt}
 use Rattle.cell_world.specs.BeltTurning.{StationsAsBooked}
-use Rattle.cell_world.specs.Belts.{BeltGoes, Conveying, EndsAsBefore, dest_of, from_of, light_of, to_deposit_end}
+use Rattle.cell_world.specs.Belts.{Conveying, dest_of, from_of, light_of, to_deposit_end}
 use Rattle.cell_world.specs.Belts.{to_feed_end, to_table}
 use Rattle.cell_world.specs.Going.{IsPlain}
 use Rattle.cell_world.specs.Handing.{HasBooked}

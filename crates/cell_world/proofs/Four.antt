@@ -30,7 +30,7 @@ use Rattle.cell_world.specs.Tie.{IsTied}
 use Rattle.cell_world.specs.Sparing.{IsSpared}
 use Rattle.cell_world.specs.Switched.{AxisAsBooked, BookIsWorld, OthersKept}
 use Rattle.cell_world.specs.Tied.{Given, Goes}
-use Rattle.cell_world.specs.Turning.{AsBooked, IsAsBooked, after_turn}
+use Rattle.cell_world.specs.Turning.{AsBooked, after_turn}
 use Rattle.cell_world.proofs.Begins.{some_not}
 use Rattle.cell_world.proofs.Read.{reading_spares}
 use Rattle.cell_world.proofs.Spared.{entry_spares, some_same, spared_stays}

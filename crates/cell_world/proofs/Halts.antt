@@ -1,5 +1,5 @@
 -- What AllOff does with a machine's motions, what the operator's hands do, and a reading with axes that stand still
-use Rattle.std.proofs.Common.{◌≡◌, ◌≢◌, ◌⊎◌, inl, inr, Bool, true, false, not, ◌&&◌, Option, Some, None, List, [], ◌∷◌}
+use Rattle.std.proofs.Common.{◌≡◌, ◌≢◌, ◌⊎◌, inl, inr, true, false, Option, Some, None, List, [], ◌∷◌}
 use Rattle.std.proofs.Common.{length}
 use Rattle.std.proofs.Common.{refl, sym, ap, ◌∙◌, subst, length-set}
 use Rattle.cell_types.specs.declared.words.Axis.{Axis}
@@ -8,7 +8,6 @@ use Rattle.cell_types.specs.declared.words.Command.TheVariants.{AllOff}
 use Rattle.cell_types.specs.declared.words.Machine.{Machine}
 use Rattle.cell_types.specs.declared.words.Machine.TheVariants as machine
 use Rattle.cell_types.specs.Cell.{axes_of, home, machine_of_axis}
-use Rattle.cell_types.specs.Same.{axis_number}
 use Rattle.cell_sim.specs.declared.axis.AxisInWorld.{AxisInWorld}
 use Rattle.cell_sim.specs.declared.motion.Moving.{Moving}
 use Rattle.cell_sim.specs.Commands.{after_command, all_stopped, axis_stopped, fails, stopped_motion, unlit}
@@ -16,7 +15,7 @@ use Rattle.cell_sim.specs.Hands.{after_home, axis_homed}
 use Rattle.cell_sim.specs.Looks.{looked}
 use Rattle.cell_sim.specs.Moves.{moves}
 use Rattle.cell_sim.specs.Parts.{axis_at, in_turn, with_axis}
-use Rattle.cell_sim.specs.Readings.{advanced, after_reading, by_the_hands, is_reading_missing, is_silent_in, read_on}
+use Rattle.cell_sim.specs.Readings.{advanced, after_reading, is_reading_missing, is_silent_in, read_on}
 use Rattle.cell_sim.specs.Simulated.{Simulated}
 use Rattle.cell_world.specs.Agreeing.{has_belt}
 use Rattle.cell_world.specs.Going.{IsPlain}

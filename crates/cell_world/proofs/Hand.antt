@@ -1,5 +1,5 @@
 -- What the operator does by hand counts no collision
-use Rattle.std.proofs.Common.{◌≡◌, Bool, Option, Some, None, List, [], ◌∷◌, refl, ap, ◌∙◌}
+use Rattle.std.proofs.Common.{◌≡◌, Option, Some, None, List, [], ◌∷◌, refl, ap, ◌∙◌}
 use Rattle.cell_types.specs.declared.words.Axis.{Axis}
 use Rattle.cell_types.specs.declared.words.Machine.{Machine}
 use Rattle.cell_types.specs.declared.words.Station.{Station}
@@ -11,7 +11,6 @@ use Rattle.std.proofs.Common.{ℕ}
 use Rattle.cell_sim.specs.declared.axis.AxisInWorld.{AxisInWorld}
 use Rattle.cell_sim.specs.Hands.{after_hand, after_home, after_remove, axis_homed, carried, count_removed, is_anywhere}
 use Rattle.cell_sim.specs.Hands.{is_plate_at, taken_out, taken_where}
-use Rattle.cell_sim.specs.Looks.{looked}
 use Rattle.cell_sim.specs.Parts.{axis_at, has_plate, in_turn, with_axis, with_plate}
 use Rattle.cell_sim.specs.Simulated.{Simulated}
 use Rattle.cell_world.specs.Going.{IsPlain}

@@ -1,7 +1,7 @@
 -- No turn changes how long motions take, and how many plates were cleared
-use Rattle.std.proofs.Common.{◌≡◌, ℕ, Bool, true, false, not, ◌&&◌, ◌||◌, ◌+◌, Option, Some, None, List, [], ◌∷◌, refl}
+use Rattle.std.proofs.Common.{◌≡◌, ℕ, Bool, not, ◌&&◌, ◌||◌, ◌+◌, Option, Some, None, List, [], ◌∷◌, refl}
 use Rattle.std.proofs.Common.{sym}
-use Rattle.std.proofs.Common.{ap, ◌∙◌, subst, ◌≤◌, ◌-◌, is_some, if◌then◌else◌}
+use Rattle.std.proofs.Common.{ap, ◌∙◌, subst, ◌≤◌, ◌-◌, if◌then◌else◌}
 use Rattle.cell_types.specs.declared.words.Arm.{Arm}
 use Rattle.cell_types.specs.declared.words.Axis.{Axis}
 use Rattle.cell_types.specs.declared.words.Axis.TheVariants as axis
@@ -20,12 +20,10 @@ use Rattle.cell_types.specs.declared.words.Station.{Station}
 use Rattle.cell_types.specs.declared.words.Station.TheVariants as station
 use Rattle.cell_types.specs.Cell.{axes_of, machine_of_axis, station_of_arm}
 use Rattle.cell_types.specs.Entries.{command_of}
-use Rattle.cell_types.specs.Same.{machine_number, same_colour, same_pose, same_station}
+use Rattle.cell_types.specs.Same.{same_colour, same_pose}
 use Rattle.cell_measures.specs.declared.durations.Durations.{Durations}
 use Rattle.cell_measures.specs.Times.{duration}
 use Rattle.cell_ports.specs.declared.plan.Plan.{Plan}
-use Rattle.cell_ports.specs.declared.port.Act.{Act}
-use Rattle.cell_ports.specs.declared.port.Act.TheVariants.{Home, Remove}
 use Rattle.cell_turns.specs.Moving.{limits_of}
 use Rattle.cell_sim.specs.declared.fault.Fault.{Fault}
 use Rattle.cell_sim.specs.declared.fault.Fault.TheVariants as fault
@@ -34,7 +32,7 @@ use Rattle.cell_sim.specs.declared.motion.Moving.{Moving}
 use Rattle.cell_sim.specs.declared.motion.Path.{Path}
 use Rattle.cell_sim.specs.declared.motion.Path.TheVariants.{Poses, Stations}
 use Rattle.cell_sim.specs.declared.motion.Phase.{Phase}
-use Rattle.cell_sim.specs.declared.motion.Phase.TheVariants.{Begun, Seen, Between, Arrived}
+use Rattle.cell_sim.specs.declared.motion.Phase.TheVariants.{Seen, Between, Arrived}
 use Rattle.cell_sim.specs.declared.watch.SafetyRule.{SafetyRule}
 use Rattle.cell_sim.specs.declared.watch.SafetyRule.TheVariants as rule
 use Rattle.cell_sim.specs.declared.world.Plate.{Plate}
@@ -42,22 +40,20 @@ use Rattle.cell_sim.specs.Commands.{after_command, all_stopped, axis_stopped, fa
 use Rattle.cell_sim.specs.Commands.{has_arm_at, is_refused, laid_at, laid_down, lit, met, motion_number, obeyed}
 use Rattle.cell_sim.specs.Commands.{path_of, set_on, set_out, started, started_with, station_before, told, turned_off}
 use Rattle.cell_sim.specs.Commands.{unlit}
-use Rattle.cell_sim.specs.Hands.{after_hand, after_home, after_remove, axis_homed, carried, count_removed, is_anywhere}
-use Rattle.cell_sim.specs.Hands.{is_plate_at, taken_out, taken_where}
 use Rattle.cell_sim.specs.Looks.{all_situation, arm_of, broke_by, broken_by_release, broken_by_start, can_lie}
-use Rattle.cell_sim.specs.Looks.{carrying_looked, is_belt, is_so, looked, new_broke, now_so, plate_dropped}
+use Rattle.cell_sim.specs.Looks.{carrying_looked, is_belt, is_so, looked, now_so, plate_dropped}
 use Rattle.cell_sim.specs.Looks.{plate_of_arm_lost, release_looked, rule_of, situation_looked, start_looked, was_so}
 use Rattle.cell_sim.specs.Moves.{goal_of, moves, next_phase, same_number}
-use Rattle.cell_sim.specs.Parts.{axis_at, broke, collided, counted, has_plate, in_turn, is_machine_moving, plate_at}
+use Rattle.cell_sim.specs.Parts.{axis_at, broke, collided, has_plate, in_turn, plate_at}
 use Rattle.cell_sim.specs.Parts.{plate_here, plate_lost, plate_moved, with_motion, with_plate, with_pose}
-use Rattle.cell_sim.specs.Readings.{advanced, after_reading, after_round, arrived, at_its_end, axis_skipped}
+use Rattle.cell_sim.specs.Readings.{advanced, after_reading, arrived, at_its_end, axis_skipped}
 use Rattle.cell_sim.specs.Readings.{by_the_hands, command_of as begun_by, forged_there, forges, full_belt_broke}
 use Rattle.cell_sim.specs.Readings.{gone_on, is_feed_empty, is_plate_left, is_reading_missing, is_silent_in, laid_in}
 use Rattle.cell_sim.specs.Readings.{left_with, next_laid, passed, plate_laid, plate_taken, put_down, read_on}
-use Rattle.cell_sim.specs.Readings.{round_noted, skips, stations_left}
+use Rattle.cell_sim.specs.Readings.{stations_left}
 use Rattle.cell_sim.specs.Script.{fault_in}
 use Rattle.cell_sim.specs.Simulated.{Simulated}
-use Rattle.cell_world.specs.Starting.{after_entry, after_order}
+use Rattle.cell_world.specs.Starting.{after_order}
 use Rattle.cell_world.specs.Tie.{IsFairPlan}
 use Rattle.cell_world.specs.Turning.{DurationsStay, after_turn}
 use Rattle.cell_world.proofs.Steps.{either}

@@ -1,6 +1,6 @@
 -- What holds of the simulated cell through the moves of a run, without a fault
 use Rattle.std.proofs.Common.{◌≡◌, ◌≢◌, ◌++◌, [], Bool, true, false, not, Option, Some, None, Result, Ok, List}
-use Rattle.std.proofs.Common.{refl, sym, ap, ◌∙◌, subst, ◌∷◌, IfSome}
+use Rattle.std.proofs.Common.{refl, sym, ap, ◌∙◌, subst, IfSome}
 use Rattle.std.specs.Option.{option_and_then}
 use Rattle.std.specs.Prelude.{option_to_list}
 use Rattle.cell_types.specs.declared.words.Command.{Command}
@@ -8,10 +8,7 @@ use Rattle.cell_types.specs.declared.words.Entry.{Entry}
 use Rattle.cell_types.specs.declared.words.Machine.{Machine}
 use Rattle.cell_types.specs.declared.words.Machine.TheVariants as machine
 use Rattle.cell_types.specs.Entries.{command_of}
-use Rattle.cell_rules.specs.History.{History}
-use Rattle.cell_rules.specs.declared.limits.BookLimits.{BookLimits}
 use Rattle.cell_diagnosis.specs.declared.reading.Reading.{Reading}
-use Rattle.cell_ports.specs.declared.plan.Plan.{Plan}
 use Rattle.cell_turns.specs.declared.six.Six.{Six}
 use Rattle.cell_turns.specs.Minds.{Mind, first_mind}
 use Rattle.cell_turns.specs.Schedules.{Now, mind_sent}
@@ -28,11 +25,11 @@ use Rattle.operator_desk.specs.declared.line.Task.{Task}
 use Rattle.operator_desk.specs.Next.{next_of}
 use Rattle.cell_rounds.specs.Moves.{Books, Hands, if_kept, next_at}
 use Rattle.cell_rounds.specs.Moves.{Keeps, Leads, Move, Orders, OrdersIf, Terms, Turn, after_act, after_close}
-use Rattle.cell_rounds.specs.Moves.{after_wish, answered, if_reached, is_lost, moved, terms_of}
+use Rattle.cell_rounds.specs.Moves.{after_wish, answered, if_reached, is_lost, moved}
 use Rattle.cell_rounds.specs.Moves.Leads.{stays, goes}
 use Rattle.cell_rounds.specs.Moves.Move.{begins, hears, heard, notes, rejects, turns, looks, finds, repeats, rests}
 use Rattle.cell_rounds.specs.Moves.Move.{does, fails, asks, asked, denies, grants, misses, replies, closes}
-use Rattle.cell_rounds.specs.Runs.{Halts, Has, IsDue, Unbooked, end_of}
+use Rattle.cell_rounds.specs.Runs.{Halts, Has, Unbooked, end_of}
 use Rattle.cell_rounds.specs.Runs.Unbooked.{noted, reading, act}
 use Rattle.cell_rounds.specs.Runs.Halts.{breaks, lacks, fills, rests as comes_to_rest, tires}
 use Rattle.cell_rounds.specs.Stands.{Answering, Closing, Noted, Noting, Serving, Turning, Wanted}
@@ -48,7 +45,6 @@ use Rattle.cell_runs.specs.Cells.{AllKept}
 use Rattle.cell_world.specs.Starting.{after_order}
 use Rattle.cell_world.specs.Switched.{with_mind}
 use Rattle.cell_ports.specs.declared.port.Act.{Act}
-use Rattle.cell_ports.specs.declared.port.Act.TheVariants.{Home, Remove}
 use Rattle.cell_rules.specs.Legal.{first_of}
 use Rattle.cell_turns.specs.Acts.{act_of}
 use Rattle.operator_desk.specs.Next.{entry_of, left_after}

@@ -1,5 +1,5 @@
 -- The whole cell, through the moves of a run without an operator and without a fault
-use Rattle.std.proofs.Common.{◌≡◌, ◌≢◌, Bool, true, false, Option, Some, None, List, [], refl, sym, ap, ◌∙◌, subst}
+use Rattle.std.proofs.Common.{◌≡◌, Bool, true, false, Some, None, List, [], refl, sym, ap, ◌∙◌, subst}
 use Rattle.cell_types.specs.declared.words.Entry.{Entry}
 use Rattle.cell_types.specs.declared.words.Machine.{Machine}
 use Rattle.cell_rules.specs.History.{History}
@@ -7,7 +7,6 @@ use Rattle.cell_rules.specs.declared.limits.BookLimits.{BookLimits}
 use Rattle.cell_measures.specs.declared.durations.Durations.{Durations}
 use Rattle.cell_ports.specs.declared.plan.Plan.{Plan}
 use Rattle.cell_turns.specs.Minds.{Mind}
-use Rattle.cell_turns.specs.Six.{at}
 use Rattle.cell_plant.specs.declared.keeper.Unkept.{Unkept}
 use Rattle.operator_desk.specs.declared.action.Action.{Action}
 use Rattle.operator_desk.specs.declared.line.Line.{Line}
@@ -24,7 +23,7 @@ use Rattle.cell_world.specs.Running.{Allows, EndIsWorld, IsBooked, NoneCollides,
 use Rattle.cell_world.specs.Turning.{IsAsBooked}
 use Rattle.cell_world.specs.Whole.{CellAsBooked}
 use Rattle.cell_world.proofs.BeltReads.{read_counts}
-use Rattle.cell_world.proofs.Moves.{EndsSo, Holding, Holds, HoldsOn, clear, come, ended}
+use Rattle.cell_world.proofs.Moves.{Holding, Holds, HoldsOn, clear, come, ended}
 use Rattle.cell_world.proofs.Owned.{decided_owned}
 use Rattle.cell_world.proofs.Rounds.{round_collisions, round_kept}
 use Rattle.cell_world.proofs.Shows.{leaves_collisions}

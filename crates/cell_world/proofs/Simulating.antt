@@ -1,5 +1,5 @@
 -- The run of which `run_kept` writes in rounds, where its texts have no fault
-use Rattle.std.proofs.Common.{◌≡◌, ℕ, Bool, List, [], Option, Some, None, Ok, Err, inl, inr, refl, sym, subst, IfSome}
+use Rattle.std.proofs.Common.{◌≡◌, ℕ, Bool, List, [], Option, Ok, Err, inl, inr, refl, sym, subst, IfSome}
 use Rattle.cell_types.specs.declared.words.Entry.{Entry}
 use Rattle.cell_measures.specs.declared.durations.Durations.{Durations}
 use Rattle.cell_rows.specs.Rows.{rows_of}

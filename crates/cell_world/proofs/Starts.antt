@@ -1,33 +1,29 @@
 -- What a Started and the end of a motion do in the world
 use Rattle.cell_types.specs.declared.words.Entry.{Entry}
 use Rattle.cell_world.specs.Starting.{BringsTo}
-use Rattle.std.proofs.Common.{◌≡◌, ◌≢◌, ℕ, ◌-◌, true, false, not, ◌||◌, Option, Some, None, List, [], length}
+use Rattle.std.proofs.Common.{◌≡◌, ◌≢◌, ℕ, ◌-◌, true, false, not, ◌||◌, Option, Some, None, [], length}
 use Rattle.std.proofs.Common.{refl, sym, ap, ◌∙◌, length-set, subst}
-use Rattle.std.specs.Prelude.{replicate, slice_index, slice_index_or}
 use Rattle.cell_types.specs.declared.cell.BeltMotion.{BeltMotion}
 use Rattle.cell_types.specs.declared.words.Axis.{Axis}
 use Rattle.cell_types.specs.declared.words.Axis.TheVariants as axis
 use Rattle.cell_types.specs.declared.words.Pose.{Pose}
-use Rattle.cell_types.specs.declared.words.Pose.TheVariants as pose
 use Rattle.cell_types.specs.declared.words.Entry.TheVariants.{Started}
 use Rattle.cell_types.specs.declared.words.Command.{Command}
 use Rattle.cell_types.specs.declared.words.Command.TheVariants.{On, Off}
 use Rattle.cell_types.specs.Cell.{is_pose_of, machine_of_axis, motion_named}
-use Rattle.cell_types.specs.Same.{axis_number, pose_number}
+use Rattle.cell_types.specs.Same.{axis_number}
 use Rattle.cell_rules.specs.Views.{at_of}
 use Rattle.cell_measures.specs.declared.durations.Durations.{Durations}
 use Rattle.cell_measures.specs.Times.{duration}
 use Rattle.cell_sim.specs.declared.axis.AxisInWorld.{AxisInWorld}
-use Rattle.cell_sim.specs.declared.motion.Moving.{Moving}
 use Rattle.cell_sim.specs.declared.motion.Path.{Path}
 use Rattle.cell_sim.specs.declared.motion.Path.TheVariants.{Poses}
-use Rattle.cell_sim.specs.declared.motion.Phase.TheVariants.{Begun}
 use Rattle.cell_sim.specs.Commands.{after_command, fails, has_arm_at, met, motion_number, path_by, path_of, set_on}
 use Rattle.cell_sim.specs.Commands.{set_out, started, told}
 use Rattle.cell_sim.specs.Looks.{is_belt, looked, start_looked}
 use Rattle.cell_sim.specs.Moves.{begun}
 use Rattle.cell_sim.specs.Parts.{axis_at, collided, with_axis}
-use Rattle.cell_sim.specs.Simulated.{Simulated, one_each}
+use Rattle.cell_sim.specs.Simulated.{Simulated}
 use Rattle.cell_world.specs.Tied.{none, under_way, Goes, Rests}
 use Rattle.cell_world.specs.Going.{AxisGoes, IsAtRest, IsPlain}
 use Rattle.cell_world.specs.Starting.{further_in, after_entry, after_order, one_more, AxisEnds, AxisStarts}

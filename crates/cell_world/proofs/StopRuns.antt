@@ -1,6 +1,6 @@
 -- The whole cell, through the moves of a run in which the operator stops, clears and repairs machines
 -- without a belt
-use Rattle.std.proofs.Common.{◌≡◌, ◌≢◌, ◌⊎◌, inl, inr, Bool, true, false, Option, Some, None, List, [], ◌∷◌, refl, sym}
+use Rattle.std.proofs.Common.{◌≡◌, ◌⊎◌, inl, inr, Bool, true, false, Option, Some, None, List, [], ◌∷◌, refl, sym}
 use Rattle.std.proofs.Common.{ap}
 use Rattle.std.proofs.Common.{◌∙◌}
 use Rattle.std.proofs.Common.{subst, if◌then◌else◌}
@@ -21,7 +21,6 @@ use Rattle.cell_ports.specs.declared.plan.Plan.{Plan}
 use Rattle.cell_ports.specs.declared.port.Act.TheVariants.{Home, Remove}
 use Rattle.cell_turns.specs.Acts.{act_of}
 use Rattle.cell_turns.specs.Minds.{Mind, first_mind}
-use Rattle.cell_turns.specs.Six.{at}
 use Rattle.cell_plant.specs.declared.keeper.Unkept.{Unkept}
 use Rattle.operator_desk.specs.declared.action.Action.{Action}
 use Rattle.operator_desk.specs.declared.action.Action.TheVariants as action

@@ -1,5 +1,5 @@
 -- The whole cell, where the operator stops and repairs machines without a belt
-use Rattle.std.proofs.Common.{◌≡◌, ◌≢◌, ◌⊎◌, inl, inr, Bool, true, false, Option, Some, None, List, [], ◌∷◌, ◌++◌, refl}
+use Rattle.std.proofs.Common.{◌≡◌, ◌≢◌, inl, inr, Bool, true, false, Option, Some, None, List, [], ◌∷◌, ◌++◌, refl}
 use Rattle.std.proofs.Common.{sym}
 use Rattle.std.proofs.Common.{ap, ◌∙◌, subst, IfSome}
 use Rattle.std.proofs.lemmas.List.{append-nil}
@@ -17,7 +17,7 @@ use Rattle.cell_types.specs.declared.words.Station.TheVariants as station
 use Rattle.cell_types.specs.After.{after}
 use Rattle.cell_types.specs.Cell.{axes_of, home, is_pose_of, machine_of_axis}
 use Rattle.cell_types.specs.Entries.{machine_of_entry}
-use Rattle.cell_types.specs.Same.{axis_number, same_machine}
+use Rattle.cell_types.specs.Same.{same_machine}
 use Rattle.cell_rules.specs.declared.limits.BookLimits.{BookLimits}
 use Rattle.cell_rules.specs.Last.{when}
 use Rattle.cell_rules.specs.Legal.{allowed, first_of, legal}
@@ -45,11 +45,11 @@ use Rattle.cell_sim.specs.Parts.{axis_at, in_turn, plate_at, plate_here}
 use Rattle.cell_sim.specs.Readings.{after_reading, after_round, is_silent_in, shown}
 use Rattle.cell_sim.specs.Simulated.{Simulated}
 use Rattle.cell_world.specs.Agreeing.{has_belt}
-use Rattle.cell_world.specs.BeltTurning.{BeltAsBooked, BeltTurnBegins, IsBeltTied, StationsAsBooked}
+use Rattle.cell_world.specs.BeltTurning.{BeltAsBooked}
 use Rattle.cell_world.specs.Going.{IsAtRest, IsPlain}
 use Rattle.cell_world.specs.Sparing.{IsSpared}
 use Rattle.cell_world.specs.Starting.{MachineRests, RobotMayStand, StandsAs, after_entry, one_more}
-use Rattle.cell_world.specs.Stopping.{AskingKeeps, CellWithStops, HasStopped, IsHalted, NoneStopped, StoppedRoundKept}
+use Rattle.cell_world.specs.Stopping.{AskingKeeps, CellWithStops, HasStopped, NoneStopped, StoppedRoundKept}
 use Rattle.cell_world.specs.Stopping.{IsRepaired, RepairingKeeps, StopsKept, Works, WorksOrStopped}
 use Rattle.cell_world.specs.Belts.{Conveying, EndsAsBefore, dest_of, from_of, light_of, to_deposit_end, to_feed_end}
 use Rattle.cell_world.specs.Belts.{to_table}
@@ -65,7 +65,7 @@ use Rattle.cell_world.proofs.Entries.{at_before, at_now, going_before, going_now
 use Rattle.cell_world.proofs.Four.{apart}
 use Rattle.cell_world.proofs.Four.{each_mind, kept_as, legal_then, same_machines, turn_healthy, turn_spared}
 use Rattle.cell_world.proofs.Four.{turn_unasked}
-use Rattle.cell_world.proofs.Halts.{IsAsStill, all_as_still, all_still, read_still, stop_does, stopped_part}
+use Rattle.cell_world.proofs.Halts.{all_as_still, all_still, read_still, stop_does, stopped_part}
 use Rattle.cell_world.proofs.Halts.{IsHome, all_home, home_does, homed_plain, other_home, stopped_plain}
 use Rattle.cell_world.proofs.Hand.{homed_part}
 use Rattle.cell_world.proofs.Laying.{WorldAsBefore, laying_of, stations_after}

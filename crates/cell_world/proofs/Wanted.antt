@@ -1,6 +1,5 @@
 -- The feed light is turned green only while plates of the plan aren't admitted yet
-use Rattle.std.proofs.Common.{◌≡◌, ◌<◌, ℕ, Bool, true, false, ◌&&◌, Option, Some, None, List, [], ◌∷◌, ◌++◌, refl, sym}
-use Rattle.std.proofs.Common.{ap}
+use Rattle.std.proofs.Common.{◌≡◌, ◌<◌, ℕ, Bool, true, false, ◌&&◌, Option, Some, None, List, ◌∷◌, ◌++◌, refl, sym}
 use Rattle.std.proofs.Common.{◌∙◌, subst, if◌then◌else◌}
 use Rattle.std.proofs.lemmas.List.{append-nil}
 use Rattle.std.specs.Option.{option_map}
@@ -28,9 +27,7 @@ use Rattle.cell_types.specs.Same.{same_colour, same_machine, same_pose}
 use Rattle.cell_rules.specs.declared.limits.BookLimits.{BookLimits}
 use Rattle.cell_rules.specs.Last.{when}
 use Rattle.cell_rules.specs.Situations.{situation_of}
-use Rattle.cell_rules.specs.Views.{expected_of, is_admitted, is_asked, is_failed, lamp_of, plate_of, shows}
-use Rattle.std.specs.List.{count_by}
-use Rattle.cell_rules.proofs.Safe.Facts.{machine_same}
+use Rattle.cell_rules.specs.Views.{expected_of, is_admitted, is_asked, is_failed, plate_of, shows}
 use Rattle.cell_diagnosis.specs.declared.motion.Motion.{Motion}
 use Rattle.cell_diagnosis.specs.declared.reading.Reading.{Reading}
 use Rattle.cell_diagnosis.specs.declared.verdict.Verdict.{Verdict}
@@ -42,10 +39,10 @@ use Rattle.cell_turns.specs.declared.turns.decide.Ruling.{Ruling}
 use Rattle.cell_turns.specs.declared.turns.decide.Ruling.TheVariants.{Books, Nothing, PastLast, Proposes}
 use Rattle.cell_turns.specs.Minds.{Mind}
 use Rattle.cell_turns.specs.Observed.{findings}
-use Rattle.cell_turns.specs.Rulings.{arrived, books, conveyed, declares, end_found, ended, ending, fault_found}
-use Rattle.cell_turns.specs.Rulings.{first_ruling, forged, laid_in, next_plate, ruling, signed}
+use Rattle.cell_turns.specs.Rulings.{arrived, books, declares, end_found, ended, ending, fault_found}
+use Rattle.cell_turns.specs.Rulings.{first_ruling, forged, laid_in, ruling, signed}
 use Rattle.cell_turns.specs.Turns.{IsDecided, IsRuled}
-use Rattle.cell_world.specs.Laying.{GreenIsWanted, admitted_in}
+use Rattle.cell_world.specs.Laying.{GreenIsWanted}
 use Rattle.cell_world.specs.Starting.{one_more}
 use Rattle.cell_world.proofs.BeltLamps.{green_wanted}
 use Rattle.cell_world.proofs.Laying.{admitted_before, lamp_before, lamp_now}
