@@ -113,7 +113,7 @@ legal_then l J (Some x) h free =
 pub some_one : {A : Type 0} (o : Option A) (x y : A) → o ≡ Some x → o ≡ Some y → x ≡ y
 some_one o x y h k = some_same x y (sym h ∙ k)
 
-rests_as_booked : (J : List Entry) (w : Simulated) (a : Axis) → IsAtRest J w a → AxisAsBooked J w a
+pub rests_as_booked : (J : List Entry) (w : Simulated) (a : Axis) → IsAtRest J w a → AxisAsBooked J w a
 rests_as_booked J w a t =
     record { rests = λ h. t.rests; goes = λ to h. absurd (some_not (going_of J a) to h t.booked) }
 
@@ -129,7 +129,7 @@ goes_as_booked J p w a to g f t =
       );
     }
 
-tied_as_booked : (J : List Entry) (p : Plan) (m : Machine) (f : Option Following) (w : Simulated) → IsTied J p m f w
+pub tied_as_booked : (J : List Entry) (p : Plan) (m : Machine) (f : Option Following) (w : Simulated) → IsTied J p m f w
     → (a : Axis) → machine_of_axis a ≡ m → AxisAsBooked J w a
 tied_as_booked J p m f w (inl t) a e = rests_as_booked J w a (t.rest a e)
 tied_as_booked J p m f w (inr t) a e =

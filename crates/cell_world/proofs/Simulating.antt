@@ -15,7 +15,8 @@ use Rattle.cell_runs.specs.Cells.{Ran}
 use Rattle.cell_runs.specs.Runs.{Kept, Simulates, WritesRounds, kept, limits_of, opening_of}
 use Rattle.cell_runs.specs.declared.inputs.Inputs.{Inputs}
 use Rattle.cell_world.specs.Running.{Allows, opened}
-use Rattle.cell_world.specs.Simulating.{LeavesBooked, LeavesServed, OpensSo, ServedTextIsWorld, TextIsWorld}
+use Rattle.cell_world.specs.Simulating.{LeavesBooked, LeavesServed, OpensSo, ServedRunIsWorld, ServedTextIsWorld}
+use Rattle.cell_world.specs.Simulating.{TextIsWorld}
 use Rattle.cell_world.specs.Simulating.{TimedTextIsWorld}
 use Rattle.cell_world.specs.StopRuns.{AreServices}
 use Rattle.cell_world.specs.Whole.{opening_for}
@@ -112,3 +113,12 @@ served_text_is_world ds settings faults operator lines journal old new status ru
 served_text_is_world ds settings faults operator lines journal old new status run none script are
     (Err e, read, writes) =
     subst (λ (r : Option Kept). IfSome r (λ (x : Kept). Allows x.plan ds → LeavesServed ds lines x)) (sym writes.1) tt
+
+pub served_run_is_world : ServedRunIsWorld
+served_run_is_world settings faults operator lines journal old new status run none script are (Ok i, read, writes) =
+    let t = faultless faults operator i one_each lines read.1 read.0.1 read.0.2 none script in
+    written (LeavesServed one_each lines) i journal old new status run
+    (λ J e leads. served i one_each lines J e t are (settings_are_fair settings i.plan read.0.0) leads) writes
+served_run_is_world settings faults operator lines journal old new status run none script are
+    (Err e, read, writes) =
+    subst (λ (r : Option Kept). IfSome r (LeavesServed one_each lines)) (sym writes.1) tt

@@ -319,7 +319,7 @@ cell_opening l p ds fair =
 
 -- THE BOOK IS THE WORLD
 
-switch_axis : (a : Axis) → is_belt a ≡ false → has_belt (machine_of_axis a) ≡ false
+pub switch_axis : (a : Axis) → is_belt a ≡ false → has_belt (machine_of_axis a) ≡ false
 switch_axis axis.FeedBelt h = let x : true ≡ false = h in cc x
 switch_axis axis.DepositBelt h = let x : true ≡ false = h in cc x
 switch_axis a h = refl
@@ -339,7 +339,7 @@ abbrev OnWay : Simulated → Conveying → Type 0
 OnWay w c =
     (k : Plate) × (g : Given) × ((axis_at w (belt_of c)).motion ≡ Some (under_way (path_with c k) g))
 
-way_as_booked : (J : List Entry) (p : Plan) (c : Conveying) (f : Option Following) (w : Simulated)
+pub way_as_booked : (J : List Entry) (p : Plan) (c : Conveying) (f : Option Following) (w : Simulated)
     → IsBeltTied J p (machine_of c) f w → WayAsBooked J w c
 way_as_booked J p c f w (inl t) =
     let r = rests_alike J (way_of (machine_of c)) c f w (sym (way_back c)) t in

@@ -69,3 +69,12 @@ ServedTextIsWorld =
     → AreFaults faults [] → AreLines operator lines → AreServices lines
     → KeepsRun ds settings faults operator mode.Rounds journal old new status run
     → IfSome run (λ r. Allows r.plan ds → LeavesServed ds lines r)
+
+-- the same of `run_texts`, in which motions are as short as they can be
+abbrev pub ServedRunIsWorld : Type 0
+ServedRunIsWorld =
+    (settings faults operator : List ℕ) (lines : List Line) (journal : Bool) (old new : Option (List ℕ)) (status : ℕ)
+    (run : Option Kept)
+    → AreFaults faults [] → AreLines operator lines → AreServices lines
+    → KeepsRun one_each settings faults operator mode.Rounds journal old new status run
+    → IfSome run (LeavesServed one_each lines)

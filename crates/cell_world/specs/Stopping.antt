@@ -15,19 +15,21 @@ use Rattle.cell_ports.specs.declared.plan.Plan.{Plan}
 use Rattle.cell_turns.specs.Minds.{Mind}
 use Rattle.cell_turns.specs.Turns.{mind_after}
 use Rattle.cell_sim.specs.Hands.{after_home, after_remove}
+use Rattle.cell_sim.specs.Looks.{is_belt}
 use Rattle.cell_sim.specs.Moves.{moves}
 use Rattle.cell_sim.specs.Parts.{axis_at}
 use Rattle.cell_sim.specs.Readings.{after_round, is_silent_in, shown}
 use Rattle.cell_sim.specs.Simulated.{Simulated}
 use Rattle.cell_world.specs.Agreeing.{has_belt}
 use Rattle.cell_world.specs.BeltTurning.{BeltAsBooked, StationsAsBooked}
+use Rattle.cell_world.specs.Belts.{Conveying}
 use Rattle.cell_world.specs.Going.{IsAtRest, IsPlain}
 use Rattle.cell_world.specs.Laying.{GreenIsWanted}
 use Rattle.cell_world.specs.Starting.{StandsAs, one_more}
-use Rattle.cell_world.specs.Switched.{with_mind}
+use Rattle.cell_world.specs.Switched.{AxisAsBooked, with_mind}
 use Rattle.cell_world.specs.Tie.{IsFairPlan, IsTied}
 use Rattle.cell_world.specs.Turning.{after_turn}
-use Rattle.cell_world.specs.Whole.{CellAsBooked, IsTurnOf}
+use Rattle.cell_world.specs.Whole.{CellAsBooked, IsTurnOf, WayAsBooked}
 
 -- an axis stands still in the world, where the book has it or has it on its way to, and no reading of it is missing
 pub record IsHalted (J : List Entry) (w : Simulated) (a : Axis) : Type 0 where
@@ -115,3 +117,13 @@ abbrev pub StoppedRoundKept : Type 0
 StoppedRoundKept =
     (l : BookLimits) (J : List Entry) (p : Plan) (minds : Machine → Mind) (w : Simulated)
     → CellWithStops l J p minds w → CellWithStops l J p minds (after_round w)
+
+-- then each axis with switches rests in the world where it rests in the book, and goes where it goes, or stands still;
+-- and so do the belts, of which none is stopped
+abbrev pub StopsAreWorld : Type 0
+StopsAreWorld =
+    (l : BookLimits) (J : List Entry) (p : Plan) (minds : Machine → Mind) (w : Simulated)
+    → CellWithStops l J p minds w
+    → ((a : Axis) → is_belt a ≡ false
+    → AxisAsBooked J w a ⊎ ((is_failed J (machine_of_axis a) ≡ true) × IsHalted J w a))
+    × ((c : Conveying) → WayAsBooked J w c)
