@@ -31,8 +31,8 @@ abbrev pub GreenIsWanted : List Entry → Plan → Type 0
 GreenIsWanted J p = lamp_of J belt.Feed ≡ colour.Green → admitted_in J < p.plates
 
 -- where plates are laid in the light is the book's, and a plate that isn't booked lies there only under the green one;
--- as many are planned as the plan says, and none was cleared that could be laid in besides, or none is while the light
--- is green; none is trusted to be laid onto another, and none is to be laid back
+-- as many are planned as the plan says; none was cleared, or the light is green only while plates aren't admitted yet;
+-- none is trusted to be laid onto another, and none is to be laid back
 pub record LayingAsBooked (J : List Entry) (p : Plan) (w : Simulated) : Type 0 where
   pub light : w.feed_light ≡ lamp_of J belt.Feed
   pub laid : NoneIsLaid J w ⊎ OneIsLaid J p w

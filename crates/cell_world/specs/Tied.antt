@@ -20,14 +20,15 @@ use Rattle.cell_sim.specs.declared.motion.Path.TheVariants.{Poses}
 use Rattle.cell_sim.specs.declared.motion.Phase.{Phase}
 use Rattle.cell_sim.specs.declared.motion.Phase.TheVariants.{Begun, Seen as IsSeen, Between, Arrived}
 
--- which readings of a motion were given that isn't over: none, or the first, which shows where it begins, and so many
--- are to show nothing beyond the second; or the first two and so many that showed nothing, and so many that are to
+-- how often a motion was read that isn't over: never; once, which showed where it begins; or twice and so many times
+-- more, all but the first of which showed nothing. The last number is how many readings more are to show nothing, the
+-- second one aside.
 pub data Given : Type 0 where
   none : ℕ → Given
   one : ℕ → Given
   more : ℕ → ℕ → Given
 
--- how many show nothing beyond the second, of all
+-- how many readings of it show nothing beyond the second one, in all
 abbrev pub further_of : Given → ℕ
 further_of (none n) = n
 further_of (one n) = n
@@ -50,11 +51,11 @@ motion_along path further phase =
       stopped = false;
     }
 
--- the same, of which these readings were given
+-- the same, which was read so often
 abbrev pub under_way : Path → Given → Moving
 under_way path g = motion_along path (further_of g) (phase_of g)
 
--- the readings with one more, if the motion isn't over then
+-- after one reading more, if the motion isn't over then
 abbrev pub next_given : Given → Option Given
 next_given (none n) = Some (one n)
 next_given (one n) = Some (more 0 n)
