@@ -1,10 +1,8 @@
 -- What is written where a method drives the cell by the texts of a run
-use Rattle.std.specs.Prelude.{◌≡◌, ◌⊎◌, ◌<◌, ◌++◌, ℕ, Bool, true, false, List, [], ◌∷◌, Option, Some, None, Result}
-use Rattle.std.specs.Prelude.{Ok, Err, codes, decimal, option_map, ⊤}
+use Rattle.std.specs.Prelude.{◌≡◌, ◌⊎◌, ◌<◌, ◌++◌, ℕ, Bool, true, false, List, [], Option, Some, None, Result}
+use Rattle.std.specs.Prelude.{Ok, Err, option_map}
 use Rattle.std.specs.Io.KnownBytes.{Appends}
-use Rattle.cell_rows.specs.Lines.{line}
 use Rattle.cell_types.specs.declared.words.Entry.{Entry}
-use Rattle.cell_types.specs.declared.words.Totals.{Totals}
 use Rattle.cell_rules.specs.Legal.{legal}
 use Rattle.cell_rules.specs.Views.{count_of}
 use Rattle.cell_ports.specs.declared.plan.Plan.{Plan}
@@ -15,12 +13,13 @@ use Rattle.cell_method.specs.Lines.{Row, lines_of}
 use Rattle.cell_method.specs.Order.{Point, between}
 use Rattle.cell_method.specs.Rounds.{EndsAs, Leads, Stand, entry_lines}
 use Rattle.cell_method.specs.declared.rounds.DriveEnd.{DriveEnd}
-use Rattle.cell_method.specs.declared.rounds.DriveEnd.TheVariants as ends
 use Rattle.cell_runs.specs.Inputs.{AreInputs, WritesError, input_line, input_status}
-use Rattle.cell_runs.specs.Runs.{counts_after, limits_of}
+use Rattle.cell_runs.specs.Runs.{limits_of}
 use Rattle.cell_runs.specs.RunsFrom.{TellsExceeded}
 use Rattle.cell_runs.specs.declared.inputs.Inputs.{Inputs}
 use Rattle.cell_runs.specs.declared.inputs.InputError.{InputError}
+use Rattle.cell_drive.specs.Raw.{DrivesRaw}
+pub use Rattle.cell_drive.specs.Ends.{EndStatus, drive_line, end_lines, end_words}
 
 -- where a run by entries starts: these entries are booked, the ports and hands tell nothing, and the operator's script
 -- is whole
@@ -35,36 +34,13 @@ opening J script = record {
   text = [];
 }
 
--- the first line of the protocol
-abbrev pub drive_line : Plan → List ℕ
-drive_line plan = line (codes "drive" ∷ codes "1" ∷ decimal plan.plates ∷ [] ∷ [])
-
 -- the method's lines are read, where they are known
 abbrev pub lines_in : Option (List ℕ) → Option (List (Option Row))
 lines_in input = option_map lines_of input
 
--- the words of an end
-abbrev pub end_words : DriveEnd → List ℕ
-end_words ends.Finished = codes "finished"
-end_words ends.TurnLimit = codes "turn limit"
-end_words ends.Full = codes "full"
-end_words ends.Quit = codes "quit"
-end_words ends.TooManyLines = codes "too many lines"
-end_words ends.Memory = codes "memory"
-
--- the line of an end, and the lines of these totals
-abbrev pub end_lines : DriveEnd → Totals → List ℕ
-end_lines e t = counts_after (codes "end," ++ (end_words e ++ codes ",,")) t
-
 -- what is told of a run that ended so, with this journal: its end, what the journal counts, and then what was measured
 abbrev pub TellsEnd : DriveEnd → List Entry → List ℕ → Type 0
 TellsEnd e J text = (more : List ℕ) × (text ≡ end_lines e (count_of J) ++ more)
-
--- a run that ended so has this status: 0 is only of one that is finished
-abbrev pub EndStatus : DriveEnd → ℕ → Type 0
-EndStatus ends.Finished status = (status ≡ 0) ⊎ (status ≡ 1)
-EndStatus ends.Memory status = status ≡ 4
-EndStatus _ status = status ≡ 1
 
 -- a run by entries that goes on from this journal: events led from the opening to its end and to a legal journal, and
 -- what was written is the first line, the entries of the journal, the text of these events and what is told of the run,
@@ -95,13 +71,18 @@ abbrev pub DrivesFrom : Plan → List Line → Option (List Entry) → Option (L
 DrivesFrom plan script None all old new status = DrivesEntries plan script [] all old new status
 DrivesFrom plan script (Some J) all old new status = DrivesAfter plan script J all old new status
 
--- what is written by good texts; by commands nothing is said of it, nor where a device failed or memory was refused
+-- what is written by good texts, by commands or by entries
+abbrev pub DrivesBy : Bool → Inputs → Option (List Entry) → Option (List (Option Row)) → Option (List ℕ)
+    → Option (List ℕ) → ℕ → Type 0
+DrivesBy true inputs from all old new status = DrivesRaw inputs from all old new status
+DrivesBy false inputs from all old new status = DrivesFrom inputs.plan inputs.script from all old new status
+
+-- what is written by texts; nothing is said of it where a device failed or memory was refused
 abbrev pub DrivesInputs : Bool → Option (List Entry) → Option (List ℕ) → Option (List ℕ) → Option (List ℕ) → ℕ
     → Result Inputs InputError → Type 0
 DrivesInputs raw from input old new status (Err e) = WritesError old new (input_line e) (input_status e) status
-DrivesInputs true from input old new status (Ok inputs) = ⊤
-DrivesInputs false from input old new status (Ok inputs) = status < 3
-    → DrivesFrom inputs.plan inputs.script from (lines_in input) old new status
+DrivesInputs raw from input old new status (Ok inputs) = status < 3
+    → DrivesBy raw inputs from (lines_in input) old new status
 
 -- what is written by the texts of a run and the journal from which it goes on, where there is one, or by the first of
 -- them that is refused

@@ -6,6 +6,7 @@ mod begun;
 mod by_commands;
 mod by_entries;
 mod gauged;
+mod hands;
 mod looker;
 mod measures;
 mod own;

@@ -1,19 +1,24 @@
 //! A run by its texts.
-ghost use Rattle.std.specs.Prelude.{◌≡◌, ◌<◌, Ok, IfOk, OnOk, option_map};
+ghost use Rattle.std.specs.Prelude.{◌≡◌, ◌<◌, Ok, IfOk, IsTrue, OnOk, option_map};
 ghost use Rattle.std.specs.Io.KnownBytes.{Appends};
 ghost use Rattle.cell_output.specs.Watched.{bytes_held};
-ghost use Rattle.cell_drive.specs.Drives.{DrivesTexts, EndStatus, drive_line};
+ghost use Rattle.cell_rows.specs.Scripts.{script_status};
+ghost use Rattle.cell_runs.specs.Inputs.{AreLines, WritesError, operator_line};
+ghost use Rattle.cell_method.specs.Conversations.{KeepsWriter};
+ghost use Rattle.cell_method.specs.Lines.{lines_left};
+ghost use Rattle.cell_drive.specs.Drives.{DrivesBy, DrivesTexts, EndStatus, drive_line};
+ghost use Rattle.cell_drive.specs.Raw.{DrivesRaw};
 
-use crate::begun::{refuse_journal, world_after};
+use crate::begun::{begin_from, refuse_journal, world_from};
 use crate::by_commands::{drive_commands, raw_script};
 use crate::by_entries::drive_entries;
 use cell_journal::Journal;
-use cell_method::{Conversation, DriveEnd, DriveError, LineReader, tell_entries};
+use cell_method::{Conversation, DriveEnd, DriveError, LineReader};
 use cell_output::{WatchedWriter, WriteFault, status};
 use cell_ports::Plan;
 use cell_rows::TellsFault;
-use cell_runs::{InputError, Inputs, Texts, book_after, read_inputs, refuse_input};
-use cell_sim::World;
+use cell_runs::{InputError, Inputs, Texts, read_inputs, refuse_input};
+use operator_desk::ScriptError;
 use std::io;
 use std::io::Write;
 use std::sync::Wait;
@@ -43,6 +48,8 @@ pub(crate) struct Told<'a, E> {
 pub(crate) fn status_of(end: DriveEnd, is_in_order: bool) -> u8
     ensures ended { EndStatus end result }
     ensures memory { end ≡ DriveEnd.Memory → result ≡ 4 }
+    ensures order { result ≡ 0 → IsTrue is_in_order }
+    ensures success { end ≡ DriveEnd.Finished → IsTrue is_in_order → result ≡ 0 }
 {
     match end {
         DriveEnd::Memory => status::OUT_OF_MEMORY,
@@ -63,7 +70,21 @@ fn ended(ran: Result<u8, DriveError>) -> Result<u8, WriteFault>
     }
 }
 
-// Lets a method drive the cell by commands, or tells what is wrong with the operator's script.
+// Tells that the operator's script can't be read, and gives the status.
+fn refuse_script<W: Write>(
+    writer: &mut WatchedWriter<'_, W>,
+    error: ScriptError,
+) -> Result<u8, DriveError>
+    ensures { IfOk result (WritesError (bytes_held W.contents writer.old) (bytes_held W.contents writer.new)
+        (operator_line error) (script_status error)) }
+{
+    match refuse_input(writer, InputError::Operator(error)) {
+        Ok(status) => Ok(status),
+        Err(_) => Err(DriveError::WriteFault),
+    }
+}
+
+// Lets a method drive the cell by commands, or tells what is wrong with the operator's script or the journal.
 fn drive_raw<R: AllocGlobal + Wait, I: TellsFault, W: Write, E: Write>(
     rt: &R,
     inputs: &Inputs,
@@ -71,28 +92,46 @@ fn drive_raw<R: AllocGlobal + Wait, I: TellsFault, W: Write, E: Write>(
     from: Option<&Journal>,
     method: &mut Conversation<'_, I, WatchedWriter<'_, W>>,
     told: Told<'_, E>,
-) -> Result<u8, DriveError> {
-    let (plan, durations) = (&inputs.plan, inputs.durations);
+) -> Result<u8, DriveError>
+    requires { AreLines operator.now inputs.now.script }
+    ensures run { IfOk result (λ status. status < 3
+        → DrivesRaw inputs.now (option_map (λ j. j.now.entries) from.entry) (lines_left I.remaining method.old.lines)
+        (bytes_held W.contents method.old.writer.now) (bytes_held W.contents method.new.writer.now) status) }
+    ensures writer { KeepsWriter method.old method.new }
+{
     let script = match raw_script(rt.alloc(), operator) {
         Ok(script) => script,
-        Err(error) => {
-            let error = InputError::Operator(error);
-            let answer = refuse_input(method.writer, error);
-            return answer.map_err(|_| DriveError::WriteFault);
-        }
+        Err(error) => return refuse_script(method.writer, error),
     };
-    let world = match from {
-        Some(journal) => match book_after(rt.alloc(), plan, journal) {
-            Ok(book) => world_after(&book, plan, durations),
-            Err(error) => return refuse_journal(method.writer, error),
-        },
-        None => World::watched(plan.plates).with_durations(durations),
+    let world = match world_from(rt.alloc(), inputs, from) {
+        Ok(world) => world,
+        Err(error) => return refuse_journal(method.writer, error),
     };
-    begin(method.writer, plan)?;
-    if let Some(journal) = from {
-        tell_entries(method.writer, journal)?;
-    }
+    begin_from(method.writer, &inputs.plan, from)?;
     drive_commands(rt.alloc(), inputs, script, world, method, told)
+}
+
+// Lets a method drive the cell by commands or by entries.
+fn drive_by<R: AllocGlobal + Wait, I: TellsFault, W: Write, E: Write>(
+    rt: &R,
+    inputs: Inputs,
+    operator: &[u8],
+    driving: DriveOptions<'_>,
+    method: &mut Conversation<'_, I, WatchedWriter<'_, W>>,
+    told: Told<'_, WatchedWriter<'_, E>>,
+) -> Result<u8, DriveError>
+    requires { AreLines operator.now inputs.script }
+    ensures run { IfOk result (λ status. status < 3
+        → DrivesBy driving.entry.raw inputs (option_map (λ j. j.now.entries) driving.entry.from)
+        (lines_left I.remaining method.old.lines) (bytes_held W.contents method.old.writer.now)
+        (bytes_held W.contents method.new.writer.now) status) }
+    ensures writer { KeepsWriter method.old method.new }
+{
+    if driving.raw {
+        drive_raw(rt, &inputs, operator, driving.from, method, told)
+    } else {
+        drive_entries(rt, inputs, driving.from, method, told)
+    }
 }
 
 /// Begins the protocol.
@@ -131,7 +170,8 @@ pub fn drive_texts<R: AllocGlobal + Wait, I: TellsFault + Drop, W: Write, E: Wri
     errors: &mut WatchedWriter<'_, E>,
 ) -> Result<u8, WriteFault>
     // What is written is of the first text that is refused, of the journal's first entry that the settings' limits
-    // refuse, or of a run by entries within these limits that goes on from the journal, where there is one.
+    // refuse, of a run by entries within these limits that goes on from the journal, where there is one, or of a run by
+    // commands in a world that the journal left.
     ensures { IfOk result (DrivesTexts texts.entry.settings.now texts.entry.faults.now texts.entry.operator.now
         driving.entry.raw (option_map (λ j. j.now.entries) driving.entry.from) (I.remaining input)
         (bytes_held W.contents output.old) (bytes_held W.contents output.new)) }
@@ -150,11 +190,7 @@ pub fn drive_texts<R: AllocGlobal + Wait, I: TellsFault + Drop, W: Write, E: Wri
         journal: driving.journal,
         explain: driving.explain,
     };
-    if driving.raw {
-        let ran = drive_raw(rt, &inputs, texts.operator, driving.from, &mut method, told);
-        return ended(ran);
-    }
-    let ran = drive_entries(rt, inputs, driving.from, &mut method, told);
+    let ran = drive_by(rt, inputs, texts.operator, driving, &mut method, told);
     // The writer is given back, and what was read ahead is dropped.
     let Conversation {
         lines,
