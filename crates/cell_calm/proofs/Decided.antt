@@ -15,6 +15,7 @@ use Rattle.cell_diagnosis.specs.declared.reading.Reading.{Reading}
 use Rattle.cell_diagnosis.specs.declared.verdict.Verdict.{Verdict}
 use Rattle.cell_diagnosis.specs.declared.verdict.Verdict.TheVariants.{Arrived, Fault, Pending}
 use Rattle.cell_machines.specs.Useful.{is_useful, is_useful_now}
+use Rattle.cell_machines.proofs.Proposed.{none_proposed, some_proposed}
 use Rattle.cell_ports.specs.declared.plan.Plan.{Plan}
 use Rattle.cell_useful.specs.Cells.{ample}
 use Rattle.cell_progress.specs.Orders.{cell_of}
@@ -96,7 +97,8 @@ module _ (plan : ℕ) (J : List Entry) (told : TellsWhatIsLeft J) (still : Still
         let same : e ≡ x = cc in
         subst (Goes plan s) (sym same) (fits (ap disturbs (sym same) ∙ calm))
     ruled_goes l m Proposes e room fits h calm =
-        let useful : is_useful_now ample (cell_of s) plan m e ≡ true = sym (useful_is l m e room) ∙ h in
+        let useful : is_useful_now ample (cell_of s) plan m e ≡ true = sym (useful_is l m e room)
+        ∙ some_proposed l J plan m (Some e) h in
         record {
           possible = useful_in plan (cell_of s) e m useful;
           keeps = useful_keeps plan s m e still useful;
@@ -107,7 +109,8 @@ module _ (plan : ℕ) (J : List Entry) (told : TellsWhatIsLeft J) (still : Still
     ruled_none l m Nothing e room fits h = absurd fits
     ruled_none l m PastLast e room fits h = absurd fits
     ruled_none l m (Books x) e room fits h = cc
-    ruled_none l m Proposes e room fits h = sym (useful_is l m e room) ∙ h e
+    ruled_none l m Proposes e room fits h = sym (useful_is l m e room)
+        ∙ none_proposed l J plan m None h e
 
 -- an entry that a turn decides on can happen, and nothing fails by it, unless it disturbs
 pub decided_goes : (l : BookLimits) (p : Plan) (J : List Entry) (m : Machine) (mind : Mind) (r : Option Reading)

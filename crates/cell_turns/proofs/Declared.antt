@@ -24,6 +24,7 @@ use Rattle.cell_diagnosis.specs.declared.verdict.Verdict.{Verdict}
 use Rattle.cell_diagnosis.specs.declared.verdict.Verdict.TheVariants.{Pending, Arrived, Fault}
 use Rattle.cell_machines.specs.Room.{is_bookable}
 use Rattle.cell_machines.specs.Useful.{wants, is_useful_now, is_useful}
+use Rattle.cell_machines.proofs.Proposed.{some_proposed}
 use Rattle.cell_ports.specs.declared.plan.Plan.{Plan}
 use Rattle.cell_turns.specs.declared.turns.decide.Ruling.{Ruling}
 use Rattle.cell_turns.specs.declared.turns.decide.Ruling.TheVariants.{Nothing, Books, PastLast, Proposes}
@@ -163,7 +164,8 @@ of_ruled : (l : BookLimits) (J : List Entry) (m : Machine) (plates : ℕ) (faile
     → FaultRuling failed k → IsRuled l J m plates k (Some e) → is_command_fault e ≡ failed
 of_ruled l J m plates failed Nothing e f h = cc
 of_ruled l J m plates failed PastLast e f h = absurd h
-of_ruled l J m plates failed Proposes e f h = of_useful l J plates m e h ∙ sym f
+of_ruled l J m plates failed Proposes e f h =
+    of_useful l J plates m e (some_proposed l J plates m (Some e) h) ∙ sym f
 of_ruled l J m plates failed (Books x) e f h = subst (λ (o : Option Entry). on_entry o) (sym h) f
   where
     on_entry : Option Entry → Type 0

@@ -19,6 +19,7 @@ use Rattle.cell_turns.specs.Moving.{motion_of_machine}
 use Rattle.cell_turns.specs.Rulings.{ruling_by}
 use Rattle.cell_diagnosis.specs.declared.reading.Reading.{Reading}
 use Rattle.cell_machines.specs.Useful.{is_useful}
+use Rattle.cell_machines.proofs.Proposed.{some_proposed}
 use Rattle.cell_turns.specs.declared.watch.Watch.{Watch}
 use Rattle.cell_turns.specs.declared.turns.decide.Findings.{Findings}
 use Rattle.cell_turns.specs.Signs.{shows_sign}
@@ -58,11 +59,13 @@ own_ruled l J m plates Nothing e mine room own h = subst (OwnEntry l J m) (sym h
 own_ruled l J m plates (Books x) e mine room own h = subst (OwnEntry l J m) (sym h) own
 own_ruled l J m plates PastLast e mine room own h = absurd h
 own_ruled l J m plates Proposes None mine room own h = tt
-own_ruled l J m plates Proposes (Some e) mine room own h = record {
-  by = mine l J plates m e h;
-  room = room_by e (first_of l J e) (room l J plates m e h);
-  plain = plain_by e m (mine l J plates m e h);
-}
+own_ruled l J m plates Proposes (Some e) mine room own h =
+    let useful : is_useful l J plates m e ≡ true = some_proposed l J plates m (Some e) h in
+    record {
+      by = mine l J plates m e useful;
+      room = room_by e (first_of l J e) (room l J plates m e useful);
+      plain = plain_by e m (mine l J plates m e useful);
+    }
 
 pub own_turn : (l : BookLimits) (w : Watch) (J : List Entry) (p : Plan) (r : Option Reading) (k : Ruling)
     (e : Option Entry) (found : Findings)

@@ -17,7 +17,7 @@ use Rattle.cell_rules.specs.Legal.{first_of}
 use Rattle.cell_ledger.specs.Counts.{plus}
 use Rattle.cell_ledger.specs.Held.{Held, held}
 use Rattle.cell_diagnosis.specs.declared.reading.Reading.{Reading}
-use Rattle.cell_machines.specs.Useful.{is_useful}
+use Rattle.cell_machines.specs.Candidates.{proposed}
 use Rattle.cell_ports.specs.declared.plan.Plan.{Plan}
 use Rattle.cell_turns.specs.declared.watch.Memory.{Memory}
 use Rattle.cell_turns.specs.declared.turns.TurnError.{TurnError}
@@ -31,10 +31,9 @@ use Rattle.cell_turns.specs.Observed.{axis_noted, rest_noted}
 use Rattle.cell_turns.specs.Rulings.{ruling}
 use Rattle.cell_turns.specs.Sent.{is_command_fault}
 
--- what is proposed: a useful entry, and none only where no entry is useful
+-- what is proposed is what the machine does next
 abbrev pub IsProposed : BookLimits → List Entry → Machine → ℕ → Option Entry → Type 0
-IsProposed l J m plates (Some e) = is_useful l J plates m e ≡ true
-IsProposed l J m plates None = (e : Entry) → is_useful l J plates m e ≡ false
+IsProposed l J m plates e = e ≡ proposed l J plates m
 
 -- the entry of a turn by what was decided
 abbrev pub IsRuled : BookLimits → List Entry → Machine → ℕ → Ruling → Option Entry → Type 0

@@ -33,6 +33,7 @@ use Rattle.cell_diagnosis.specs.RestRules.{is_silent_at_rest, axis_fault, is_pla
 use Rattle.cell_diagnosis.specs.RestRules.{judged_at_rest, rest}
 use Rattle.cell_machines.specs.Room.{is_bookable}
 use Rattle.cell_machines.specs.Useful.{wants, is_useful_now, is_useful}
+use Rattle.cell_machines.proofs.Proposed.{some_proposed}
 use Rattle.cell_ports.specs.declared.plan.Plan.{Plan}
 use Rattle.cell_turns.specs.declared.watch.Memory.{Memory}
 use Rattle.cell_turns.specs.declared.turns.decide.Findings.{Findings}
@@ -363,7 +364,8 @@ of_ruled : (l : BookLimits) (J : List Entry) (m : Machine) (plates : ℕ) (p : P
     (k : Ruling) (e : Entry) → RulingBacked p got k → IsRuled l J m plates k (Some e) → Backed p got e
 of_ruled l J m plates p got Nothing e f h = cc
 of_ruled l J m plates p got PastLast e f h = absurd h
-of_ruled l J m plates p got Proposes e f h = useful_backed l J plates m p got e h
+of_ruled l J m plates p got Proposes e f h =
+    useful_backed l J plates m p got e (some_proposed l J plates m (Some e) h)
 of_ruled l J m plates p got (Books x) e f h = subst (λ (o : Option Entry). on_entry o) (sym h) f
   where
     on_entry : Option Entry → Type 0

@@ -23,6 +23,7 @@ use Rattle.cell_rules.specs.declared.limits.BookLimits.{BookLimits}
 use Rattle.cell_rules.specs.History.{History}
 use Rattle.cell_machines.specs.Useful.{is_useful, is_lamp}
 use Rattle.cell_machines.proofs.Own.{useful_own, plan_law}
+use Rattle.cell_machines.proofs.Proposed.{some_proposed}
 use Rattle.cell_diagnosis.specs.declared.motion.Motion.{Motion}
 use Rattle.cell_diagnosis.specs.declared.reading.Reading.{Reading}
 use Rattle.cell_diagnosis.specs.declared.verdict.Verdict.{Verdict}
@@ -148,7 +149,8 @@ of_ruled : (l : BookLimits) (J : List Entry) (m : Machine) (plates : ℕ) (k : R
     → IsRuled l J m plates k (Some e) → is_called_for l J e ≡ true
 of_ruled l J m plates Nothing e f h = cc
 of_ruled l J m plates PastLast e f h = absurd h
-of_ruled l J m plates Proposes e f h = useful_called l J plates m e h
+of_ruled l J m plates Proposes e f h =
+    useful_called l J plates m e (some_proposed l J plates m (Some e) h)
 of_ruled l J m plates (Books x) e f h = still_called l J e (subst (λ (o : Option Entry). on_entry o) (sym h) f)
   where
     on_entry : Option Entry → Type 0

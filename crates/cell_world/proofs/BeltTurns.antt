@@ -83,7 +83,7 @@ use Rattle.cell_world.proofs.Plates.{some_none, told_left}
 use Rattle.cell_world.proofs.Spared.{some_same}
 use Rattle.cell_world.proofs.Turns.{Free, Verdicts, IsCalm, Noted, good_then, plates_as}
 use Rattle.cell_world.proofs.Turns.{ruled_end, ruled_proposes, ruled_signed, started_plates}
-use Rattle.cell_world.proofs.Turns.{useful_wants}
+use Rattle.cell_world.proofs.Turns.{proposed_wants}
 use Rattle.cell_world.proofs.Long.{fair_then, reading_long}
 use Rattle.cell_world.proofs.BeltWays.{AtBelt, LeftBy, belt_stays, deposit_lit_so, ends_booked, entry_leaves}
 use Rattle.cell_world.proofs.BeltWays.{feed_lit_so, green_rests, lamp_at, lit_as, none_leaves, red_green, red_unless}
@@ -504,7 +504,7 @@ proposed_leaves : (l : BookLimits) (J : List Entry) (p : Plan) (m : Machine) (s 
     → IsProposed l J m p.plates e → Free l J e → Turned J p m s w e
 proposed_leaves l J p m s w None t r g d allow = none_leaves l J p m s w t r
 proposed_leaves l J p m s w (Some x) t r g d allow =
-    let h = useful_wants l J p.plates m x d in
+    let h = proposed_wants l J p.plates m x d in
     kind_leaves l J p m s w x t r g (good_then l J x g allow) allow h
     (belt_kind l (situation_of J) p.plates m x t.belt h)
 

@@ -9,6 +9,7 @@ use Rattle.cell_rules.specs.Legal.{legal}
 use Rattle.cell_rules.proofs.Safe.Told.{told_when_legal}
 use Rattle.cell_diagnosis.specs.declared.reading.Reading.{Reading}
 use Rattle.cell_machines.proofs.Own.{useful_own}
+use Rattle.cell_machines.proofs.Proposed.{some_proposed}
 use Rattle.cell_ports.specs.declared.plan.Plan.{Plan}
 use Rattle.cell_turns.specs.declared.turns.decide.Ruling.{Ruling}
 use Rattle.cell_turns.specs.declared.turns.decide.Ruling.TheVariants.{Books, Nothing, PastLast, Proposes}
@@ -37,7 +38,7 @@ ruled_owned l J m plates (Books x) e own h =
 ruled_owned l J m plates PastLast e own h = absurd h
 ruled_owned l J m plates Proposes None own h = tt
 ruled_owned l J m plates Proposes (Some e) own h =
-    machine_by (machine_of_entry e) m (useful_own l J plates m e h)
+    machine_by (machine_of_entry e) m (useful_own l J plates m e (some_proposed l J plates m (Some e) h))
 
 own_here : (l : BookLimits) (J : List Entry) (m : Machine) (p : Plan) (s : Mind) (r : Option Reading)
     → legal l J ≡ true → OwnRuling l J m (ruling J m p s r)

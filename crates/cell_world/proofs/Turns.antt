@@ -43,7 +43,9 @@ use Rattle.cell_diagnosis.specs.declared.reading.Reading.{Reading}
 use Rattle.cell_diagnosis.specs.declared.verdict.Verdict.{Verdict}
 use Rattle.cell_diagnosis.specs.declared.verdict.Verdict.TheVariants.{Pending, Arrived as HasArrived}
 use Rattle.cell_machines.specs.Room.{is_bookable}
+use Rattle.cell_machines.specs.Candidates.{proposed}
 use Rattle.cell_machines.specs.Useful.{is_useful, is_useful_now, wants}
+use Rattle.cell_machines.proofs.Proposed.{some_proposed}
 use Rattle.cell_ports.specs.declared.plan.Plan.{Plan}
 use Rattle.cell_turns.specs.declared.turns.decide.Ruling.{Ruling}
 use Rattle.cell_turns.specs.declared.turns.decide.Ruling.TheVariants.{Nothing, Proposes}
@@ -550,11 +552,16 @@ came_leaves l J p m s w b t q g c n k =
 
 -- A TURN
 
-pub useful_wants : (l : BookLimits) (J : List Entry) (plan : ℕ) (m : Machine) (x : Entry)
+useful_wants : (l : BookLimits) (J : List Entry) (plan : ℕ) (m : Machine) (x : Entry)
     → is_useful l J plan m x ≡ true → wants l (situation_of J) plan m x ≡ true
 unfolding is_useful_now
 useful_wants l J plan m x h =
     (and_both (wants l (situation_of J) plan m x) (is_bookable l (situation_of J) x) h).0
+
+-- what a machine does next it wants
+pub proposed_wants : (l : BookLimits) (J : List Entry) (plan : ℕ) (m : Machine) (x : Entry)
+    → Some x ≡ proposed l J plan m → wants l (situation_of J) plan m x ≡ true
+proposed_wants l J plan m x h = useful_wants l J plan m x (some_proposed l J plan m (Some x) h)
 
 pub good_then : (l : BookLimits) (J : List Entry) (x : Entry) → Good J → first_of l J x ≡ None → Good (one_more J x)
 good_then l J x g free =
@@ -573,7 +580,7 @@ proposed_leaves : (l : BookLimits) (J : List Entry) (p : Plan) (m : Machine) (s 
 proposed_leaves l J p m s w None t g d free = none_leaves l J p m s w t.belt t.begins t.agreed t.tied
 proposed_leaves l J p m s w (Some x) t g d free =
     kind_leaves l J p m s w x t g (good_then l J x g free) free
-    (kind_of l (situation_of J) p.plates m x t.belt (useful_wants l J p.plates m x d))
+    (kind_of l (situation_of J) p.plates m x t.belt (proposed_wants l J p.plates m x d))
 
 -- a machine that rests and proposes, whatever else it would decide
 pub proposed_does : (l : BookLimits) (J : List Entry) (p : Plan) (m : Machine) (s : Mind) (w : Simulated)

@@ -46,7 +46,7 @@ use Rattle.cell_world.specs.Laying.{GreenIsWanted}
 use Rattle.cell_world.specs.Starting.{one_more}
 use Rattle.cell_world.proofs.BeltLamps.{green_wanted}
 use Rattle.cell_world.proofs.Laying.{admitted_before, lamp_before, lamp_now}
-use Rattle.cell_world.proofs.Turns.{useful_wants}
+use Rattle.cell_world.proofs.Turns.{proposed_wants}
 
 -- NO RULING TURNS A LIGHT
 
@@ -161,7 +161,7 @@ turned_wants : (l : BookLimits) (J : List Entry) (p : Plan) (m : Machine) (s : M
     → IsDecided l J m p s r (Some (Lamp belt.Feed colour.Green))
     → wants l (situation_of J) p.plates m (Lamp belt.Feed colour.Green) ≡ true
 turned_wants l J p m s r d =
-    useful_wants l J p.plates m (Lamp belt.Feed colour.Green)
+    proposed_wants l J p.plates m (Lamp belt.Feed colour.Green)
     (lamp_useful l J m p.plates (ruling J m p s r) belt.Feed colour.Green (dark_ruling J m p s r) d)
 
 turned_green : (l : BookLimits) (J : List Entry) (p : Plan) (m : Machine) (s : Mind) (r : Option Reading)
