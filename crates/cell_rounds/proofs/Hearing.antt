@@ -1,5 +1,5 @@
 -- What is heard of the cell and told to it, and the beginning and the end of a round
-use Rattle.std.proofs.Common.{◌≡◌, ◌⊎◌, ◌∷◌, ◌++◌, ◌+◌, ◌∙◌, [], List, ℕ, Bool, true, refl, sym, ap, Option}
+use Rattle.std.proofs.Common.{◌≡◌, ◌<◌, ◌⊎◌, ◌∷◌, ◌++◌, ◌+◌, ◌∙◌, [], List, ℕ, Bool, true, refl, sym, ap, Option}
 use Rattle.std.proofs.Common.{arith, append_assoc, append-nil, length-append, option_to_list}
 use Rattle.std.specs.Prelude.{Some, None, length}
 use Rattle.cell_types.specs.Texts.{all_machine}
@@ -108,13 +108,14 @@ module _ {C K : Type 0} (told : C → C → Asked → Type 0) (keeps : K → K �
 
 module _ {C K : Type 0} (told : C → C → Asked → Type 0) (keeps : K → K → Entry → Bool → Type 0) (T : Terms) where
   -- a round begins
-  pub runs_begins : (n : ℕ) (J : List Entry) (ok : Bool) (x : State C K) (c : C) → told x.cell c (Opened ok)
+  pub runs_begins : (n : ℕ) (J : List Entry) (ok : Bool) (x : State C K) (c : C) → n < T.plan.turns
+      → told x.cell c (Opened ok)
       → Runs told keeps T None (place n J Between) (place n x.journal (if_reached ok (Noting 0))) x
       (record x { cell = c })
-  runs_begins n J ok x c did =
+  runs_begins n J ok x c room did =
       runs_move told keeps T (place n J Between) (place n x.journal (if_reached ok (Noting 0))) x
       (record x { cell = c })
-      (λ minds fits. (minds, fits, begins ok refl did refl))
+      (λ minds fits. (minds, fits, begins ok refl room did refl))
 
   -- it is closed
   pub runs_closes : (n : ℕ) (J : List Entry) (ok : Bool) (x : State C K) (c : C)
@@ -150,7 +151,7 @@ module _ {C K : Type 0} (told : C → C → Asked → Type 0) (keeps : K → K �
   -- each move leaves what is booked booked
   move_grows : (s t : Stand C K) → Move told keeps T s t
       → (added : List Entry) × (t.now.journal ≡ s.now.journal ++ added)
-  move_grows s t (begins ok at did is) = ([], ap (λ u. u.now.journal) is ∙ sym (append-nil s.now.journal))
+  move_grows s t (begins ok at room did is) = ([], ap (λ u. u.now.journal) is ∙ sym (append-nil s.now.journal))
   move_grows s t (hears n act at did is) = ([], ap (λ u. u.now.journal) is ∙ sym (append-nil s.now.journal))
   move_grows s t (heard at is) = ([], ap (λ u. u.now.journal) is ∙ sym (append-nil s.now.journal))
   move_grows s t (notes n act books at same left on) = (_, ap (λ u. u.journal) books.now)

@@ -103,7 +103,7 @@ module _ {C D K : Type 0} (f : C → D) (told : C → C → Asked → Type 0) (s
       loses (stops_map last.machine false s.cell t.cell stops) (ap map_stand is)
 
   move_map : (s t : Stand C K) → Move told keeps T s t → Move seen keeps T (map_stand s) (map_stand t)
-  move_map s t (begins ok at did is) = begins ok at (same s.cell t.cell _ did) (ap map_stand is)
+  move_map s t (begins ok at room did is) = begins ok at room (same s.cell t.cell _ did) (ap map_stand is)
   move_map s t (hears n done at did is) = hears n done at (same s.cell t.cell _ did) (ap map_stand is)
   move_map s t (heard at is) = heard at (ap map_stand is)
   move_map s t (notes n done books at is desk next) =

@@ -1,6 +1,6 @@
 -- The moves of a run: what its cell is asked, what is booked, what is kept of it, and in which order that comes
-use Rattle.std.specs.Prelude.{◌≡◌, ◌⊎◌, ◌+◌, ◌++◌, ◌∷◌, [], ℕ, Bool, true, false, Option, Some, None, Result, Ok, Err}
-use Rattle.std.specs.Prelude.{List, is_ok, length}
+use Rattle.std.specs.Prelude.{◌≡◌, ◌<◌, ◌⊎◌, ◌+◌, ◌++◌, ◌∷◌, [], ℕ, Bool, true, false, Option, Some, None, Result, Ok}
+use Rattle.std.specs.Prelude.{Err, List, is_ok, length}
 use Rattle.std.specs.Option.{option_and_then}
 use Rattle.cell_types.specs.Entries.{command_of}
 use Rattle.cell_types.specs.Texts.{all_machine}
@@ -207,9 +207,9 @@ GoesOn T s = s.now.journal ≡ s.place.begun → s.pending ≡ None → KeepsOn 
 -- one move of a run
 pub data Move {C K : Type 0} (told : C → C → Asked → Type 0) (keeps : K → K → Entry → Bool → Type 0) (T : Terms)
     (s t : Stand C K) : Type 0 where
-  -- a round begins
-  begins : (ok : Bool) → s.place.point ≡ Between → told s.cell t.cell (Opened ok) → t ≡ begun s t.cell ok
-      → Move told keeps T s t
+  -- a round begins, if there is one more by the plan
+  begins : (ok : Bool) → s.place.point ≡ Between → s.place.rounds < T.plan.turns → told s.cell t.cell (Opened ok)
+      → t ≡ begun s t.cell ok → Move told keeps T s t
   -- what was done at the cell is heard, or nothing more; more than so much isn't
   hears : (n : ℕ) (done : Option Task) → s.place.point ≡ Noting n → told s.cell t.cell (Acted done)
       → t ≡ moved s t.cell (after_act n done) → Move told keeps T s t

@@ -110,7 +110,7 @@ fn take_round<C: Plant, K: Keeper, R: Run>(
     requires { (m : MachineValue) → machine_of_watch (at cell.old.watches m) ≡ m }
     ensures machines { (m : MachineValue) → machine_of_watch (at cell.new.watches m) ≡ m }
     ensures limits { cell.new.kept.limits ≡ cell.old.kept.limits }
-    ensures led { (rounds : ℕ) (J : List EntryValue) → Runs C.told K.keeps
+    ensures led { (rounds : ℕ) (J : List EntryValue) → rounds < terms.entry.plan.now.turns → Runs C.told K.keeps
         (moves.terms_of cell.old.kept.limits terms.entry.plan.now terms.entry.waits) (halted result)
         (place rounds J Between) (place (rounds + 1) cell.old.kept.entries Between)
         (state plant.old keeper.old

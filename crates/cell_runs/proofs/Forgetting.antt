@@ -215,7 +215,7 @@ module _ {C K : Type 0} (told : C → C → Asked → Type 0) (keeps : K → K �
   if_kept_is b point is = rw is refl
 
   stands_move : (s t : Stand C K) → Stands s → Move told keeps (terms_of l p waits) s t → Stands t
-  stands_move s t st (moves.begins true at did is) = subst Stands (sym is) (
+  stands_move s t st (moves.begins true at room did is) = subst Stands (sym is) (
     st.0,
     record {
       before = s.now;
@@ -229,7 +229,7 @@ module _ {C K : Type 0} (told : C → C → Asked → Type 0) (keeps : K → K �
       leads = stays;
     },
   )
-  stands_move s t st (moves.begins false at did is) = absurd (differ (ported _ _ _ did))
+  stands_move s t st (moves.begins false at room did is) = absurd (differ (ported _ _ _ did))
   stands_move s t st (moves.hears n None at did is) = subst Stands (sym is) (st.0, here s (Noting n) at st)
   stands_move s t st (moves.hears n (Some x) at did is) = absurd (differ (ported _ _ _ did))
   stands_move s t st (moves.heard at is) = subst Stands (sym is) (st.0, here s (Noting moves.most_heard) at st)

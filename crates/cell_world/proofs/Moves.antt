@@ -287,7 +287,7 @@ if_there ok point h o = ap (λ (b : Bool). is_his (if_reached b point)) h ∙ o
 
 move_kept : (T : Terms) (H : Holding) (s t : Stand SimCell Unkept) → HoldsOn T H → Holds T H s
     → Move AnswersSo AllKept T s t → Holds T H t
-move_kept T H s t on c (begins ok here told h) =
+move_kept T H s t on c (begins ok here room told h) =
     same_world T H s t
     (record {
       now = ap (λ (x : Stand SimCell Unkept). x.now) h;

@@ -13,7 +13,7 @@ use Rattle.cell_rounds.proofs.Moving.{goes_as, halted_is, runs_halted, runs_over
 use Rattle.cell_rounds.proofs.run.take_round.Goals as goal
 
 pub returns-in_err-begin_round-clause-led : goal.returns-in_err-begin_round-clause-led
-returns-in_err-begin_round-clause-led g c = λ n J.
+returns-in_err-begin_round-clause-led g c = λ n J room.
     let told = g.C.Plant.told in
     let keeps = g.K.Keeper.keeps in
     let was = c.args.cell.now in
@@ -29,10 +29,11 @@ returns-in_err-begin_round-clause-led g c = λ n J.
     (n + 1) was.kept.entries Between) x y refl
     (subst (λ (b : Bool). Runs told keeps T None a (place n was.kept.entries (if_reached b (Noting 0))) x y)
     (ap is_ok c.in_err-begin_round.was)
-    (runs_begins told keeps T n J (is_ok c.begin_round.result) x c.begin_round.new.self c.begin_round.ensures.told)))
+    (runs_begins told keeps T n J (is_ok c.begin_round.result) x c.begin_round.new.self room
+    c.begin_round.ensures.told)))
 
 pub returns-in_err-act-clause-led : goal.returns-in_err-act-clause-led
-returns-in_err-act-clause-led g c = λ n J.
+returns-in_err-act-clause-led g c = λ n J room.
     let told = g.C.Plant.told in
     let keeps = g.K.Keeper.keeps in
     let was = c.args.cell.now in
@@ -44,7 +45,8 @@ returns-in_err-act-clause-led g c = λ n J.
     in
     let begun = subst (λ (b : Bool). Runs told keeps T None a (place n was.kept.entries (if_reached b (Noting 0))) x y)
     (ap is_ok c.in_ok-begin_round.was)
-    (runs_begins told keeps T n J (is_ok c.begin_round.result) x c.begin_round.new.self c.begin_round.ensures.told) in
+    (runs_begins told keeps T n J (is_ok c.begin_round.result) x c.begin_round.new.self room
+    c.begin_round.ensures.told) in
     let next = c.act.new.cell in
     let z = state c.act.new.plant c.act.new.keeper next.kept.entries next.watches next.pending next.script next.lost in
     runs_halted told keeps T _ _ c.act.result _ c.in_err-act.field-0.0 a (place n was.kept.entries Closing)
@@ -54,7 +56,7 @@ returns-in_err-act-clause-led g c = λ n J.
 
 -- all are at rest
 pub returns-in-Some-clause-led : goal.returns-in-Some-clause-led
-returns-in-Some-clause-led g c = λ n J minds fits.
+returns-in-Some-clause-led g c = λ n J room minds fits.
     let told = g.C.Plant.told in
     let keeps = g.K.Keeper.keeps in
     let was = c.args.cell.now in
@@ -66,7 +68,8 @@ returns-in-Some-clause-led g c = λ n J minds fits.
     in
     let begun = subst (λ (b : Bool). Runs told keeps T None a (place n was.kept.entries (if_reached b (Noting 0))) x y)
     (ap is_ok c.in_ok-begin_round.was)
-    (runs_begins told keeps T n J (is_ok c.begin_round.result) x c.begin_round.new.self c.begin_round.ensures.told) in
+    (runs_begins told keeps T n J (is_ok c.begin_round.result) x c.begin_round.new.self room
+    c.begin_round.ensures.told) in
     let next = c.act.new.cell in
     let z = state c.act.new.plant c.act.new.keeper next.kept.entries next.watches next.pending next.script next.lost in
     let acted = runs_then told keeps T None a (place n was.kept.entries (Noting 0)) (place n was.kept.entries Closing) x
@@ -81,7 +84,7 @@ returns-in-Some-clause-led g c = λ n J minds fits.
 
 -- the cell is gone before the round is closed
 pub returns-in_err-end_round-clause-led : goal.returns-in_err-end_round-clause-led
-returns-in_err-end_round-clause-led g c = λ n J.
+returns-in_err-end_round-clause-led g c = λ n J room.
     let told = g.C.Plant.told in
     let keeps = g.K.Keeper.keeps in
     let was = c.args.cell.now in
@@ -93,7 +96,8 @@ returns-in_err-end_round-clause-led g c = λ n J.
     in
     let begun = subst (λ (b : Bool). Runs told keeps T None a (place n was.kept.entries (if_reached b (Noting 0))) x y)
     (ap is_ok c.in_ok-begin_round.was)
-    (runs_begins told keeps T n J (is_ok c.begin_round.result) x c.begin_round.new.self c.begin_round.ensures.told) in
+    (runs_begins told keeps T n J (is_ok c.begin_round.result) x c.begin_round.new.self room
+    c.begin_round.ensures.told) in
     let next = c.act.new.cell in
     let z = state c.act.new.plant c.act.new.keeper next.kept.entries next.watches next.pending next.script next.lost in
     let acted = runs_then told keeps T None a (place n was.kept.entries (Noting 0)) (place n was.kept.entries Closing) x
@@ -117,7 +121,7 @@ returns-in_err-end_round-clause-led g c = λ n J.
     c.end_round.ensures.told))))
 
 pub returns-clause-led : goal.returns-clause-led
-returns-clause-led g c = λ n J.
+returns-clause-led g c = λ n J room.
     let told = g.C.Plant.told in
     let keeps = g.K.Keeper.keeps in
     let was = c.args.cell.now in
@@ -129,7 +133,8 @@ returns-clause-led g c = λ n J.
     in
     let begun = subst (λ (b : Bool). Runs told keeps T None a (place n was.kept.entries (if_reached b (Noting 0))) x y)
     (ap is_ok c.in_ok-begin_round.was)
-    (runs_begins told keeps T n J (is_ok c.begin_round.result) x c.begin_round.new.self c.begin_round.ensures.told) in
+    (runs_begins told keeps T n J (is_ok c.begin_round.result) x c.begin_round.new.self room
+    c.begin_round.ensures.told) in
     let next = c.act.new.cell in
     let z = state c.act.new.plant c.act.new.keeper next.kept.entries next.watches next.pending next.script next.lost in
     let acted = runs_then told keeps T None a (place n was.kept.entries (Noting 0)) (place n was.kept.entries Closing) x

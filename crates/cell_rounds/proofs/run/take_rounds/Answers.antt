@@ -1,5 +1,5 @@
 -- A round either ends the run or is one more of it, until there were as many as the plan has
-use Rattle.std.proofs.Common.{rules, ◌≡◌, ◌+◌, ◌∙◌, ap, refl, subst}
+use Rattle.std.proofs.Common.{rules, ◌≡◌, ◌<◌, ◌+◌, ◌∙◌, ap, refl, subst}
 use Rattle.std.specs.Prelude.{None, Option}
 use Rattle.cell_rules.specs.declared.limits.BookLimits.{BookLimits}
 use Rattle.cell_rounds.specs.Calls.{halted}
@@ -39,6 +39,7 @@ returns-in-Err-clause-led g c = λ J.
     let z = state c.take_round.new.plant c.take_round.new.keeper next.kept.entries next.watches next.pending next.script
     next.lost in
     let (K, led) = so.invariant.led J in
+    let room : so._round < c.args.terms.plan.now.turns = search rules in
     subst (λ (h : Option Halt). Runs told keeps T h (place 0 J Between)
     (place (so._round + 1) so.cell.kept.entries Between) x z)
     (ap halted c.in-Err.is)
@@ -47,7 +48,7 @@ returns-in-Err-clause-led g c = λ J.
     (subst (λ (q : BookLimits). Runs told keeps (terms_of q c.args.terms.plan.now c.args.terms.waits)
     (halted c.take_round.result) (place so._round K Between)
     (place (so._round + 1) so.cell.kept.entries Between) y z) so.invariant.limits
-    (c.take_round.ensures.led so._round K)))
+    (c.take_round.ensures.led so._round K room)))
 
 pub loop-round-preserved : goal.loop-round-preserved
 loop-round-preserved g c =
@@ -66,7 +67,8 @@ loop-round-preserved g c =
       machines = c.take_round.ensures.machines;
       limits = c.take_round.ensures.limits ∙ so.invariant.limits;
       led = λ J.
-          let (K, led) = so.invariant.led J in (
+          let (K, led) = so.invariant.led J in
+          let room : so._round < c.args.terms.plan.now.turns = search rules in (
             so.cell.kept.entries,
             runs_then told keeps T None (place 0 J Between) (place so._round K Between)
                 (place (so._round + 1) so.cell.kept.entries Between) x y z led
@@ -76,7 +78,7 @@ loop-round-preserved g c =
                 (subst (λ (h : Option Halt). Runs told keeps
                 (terms_of so.cell.kept.limits c.args.terms.plan.now c.args.terms.waits) h
                 (place so._round K Between) (place (so._round + 1) so.cell.kept.entries Between) y z)
-                (ap halted c.in_default.is) (c.take_round.ensures.led so._round K))),
+                (ap halted c.in_default.is) (c.take_round.ensures.led so._round K room))),
           );
     }
 
