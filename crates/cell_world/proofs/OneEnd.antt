@@ -31,8 +31,8 @@ use Rattle.cell_sim.specs.declared.fault.PlannedFault.{PlannedFault}
 use Rattle.sim_plant.specs.Answers.{AnswersSo, SimCell, sim_cell}
 use Rattle.cell_runs.specs.Cells.{AllKept}
 use Rattle.cell_world.specs.OneRun.{Moment, RunIsOne, Same, SimulationIsOne, later, moment_of}
-use Rattle.cell_world.proofs.OneRun.{IsPlain, MayGoOn, Moves, decided_is, move_follows, moves_of}
-use Rattle.cell_world.proofs.OneRun.{reached, starts_plain, unplain}
+use Rattle.cell_world.proofs.OneRun.{IsOrdinary, MayGoOn, Moves, decided_is, move_follows, moves_of}
+use Rattle.cell_world.proofs.OneRun.{reached, starts_ordinary, not_ordinary}
 use Rattle.cell_world.proofs.OneRun.Moves.{more, none}
 
 -- how a run ends at a moment, if memory isn't refused: a turn is, all machines rest, or there were as many rounds as
@@ -148,11 +148,11 @@ pub record Ends (T : Terms) (faults : List PlannedFault) (s : Stand SimCell Unke
   pub journal : J ≡ last.now.journal
 
 ends_of : (T : Terms) (faults : List PlannedFault) (s : Stand SimCell Unkept) (h : Halt) (new : SimCell) (k : Unkept)
-    (J : List Entry) → IsPlain faults s → Halts AnswersSo AllKept T s h new k J → end_of h ≢ end.Memory
+    (J : List Entry) → IsOrdinary faults s → Halts AnswersSo AllKept T s h new k J → end_of h ≢ end.Memory
     → Ends T faults s J (end_of h) new.world
 ends_of T faults s h new k J c (breaks t leads here has) memory =
     let (n, moves) = moves_of T s t leads in
-    absurd (unplain t.place.point (Over h) here (reached T faults s n t c moves).plain.point refl)
+    absurd (not_ordinary t.place.point (Over h) here (reached T faults s n t c moves).ordinary.point refl)
 ends_of T faults s h new k J c (lacks t leads is unbooked has) memory = absurd (memory (ap end_of is))
 ends_of T faults s h new k J c (fills t leads is away (cell, keeper, journal)) memory =
     let (n, moves) = moves_of T s t leads in
@@ -210,13 +210,13 @@ passed T s u n _ (more {n = k} {t = t} before move) less =
 
 -- a run from the same moment isn't longer than one that ended
 not_longer : (T : Terms) (faults : List PlannedFault) (s q : Stand SimCell Unkept) (J : List Entry) (e : End)
-    (w : Simulated) (k : ℕ) (u : Stand SimCell Unkept) → IsPlain faults s → IsPlain faults q
+    (w : Simulated) (k : ℕ) (u : Stand SimCell Unkept) → IsOrdinary faults s → IsOrdinary faults q
     → moment_of s ≡ moment_of q → (x : Ends T faults s J e w) → Moves T q k u → x.count < k → ⊥
 not_longer T faults s q J e w k u c d from x moves less =
     let p = passed T q u x.count k moves less in
     let there = reached T faults q x.count p.here d p.moves in
     let last = reached T faults s x.count x.last c x.moves in
-    let may = (move_follows T faults p.here p.next there.plain p.move).may in
+    let may = (move_follows T faults p.here p.next there.ordinary p.move).may in
     ends_or_goes T (moment_of p.here) e w
     (subst (λ (a : Moment). EndsAt T a e w) (last.is ∙ (ap (later T faults x.count) from ∙ sym there.is)) x.ends) may
 
@@ -226,7 +226,8 @@ trio n k false true h i = let fewer : k < n = grind (arith, nat_tests) in inr (i
 trio n k false false h i = let same : n ≡ k = grind (arith, nat_tests) in inr (inl same)
 
 both_end : (T : Terms) (faults : List PlannedFault) (s : Stand SimCell Unkept) (q : Stand SimCell Unkept)
-    (J K : List Entry) (e f : End) (v w : Simulated) → IsPlain faults s → IsPlain faults q → moment_of s ≡ moment_of q
+    (J K : List Entry) (e f : End) (v w : Simulated) → IsOrdinary faults s → IsOrdinary faults q
+    → moment_of s ≡ moment_of q
     → (x : Ends T faults s J e v) (y : Ends T faults q K f w) → x.count ≡ y.count → Same J K e f v w
 both_end T faults s q J K e f v w c d from x y same =
     let one = reached T faults s x.count x.last c x.moves in
@@ -239,7 +240,7 @@ both_end T faults s q J K e f v w c d from x y same =
     (x.journal ∙ (ap (λ (a : Moment). a.now.journal) at ∙ sym y.journal), ends, worlds)
 
 two_ends : (T : Terms) (faults : List PlannedFault) (s q : Stand SimCell Unkept) (J K : List Entry) (e f : End)
-    (v w : Simulated) → IsPlain faults s → IsPlain faults q → moment_of s ≡ moment_of q → Ends T faults s J e v
+    (v w : Simulated) → IsOrdinary faults s → IsOrdinary faults q → moment_of s ≡ moment_of q → Ends T faults s J e v
     → Ends T faults q K f w → Same J K e f v w
 two_ends T faults s q J K e f v w c d from x y = by (trio x.count y.count _ _ refl refl)
   where
@@ -251,13 +252,13 @@ two_ends T faults s q J K e f v w c d from x y = by (trio x.count y.count _ _ re
 pub run_is_one : RunIsOne
 run_is_one l p old new other before J K script e f (h, k, i, is, run) (g, j, m, same, again) kept spared =
     let T = terms_of l p false in
-    let one = ends_of T old.faults (start old k before script None) h new i J (starts_plain old k before script) run
-    (λ q. kept (is ∙ q)) in
-    let two = ends_of T old.faults (start old j before script None) g other m K (starts_plain old j before script) again
-    (λ q. spared (same ∙ q)) in
-    let both = two_ends T old.faults (start old k before script None) (start old j before script None) J K (end_of h)
-    (end_of g) new.world other.world (starts_plain old k before script) (starts_plain old j before script) refl one two
-    in
+    let s = start old k before script None in
+    let q = start old j before script None in
+    let first = starts_ordinary old k before script in
+    let second = starts_ordinary old j before script in
+    let one = ends_of T old.faults s h new i J first run (λ r. kept (is ∙ r)) in
+    let two = ends_of T old.faults q g other m K second again (λ r. spared (same ∙ r)) in
+    let both = two_ends T old.faults s q J K (end_of h) (end_of g) new.world other.world first second refl one two in
     (both.0, is ∙ (both.1 ∙ sym same), both.2)
 
 pub simulation_is_one : SimulationIsOne

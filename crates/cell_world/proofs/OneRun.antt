@@ -59,19 +59,19 @@ same_moment a b h i j k =
     ∙ ap (λ (x : Place). moment b.world b.now b.desk x) k))
 
 -- the points of a run at whose cell nobody does or wants anything, and which goes on
-abbrev pub is_plain : Point → Bool
-is_plain Between = true
-is_plain (Noting n) = true
-is_plain (Turning rest) = true
-is_plain (Serving n) = true
-is_plain Closing = true
-is_plain _ = false
+abbrev pub is_ordinary : Point → Bool
+is_ordinary Between = true
+is_ordinary (Noting n) = true
+is_ordinary (Turning rest) = true
+is_ordinary (Serving n) = true
+is_ordinary Closing = true
+is_ordinary _ = false
 
 -- a stand of a run of the simulated cell
-pub record IsPlain (planned : List PlannedFault) (s : Stand SimCell Unkept) : Type 0 where
+pub record IsOrdinary (planned : List PlannedFault) (s : Stand SimCell Unkept) : Type 0 where
   pub faults : s.cell.faults ≡ planned
   pub settled : s.pending ≡ None
-  pub point : is_plain s.place.point ≡ true
+  pub point : is_ordinary s.place.point ≡ true
   pub able : s.desk.lost ≡ false
 
 -- what lets a run go on from a moment
@@ -85,21 +85,21 @@ MayGoOn T _ a = Unit {0}
 
 -- a move leads to the moment that follows
 pub record Follows (T : Terms) (faults : List PlannedFault) (s t : Stand SimCell Unkept) : Type 0 where
-  pub plain : IsPlain faults t
+  pub ordinary : IsOrdinary faults t
   pub is : moment_of t ≡ next T faults (moment_of s)
   pub may : MayGoOn T s.place.point (moment_of s)
 
 follows_at : (T : Terms) (faults : List PlannedFault) (s t : Stand SimCell Unkept) (x : Point) → s.place.point ≡ x
-    → IsPlain faults t → moment_of t ≡ next_at T faults x (moment_of s) → MayGoOn T x (moment_of s)
+    → IsOrdinary faults t → moment_of t ≡ next_at T faults x (moment_of s) → MayGoOn T x (moment_of s)
     → Follows T faults s t
-follows_at T faults s t x here plain is may = record {
-  plain = plain;
+follows_at T faults s t x here ordinary is may = record {
+  ordinary = ordinary;
   is = subst (λ (y : Point). moment_of t ≡ next_at T faults y (moment_of s)) (sym here) is;
   may = subst (λ (y : Point). MayGoOn T y (moment_of s)) (sym here) may;
 }
 
-pub unplain : (x y : Point) → x ≡ y → is_plain x ≡ true → is_plain y ≡ false → ⊥
-unplain x y h o n = let z : true ≡ false = sym o ∙ (ap is_plain h ∙ n) in cc z
+pub not_ordinary : (x y : Point) → x ≡ y → is_ordinary x ≡ true → is_ordinary y ≡ false → ⊥
+not_ordinary x y h o n = let z : true ≡ false = sym o ∙ (ap is_ordinary h ∙ n) in cc z
 
 unsettled : (o : Option LastCommand) (last : LastCommand) → o ≡ None → o ≡ Some last → ⊥
 unsettled o last h k = let x : None ≡ Some last = sym h ∙ k in cc x
@@ -177,7 +177,7 @@ turned_is T faults m rest s t turn did =
     turn.desk (turn.place ∙ ap (λ (y : Point). to s.place y) did.goes)
 
 turn_follows : (T : Terms) (faults : List PlannedFault) (m : Machine) (rest : List Machine)
-    (s t : Stand SimCell Unkept) → IsPlain faults s → s.place.point ≡ Turning (m ∷ rest)
+    (s t : Stand SimCell Unkept) → IsOrdinary faults s → s.place.point ≡ Turning (m ∷ rest)
     → Turn AnswersSo AllKept T m rest s t → Follows T faults s t
 turn_follows T faults m rest s t c here turn =
     let done = turn.turned in let e = done.booked in
@@ -193,7 +193,7 @@ turn_follows T faults m rest s t c here turn =
     (record {
       faults = did.faults;
       settled = turn.pending ∙ c.settled;
-      point = ap (λ (a : Place). is_plain a.point) turn.place ∙ ap is_plain did.goes;
+      point = ap (λ (a : Place). is_ordinary a.point) turn.place ∙ ap is_ordinary did.goes;
       able = ap (λ (d : Desk). d.lost) turn.desk ∙ c.able;
     })
     (turned_is T faults m rest s t turn did
@@ -208,7 +208,7 @@ hands_did : (o : Option Act) (c d : SimCell) → Hands AnswersSo o c d
 hands_did None c d h = (ap (λ (x : SimCell). x.faults) h, ap (λ (x : SimCell). x.world) h)
 hands_did (Some a) c d h = (h.0, h.1.1)
 
-rests_follow : (T : Terms) (faults : List PlannedFault) (s t : Stand SimCell Unkept) → IsPlain faults s
+rests_follow : (T : Terms) (faults : List PlannedFault) (s t : Stand SimCell Unkept) → IsOrdinary faults s
     → s.place.point ≡ Turning [] → (s.desk.lost ≡ true) ⊎ (due_at T.limits s ≡ None)
     → t ≡ moved s s.cell (Serving 0) → Follows T faults s t
 rests_follow T faults s t c here (inl lost) h = let x : true ≡ false = sym lost ∙ c.able in cc x
@@ -217,12 +217,12 @@ rests_follow T faults s t c here (inr none) h =
     (record {
       faults = ap (λ (x : Stand SimCell Unkept). x.cell.faults) h ∙ c.faults;
       settled = ap (λ (x : Stand SimCell Unkept). x.pending) h ∙ c.settled;
-      point = ap (λ (x : Stand SimCell Unkept). is_plain x.place.point) h;
+      point = ap (λ (x : Stand SimCell Unkept). is_ordinary x.place.point) h;
       able = ap (λ (x : Stand SimCell Unkept). x.desk.lost) h ∙ c.able;
     })
     (ap moment_of h ∙ ap (served (moment_of s)) (sym none)) tt
 
-does_follow : (T : Terms) (faults : List PlannedFault) (s t : Stand SimCell Unkept) (a : Action) → IsPlain faults s
+does_follow : (T : Terms) (faults : List PlannedFault) (s t : Stand SimCell Unkept) (a : Action) → IsOrdinary faults s
     → s.place.point ≡ Turning [] → (books : Books AllKept T.limits (entry_of a) s t) → due_at T.limits s ≡ Some a
     → Hands AnswersSo (act_of (entry_of a)) s.cell t.cell → t.desk ≡ desk (left_after s.desk.lines) false
     → t.place ≡ to s.place (if_kept books.kept (Serving 0)) → Follows T faults s t
@@ -234,7 +234,7 @@ does_follow T faults s t a c here books due hands left there =
     (record {
       faults = did.0 ∙ c.faults;
       settled = books.pending ∙ c.settled;
-      point = ap (λ (x : Place). is_plain x.point) goes;
+      point = ap (λ (x : Place). is_ordinary x.point) goes;
       able = ap (λ (d : Desk). d.lost) left;
     })
     (same_moment (moment_of t) (served (moment_of s) (Some a)) did.1 books.now left goes
@@ -243,23 +243,23 @@ does_follow T faults s t a c here books due hands left there =
 -- THE MOVES
 
 -- the cell is asked, and the run goes on elsewhere in the round
-elsewhere : (T : Terms) (faults : List PlannedFault) (s t : Stand SimCell Unkept) (x y : Point) → IsPlain faults s
+elsewhere : (T : Terms) (faults : List PlannedFault) (s t : Stand SimCell Unkept) (x y : Point) → IsOrdinary faults s
     → s.place.point ≡ x → t ≡ moved s t.cell y → t.cell.faults ≡ s.cell.faults → t.cell.world ≡ s.cell.world
-    → is_plain y ≡ true → moment s.cell.world s.now s.desk (to s.place y) ≡ next_at T faults x (moment_of s)
+    → is_ordinary y ≡ true → moment s.cell.world s.now s.desk (to s.place y) ≡ next_at T faults x (moment_of s)
     → MayGoOn T x (moment_of s) → Follows T faults s t
 elsewhere T faults s t x y c here h f w o is may =
     follows_at T faults s t x here
     (record {
       faults = f ∙ c.faults;
       settled = ap (λ (u : Stand SimCell Unkept). u.pending) h ∙ c.settled;
-      point = ap (λ (u : Stand SimCell Unkept). is_plain u.place.point) h ∙ o;
+      point = ap (λ (u : Stand SimCell Unkept). is_ordinary u.place.point) h ∙ o;
       able = ap (λ (u : Stand SimCell Unkept). u.desk.lost) h ∙ c.able;
     })
     (same_moment (moment_of t) (moment s.cell.world s.now s.desk (to s.place y)) w
     (ap (λ (u : Stand SimCell Unkept). u.now) h) (ap (λ (u : Stand SimCell Unkept). u.desk) h)
     (ap (λ (u : Stand SimCell Unkept). u.place) h) ∙ is) may
 
-begins_follow : (T : Terms) (faults : List PlannedFault) (s t : Stand SimCell Unkept) (ok : Bool) → IsPlain faults s
+begins_follow : (T : Terms) (faults : List PlannedFault) (s t : Stand SimCell Unkept) (ok : Bool) → IsOrdinary faults s
     → s.place.point ≡ Between → s.place.rounds < T.plan.turns → t.cell.faults ≡ s.cell.faults → ok ≡ true
     → t.cell.world ≡ s.cell.world
     → t ≡ record s { cell = t.cell; place = place s.place.rounds s.now.journal (if_reached ok (Noting 0)) }
@@ -272,13 +272,13 @@ begins_follow T faults s t ok c here room f went w h =
     (record {
       faults = f ∙ c.faults;
       settled = ap (λ (u : Stand SimCell Unkept). u.pending) h ∙ c.settled;
-      point = ap (λ (x : Place). is_plain x.point) goes;
+      point = ap (λ (x : Place). is_ordinary x.point) goes;
       able = ap (λ (u : Stand SimCell Unkept). u.desk.lost) h ∙ c.able;
     })
     (same_moment (moment_of t) (next_at T faults Between (moment_of s)) w
     (ap (λ (u : Stand SimCell Unkept). u.now) h) (ap (λ (u : Stand SimCell Unkept). u.desk) h) goes) room
 
-closes_follow : (T : Terms) (faults : List PlannedFault) (s t : Stand SimCell Unkept) (ok : Bool) → IsPlain faults s
+closes_follow : (T : Terms) (faults : List PlannedFault) (s t : Stand SimCell Unkept) (ok : Bool) → IsOrdinary faults s
     → s.place.point ≡ Closing → GoesOn T s → t.cell.faults ≡ s.cell.faults → ok ≡ true
     → t.cell.world ≡ after_round s.cell.world → t ≡ record s { cell = t.cell; place = after_close s.place ok }
     → Follows T faults s t
@@ -289,14 +289,14 @@ closes_follow T faults s t ok c here on f went w h =
     (record {
       faults = f ∙ c.faults;
       settled = ap (λ (u : Stand SimCell Unkept). u.pending) h ∙ c.settled;
-      point = ap (λ (x : Place). is_plain x.point) goes;
+      point = ap (λ (x : Place). is_ordinary x.point) goes;
       able = ap (λ (u : Stand SimCell Unkept). u.desk.lost) h ∙ c.able;
     })
     (same_moment (moment_of t) (next_at T faults Closing (moment_of s)) w
     (ap (λ (u : Stand SimCell Unkept). u.now) h) (ap (λ (u : Stand SimCell Unkept). u.desk) h) goes)
     (λ same. on same c.settled)
 
-pub move_follows : (T : Terms) (faults : List PlannedFault) (s t : Stand SimCell Unkept) → IsPlain faults s
+pub move_follows : (T : Terms) (faults : List PlannedFault) (s t : Stand SimCell Unkept) → IsOrdinary faults s
     → Move AnswersSo AllKept T s t → Follows T faults s t
 move_follows T faults s t c (begins ok here room told h) =
     begins_follow T faults s t ok c here room told.0 told.1.0 told.1.1 h
@@ -309,9 +309,9 @@ move_follows T faults s t c (heard here h) =
     (ap (λ (u : Stand SimCell Unkept). u.cell.faults) h) (ap (λ (u : Stand SimCell Unkept). u.cell.world) h) refl refl
     tt
 move_follows T faults s t c (notes n done books here same left there) =
-    absurd (unplain s.place.point (Noted n done) here c.point refl)
+    absurd (not_ordinary s.place.point (Noted n done) here c.point refl)
 move_follows T faults s t c (rejects n done why here refused told h) =
-    absurd (unplain s.place.point (Noted n done) here c.point refl)
+    absurd (not_ordinary s.place.point (Noted n done) here c.point refl)
 move_follows T faults s t c (turns m rest here turn) = turn_follows T faults m rest s t c here turn
 move_follows T faults s t c (looks m rest last r here waits its told h) =
     absurd (unsettled s.pending last c.settled waits)
@@ -332,13 +332,13 @@ move_follows T faults s t c (asked here h) =
     (ap (λ (u : Stand SimCell Unkept). u.cell.faults) h) (ap (λ (u : Stand SimCell Unkept). u.cell.world) h) refl refl
     tt
 move_follows T faults s t c (denies n wish reply here denied h) =
-    absurd (unplain s.place.point (Wanted n wish) here c.point refl)
+    absurd (not_ordinary s.place.point (Wanted n wish) here c.point refl)
 move_follows T faults s t c (grants n done books here hands left there) =
-    absurd (unplain s.place.point (Wanted n (wish.For done)) here c.point refl)
+    absurd (not_ordinary s.place.point (Wanted n (wish.For done)) here c.point refl)
 move_follows T faults s t c (misses n done tries here left there) =
-    absurd (unplain s.place.point (Wanted n (wish.For done)) here c.point refl)
+    absurd (not_ordinary s.place.point (Wanted n (wish.For done)) here c.point refl)
 move_follows T faults s t c (replies n reply ok here told h) =
-    absurd (unplain s.place.point (Answering n reply) here c.point refl)
+    absurd (not_ordinary s.place.point (Answering n reply) here c.point refl)
 move_follows T faults s t c (closes ok here on told h) =
     closes_follow T faults s t ok c here on told.0 told.1.0 told.1.1 h
 
@@ -355,24 +355,24 @@ moves_of T s u (goes {t = t} before move) = let (n, m) = moves_of T s t before i
 
 -- a stand after so many moves, and the moment that it has
 pub record Reached (T : Terms) (faults : List PlannedFault) (n : ℕ) (s t : Stand SimCell Unkept) : Type 0 where
-  pub plain : IsPlain faults t
+  pub ordinary : IsOrdinary faults t
   pub is : moment_of t ≡ later T faults n (moment_of s)
 
 pub reached : (T : Terms) (faults : List PlannedFault) (s : Stand SimCell Unkept) (n : ℕ) (t : Stand SimCell Unkept)
-    → IsPlain faults s
+    → IsOrdinary faults s
     → Moves T s n t → Reached T faults n s t
-reached T faults s _ _ c none = record { plain = c; is = refl }
+reached T faults s _ _ c none = record { ordinary = c; is = refl }
 reached T faults s _ u c (more {n = n} {t = t} before move) =
     let was = reached T faults s n t c before in
-    let then = move_follows T faults t u was.plain move in
-    record { plain = then.plain; is = then.is ∙ ap (next T faults) was.is }
+    let then = move_follows T faults t u was.ordinary move in
+    record { ordinary = then.ordinary; is = then.is ∙ ap (next T faults) was.is }
 
-pub starts_plain : (cell : SimCell) (k : Unkept) (J : List Entry) (lines : List Line)
-    → IsPlain cell.faults (start cell k J lines None)
-starts_plain cell k J lines = record { faults = refl; settled = refl; point = refl; able = refl }
+pub starts_ordinary : (cell : SimCell) (k : Unkept) (J : List Entry) (lines : List Line)
+    → IsOrdinary cell.faults (start cell k J lines None)
+starts_ordinary cell k J lines = record { faults = refl; settled = refl; point = refl; able = refl }
 
 pub run_follows : RunFollows
 run_follows T cell k J lines s leads =
     let from = start cell k J lines None in
     let (n, moves) = moves_of T from s leads in
-    (n, (reached T cell.faults from n s (starts_plain cell k J lines) moves).is)
+    (n, (reached T cell.faults from n s (starts_ordinary cell k J lines) moves).is)
