@@ -82,12 +82,13 @@ pub lamp_does : (b : Belt) (c : Colour) (w : Simulated) → IsPlain w → after_
 unfolding after_command fails
 lamp_does b c w t = unlooked (Some (Lit b c)) (lit b c w) (lit_watch b c w ∙ t.unwatched)
 
-lit_counts : (b : Belt) (c : Colour) (w : Simulated) → (lit b c w).collisions ≡ w.collisions
+pub lit_counts : (b : Belt) (c : Colour) (w : Simulated) → (lit b c w).collisions ≡ w.collisions
 unfolding feed_lit
 lit_counts belt.Feed c w = refl
 lit_counts belt.Deposit c w = refl
 
-lit_rests : (J : List Entry) (c : Conveying) (b : Belt) (to : Colour) (x : Entry) (f : Option Following) (v : Simulated)
+pub lit_rests : (J : List Entry) (c : Conveying) (b : Belt) (to : Colour) (x : Entry) (f : Option Following)
+    (v : Simulated)
     → rests (belt_of c) x ≡ None → sends (belt_of c) x ≡ None → BeltRests J c f v
     → BeltRests (one_more J x) c f (lit b to v)
 lit_rests J c b to x f v rs sd t =
@@ -242,14 +243,14 @@ deposit_turns J p colour.Red f v g i st h =
     let n = not_already J belt.Deposit colour.Red g h.0 in
     record { rest = green_rests J p to_deposit_end f v i st (green_else (lamp_of J belt.Deposit) n); other = n }
 
-all_green : (f g a b n x : Bool) → f ≡ false → g ≡ true → a ≡ false → b ≡ false → n ≡ true
+pub all_green : (f g a b n x : Bool) → f ≡ false → g ≡ true → a ≡ false → b ≡ false → n ≡ true
     → green_where (not f && (g && (not a && (not b && (n || x))))) ≡ colour.Green
 all_green f g a b n x h i j k q = rw (h, i, j, k, q) refl
 
 three_green : (f g a : Bool) → f ≡ false → g ≡ true → a ≡ true → green_where (not f && (g && a)) ≡ colour.Green
 three_green f g a h i j = rw (h, i, j) refl
 
-less_test : (a b : ℕ) → a < b → nat_lt a b ≡ true
+pub less_test : (a b : ℕ) → a < b → nat_lt a b ≡ true
 less_test a b h = grind (arith, nat_tests)
 
 -- while a plate is laid in that isn't booked, the book wants the light green
@@ -368,7 +369,7 @@ deposit_lamp_leaves l J p s w to t r g k allow h =
 at_least : (n : ℕ) → n ≤ n
 at_least n = omega arith
 
-nowhere_yet : (J : List Entry) (t : Station) → Good J → is_plate (admitted_in J + 1) (Left J t) ≡ false
+pub nowhere_yet : (J : List Entry) (t : Station) → Good J → is_plate (admitted_in J + 1) (Left J t) ≡ false
 nowhere_yet J t g =
     let k = admitted_in J + 1 in
     not_true (is_plate k (Left J t)) (λ y.

@@ -136,7 +136,7 @@ no_motion J p to_feed_end h = rw h refl
 no_motion J p to_table h = rw h refl
 no_motion J p to_deposit_end h = rw h refl
 
-nothing_noted : (J : List Entry) (p : Plan) (c : Conveying) (f : Option Following) (w : Simulated)
+pub nothing_noted : (J : List Entry) (p : Plan) (c : Conveying) (f : Option Following) (w : Simulated)
     (r : Option Reading) → BeltRests J c f w → axis_noted J (machine_of c) p f r ≡ None
 nothing_noted J p c f w r t =
     let m = machine_of c in
@@ -184,7 +184,7 @@ fair_of J p c w fair h =
       limit = (fair (belt_of c) (name_of c)).1;
     }
 
-goes_stations : (J : List Entry) (p : Plan) (c : Conveying) (k : Plate) (g h : Given) (w : Simulated)
+pub goes_stations : (J : List Entry) (p : Plan) (c : Conveying) (k : Plate) (g h : Given) (w : Simulated)
     → next_given g ≡ Some h → StationsAsBooked J p w → StationsAsBooked J p (gone_to c k g w)
 goes_stations J p c k (none n) h w e t =
     stations_before J J p w (gone_to c k (none n) w) (λ b. refl) refl refl
@@ -318,7 +318,7 @@ laid_counts : (k : ℕ) (b : Bool) (w : Simulated) → (laid_in k b w).collision
 unfolding laid_in
 laid_counts k b w = put_counts k (full_belt_broke b w) ∙ full_counts b w
 
-hands_counts : (m : Machine) (w : Simulated) → (by_the_hands w m).collisions ≡ w.collisions
+pub hands_counts : (m : Machine) (w : Simulated) → (by_the_hands w m).collisions ≡ w.collisions
 unfolding plate_laid plate_taken
 hands_counts machine.Feed w =
     either (λ (v : Simulated). v.collisions)
@@ -330,7 +330,7 @@ hands_counts machine.Deposit w =
     (same_colour w.deposit_light colour.Green && has_plate w station.DepEnd) _ w w.collisions refl refl
 hands_counts m w = refl
 
-gone_counts : (c : Conveying) (k : Plate) (g : Given) (w : Simulated) → (gone_to c k g w).collisions ≡ w.collisions
+pub gone_counts : (c : Conveying) (k : Plate) (g : Given) (w : Simulated) → (gone_to c k g w).collisions ≡ w.collisions
 gone_counts c k (none n) w = refl
 gone_counts c k (one n) w = refl
 gone_counts c k (more n zero) w = refl

@@ -124,14 +124,14 @@ apart_leaves l J p m s w x t r g k calm n rs sd e st so =
 
 -- A MOTION IS BEGUN
 
-record Begins (J : List Entry) (c : Conveying) : Type 0 where
-  still : going_of J (belt_of c) ≡ None
-  red : lamp_of J (lamp_at c) ≡ colour.Red
-  plate : ℕ
-  full : Left J (from_of c) ≡ Some plate
-  empty : Left J (dest_of c) ≡ None
+pub record Begins (J : List Entry) (c : Conveying) : Type 0 where
+  pub still : going_of J (belt_of c) ≡ None
+  pub red : lamp_of J (lamp_at c) ≡ colour.Red
+  pub plate : ℕ
+  pub full : Left J (from_of c) ≡ Some plate
+  pub empty : Left J (dest_of c) ≡ None
 
-begins_by : (J : List Entry) (c : Conveying) → Good J
+pub begins_by : (J : List Entry) (c : Conveying) → Good J
     → Passed (started_tests (situation_in (after J)) (belt_of c) (name_of c)) → Begins J c
 begins_by J to_feed_end g h =
     let s = after J in let full = occupied s station.FeedIn h.1.0 in
@@ -309,14 +309,14 @@ ending_as J to_deposit_end k h =
 
 -- WHAT A BELT'S MACHINE WANTS
 
-abbrev BeltKind : Machine → Entry → Type 0
+abbrev pub BeltKind : Machine → Entry → Type 0
 BeltKind m (Lamp b to) = machine_of_belt b ≡ m
 BeltKind m (Started a to) = (c : Conveying) × (machine_of c ≡ m) × (a ≡ belt_of c) × (to ≡ name_of c)
 BeltKind m (Claimed n z) = Unit {0}
 BeltKind m (Yielded n z) = Unit {0}
 BeltKind m _ = ⊥
 
-belt_kind : (l : BookLimits) (c : Situation) (plan : ℕ) (m : Machine) (e : Entry) → has_belt m ≡ true
+pub belt_kind : (l : BookLimits) (c : Situation) (plan : ℕ) (m : Machine) (e : Entry) → has_belt m ≡ true
     → wants l c plan m e ≡ true → BeltKind m e
 belt_kind l c plan machine.Table e b h = let x : false ≡ true = b in cc x
 belt_kind l c plan machine.Robot e b h = let x : false ≡ true = b in cc x
@@ -499,7 +499,7 @@ signed_leaves l J p machine.Press2 s w e t r g h d allow = let x : false ≡ tru
 
 -- A TURN
 
-proposed_leaves : (l : BookLimits) (J : List Entry) (p : Plan) (m : Machine) (s : Mind) (w : Simulated)
+pub proposed_leaves : (l : BookLimits) (J : List Entry) (p : Plan) (m : Machine) (s : Mind) (w : Simulated)
     (e : Option Entry) → AtBelt l J p m s w → IsRead J p m (Noted J p m s w) (after_reading w m) → Good J
     → IsProposed l J m p.plates e → Free l J e → Turned J p m s w e
 proposed_leaves l J p m s w None t r g d allow = none_leaves l J p m s w t r

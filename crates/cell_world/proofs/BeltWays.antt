@@ -197,7 +197,7 @@ abbrev pub EndsStay : List Entry → Plan → Machine → Option Following → S
 EndsStay J p m f w v =
     (c : Conveying) (k : Plate) (g : Given) → machine_of c ≡ m → BeltGoes J p c k g f w → EndsAsBefore c w v
 
-belt_owned : (c : Conveying) → machine_of_axis (belt_of c) ≡ machine_of c
+pub belt_owned : (c : Conveying) → machine_of_axis (belt_of c) ≡ machine_of c
 belt_owned to_feed_end = refl
 belt_owned to_table = refl
 belt_owned to_deposit_end = refl

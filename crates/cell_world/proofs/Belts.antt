@@ -146,7 +146,7 @@ shown_belt J p c k g f w t =
     ∙ ap (λ (v : Simulated). Some (shown_now v m)) (read_belt c k g w t.plain.unwatched t.goes t.here t.empty))
 
 -- the belt's motion and the plates then
-moves_then : (c : Conveying) (k : Plate) (g : Given) (w : Simulated) → IsPlain w
+pub moves_then : (c : Conveying) (k : Plate) (g : Given) (w : Simulated) → IsPlain w
     → (axis_at (gone_to c k g w) (belt_of c)).motion
     ≡ Some (motion_along (path_with c k) (further_of g) (phase_then g))
 moves_then c k (none n) w t =
@@ -163,13 +163,13 @@ ends_apart to_feed_end = omega arith
 ends_apart to_table = omega arith
 ends_apart to_deposit_end = omega arith
 
-end_then : (c : Conveying) (k : Plate) (n : ℕ) (w : Simulated) → IsPlain w → plate_here w (from_of c) ≡ Some k
+pub end_then : (c : Conveying) (k : Plate) (n : ℕ) (w : Simulated) → IsPlain w → plate_here w (from_of c) ≡ Some k
     → plate_here (gone_to c k (more n 0) w) (dest_of c) ≡ Some k
 end_then c k n w t a =
     let v = with_motion (belt_of c) (Some (motion_along (path_with c k) (n + 0) Arrived)) w in
     here_now (dest_of c) (plate_here w (from_of c)) (with_plate (from_of c) None v) (length-set _ _ _ ∙ t.stations) ∙ a
 
-in_then : (c : Conveying) (k : Plate) (n : ℕ) (w : Simulated) → IsPlain w
+pub in_then : (c : Conveying) (k : Plate) (n : ℕ) (w : Simulated) → IsPlain w
     → plate_here (gone_to c k (more n 0) w) (from_of c) ≡ None
 in_then c k n w t =
     let v = with_motion (belt_of c) (Some (motion_along (path_with c k) (n + 0) Arrived)) w in

@@ -45,22 +45,22 @@ use Rattle.cell_world.proofs.Wanted.{wanted_more}
 
 -- THE WORLD
 
-abbrev cleared : Station → Simulated → Simulated
+abbrev pub cleared : Station → Simulated → Simulated
 cleared s w = count_removed s (with_plate s None w)
 
-if_so : {X : Type 0} (b : Bool) (x y : X) → b ≡ true → (if b then x else y) ≡ x
+pub if_so : {X : Type 0} (b : Bool) (x y : X) → b ≡ true → (if b then x else y) ≡ x
 if_so true x y h = refl
 if_so false x y h = cc h
 
-clear_does : (s : Station) (w : Simulated) → has_plate w s ≡ true → after_remove s w ≡ cleared s w
+pub clear_does : (s : Station) (w : Simulated) → has_plate w s ≡ true → after_remove s w ≡ cleared s w
 unfolding after_remove
 clear_does s w h = if_so (has_plate w s) (cleared s w) _ h
 
-cleared_plain : (s : Station) (w : Simulated) → IsPlain w → IsPlain (cleared s w)
+pub cleared_plain : (s : Station) (w : Simulated) → IsPlain w → IsPlain (cleared s w)
 cleared_plain s w t =
     record { unwatched = t.unwatched; axes = t.axes; stations = length-set _ _ _ ∙ t.stations }
 
-other_here : (s u : Station) (w : Simulated) → station_number u ≢ station_number s
+pub other_here : (s u : Station) (w : Simulated) → station_number u ≢ station_number s
     → plate_here (cleared s w) u ≡ plate_here w u
 other_here s u w d = here_before s u None w d
 
@@ -73,7 +73,7 @@ belt_apart s u b c =
 
 -- THE STATIONS, IN THE BOOK AND IN THE WORLD
 
-cleared_booked : (J : List Entry) (k : ℕ) (s u : Station) (w : Simulated) → Good J
+pub cleared_booked : (J : List Entry) (k : ℕ) (s u : Station) (w : Simulated) → Good J
     → Good (one_more J (Quarantined k s)) → IsPlain w → Left J s ≡ Some k → HasBooked J w u
     → HasBooked (one_more J (Quarantined k s)) (cleared s w) u
 cleared_booked J k s u w g g' t there h =
@@ -98,7 +98,7 @@ laid_as K p w v (inl z) = inl (record { plate = z.plate; count = z.count })
 laid_as K p w v (inr z) =
     inr (record { green = z.green; plate = z.plate; count = z.count; planned = z.planned })
 
-laying_as : (K : List Entry) (p : Plan) (w v : Simulated) → GreenIsWanted K p → LayingAsBooked K p (as_counted w v)
+pub laying_as : (K : List Entry) (p : Plan) (w v : Simulated) → GreenIsWanted K p → LayingAsBooked K p (as_counted w v)
     → LayingAsBooked K p v
 laying_as K p w v wanted t =
     record {
@@ -154,7 +154,7 @@ dest_here to_table s w b n e =
     each_station (λ (u : Station). plate_here w u ≡ None → plate_here (cleared s w) u ≡ plate_here w u) s station.Table
     (λ h. absurd (n h)) (λ d h. other_here s station.Table w d) e
 
-cleared_light : (c : Conveying) (s : Station) (w : Simulated) → light_of c (cleared s w) ≡ light_of c w
+pub cleared_light : (c : Conveying) (s : Station) (w : Simulated) → light_of c (cleared s w) ≡ light_of c w
 cleared_light to_feed_end s w = refl
 cleared_light to_table s w = refl
 cleared_light to_deposit_end s w = refl

@@ -55,7 +55,7 @@ then_still : (x y z : AxisInWorld) → IsAsStill x y → IsAsStill y z → IsAsS
 then_still x y z s t =
     record { pose = t.pose ∙ s.pose; read = t.read ∙ s.read; still = λ h. t.still (s.still h) }
 
-it_stopped : (a : Axis) (w : Simulated) → IsPlain w → axis_at (axis_stopped a w) a ≡ stopped (axis_at w a)
+pub it_stopped : (a : Axis) (w : Simulated) → IsPlain w → axis_at (axis_stopped a w) a ≡ stopped (axis_at w a)
 it_stopped a w t = at_same w a (stopped (axis_at w a)) (below_nine a (length w.axes) t.axes)
 
 one_stopped : (a b : Axis) (w : Simulated) → IsPlain w → IsAsStill (axis_at w b) (axis_at (axis_stopped a w) b)
@@ -219,7 +219,7 @@ StandsStill m w =
     (a : Axis) → machine_of_axis a ≡ m
     → (moves (axis_at w a).motion ≡ false) × (is_silent_in (axis_at w a).motion ≡ false)
 
-none_silent : (m : Machine) (w : Simulated) → StandsStill m w → is_reading_missing w m ≡ false
+pub none_silent : (m : Machine) (w : Simulated) → StandsStill m w → is_reading_missing w m ≡ false
 none_silent machine.Feed w h = let x = (h axis.FeedBelt refl).1 in rw x refl
 none_silent machine.Table w h =
     let x = (h axis.TableLift refl).1 in let y = (h axis.TableTurn refl).1 in rw (x, y) refl
@@ -234,7 +234,7 @@ stay : (a : Axis) (w : Simulated) → moves (axis_at w a).motion ≡ false → a
 unfolding advanced
 stay a w h = unless (moves (axis_at w a).motion) _ w h
 
-all_stay : (m : Machine) (w : Simulated) → StandsStill m w → in_turn advanced (axes_of m) w ≡ w
+pub all_stay : (m : Machine) (w : Simulated) → StandsStill m w → in_turn advanced (axes_of m) w ≡ w
 all_stay machine.Feed w h = stay axis.FeedBelt w (h axis.FeedBelt refl).0
 all_stay machine.Table w h =
     ap (λ (v : Simulated). advanced axis.TableTurn v) (stay axis.TableLift w (h axis.TableLift refl).0)

@@ -17,12 +17,14 @@ use Rattle.cell_types.specs.declared.words.Entry.{Entry}
 use Rattle.cell_types.specs.declared.words.Entry.TheVariants.{Gripped, Dropped}
 use Rattle.cell_types.specs.After.{after}
 use Rattle.cell_types.specs.Cell.{Faced, axis_of_arm, drops_at, faced, grips_at, station_of_arm}
+use Rattle.cell_types.specs.Cell.{machine_of_station}
 use Rattle.cell_types.specs.Same.{same_pose}
 use Rattle.cell_rules.specs.declared.refusal.Refusal.{Refusal}
 use Rattle.cell_rules.specs.First.{handing_tests, is_faced, neighbour_tests}
 use Rattle.cell_rules.specs.Legal.{allowed}
 use Rattle.cell_rules.specs.SituationIn.{situation_in}
 use Rattle.cell_rules.specs.Views.{at_of, plate_of}
+use Rattle.cell_rules.specs.Views.{is_failed}
 use Rattle.cell_rules.proofs.Safe.Bridge.{Good, good_passed, good_step, good_when_legal}
 use Rattle.cell_rules.proofs.Safe.Facts.{Passed, free, no_other, not_false, occupied, resting}
 use Rattle.cell_rules.proofs.Safe.Facts.{station_same}
@@ -91,6 +93,23 @@ drops_there l J x k s g h =
     let ok : allowed l J (Dropped x k s) ≡ true = ap (λ (o : Option Refusal). is_none o) h in
     neighbour (drops_at x s) (handing_tests (situation_in (after J)) x s (station_of_arm x) s k)
     (good_passed l J (Dropped x k s) g ok).1.1
+
+-- the machine at which it does so is healthy
+pub grips_healthy : (l : BookLimits) (J : List Entry) (x : Arm) (k : ℕ) (s : Station) → Good J
+    → first_of l J (Gripped x k s) ≡ None → is_failed J (machine_of_station s) ≡ false
+grips_healthy l J x k s g h =
+    let ok : allowed l J (Gripped x k s) ≡ true = ap (λ (o : Option Refusal). is_none o) h in
+    g.agrees.failed (machine_of_station s)
+    ∙ (neighbours (grips_at x s) (handing_tests (situation_in (after J)) x s s (station_of_arm x) k)
+    (good_passed l J (Gripped x k s) g ok).1.1).0
+
+pub drops_healthy : (l : BookLimits) (J : List Entry) (x : Arm) (k : ℕ) (s : Station) → Good J
+    → first_of l J (Dropped x k s) ≡ None → is_failed J (machine_of_station s) ≡ false
+drops_healthy l J x k s g h =
+    let ok : allowed l J (Dropped x k s) ≡ true = ap (λ (o : Option Refusal). is_none o) h in
+    g.agrees.failed (machine_of_station s)
+    ∙ (neighbours (drops_at x s) (handing_tests (situation_in (after J)) x s (station_of_arm x) s k)
+    (good_passed l J (Dropped x k s) g ok).1.1).0
 
 -- so the station is before the arm in the world
 before_there : (J : List Entry) (w : Simulated) (x : Arm) (at from to : Station) (k : ℕ) → RobotStands J w

@@ -127,7 +127,7 @@ by_first : {a : Option Ruling} (b c d v q e g : Option Ruling) (k : Ruling) → 
     → first_ruling (a ∷ b ∷ c ∷ d ∷ v ∷ q ∷ e ∷ g ∷ Some Proposes ∷ []) ≡ k
 by_first b c d v q e g k ha = rw ha refl
 
-ruled_stop : (J : List Entry) (p : Plan) (m : Machine) (s : Mind) (r : Option Reading) → is_failed J m ≡ false
+pub ruled_stop : (J : List Entry) (p : Plan) (m : Machine) (s : Mind) (r : Option Reading) → is_failed J m ≡ false
     → s.memory.command_failed ≡ false → is_asked J m ≡ true
     → ruling J m p s r ≡ Books (Declared m cause.OperatorStop)
 unfolding ruling
@@ -136,12 +136,12 @@ ruled_stop J p m s r healthy obeyed h =
     (when_no s.memory.command_failed (declares m cause.CommandFault) obeyed)
     (ap (λ (x : Bool). when x (declares m cause.OperatorStop)) h)
 
-ruled_nothing : (J : List Entry) (p : Plan) (m : Machine) (s : Mind) (r : Option Reading) → is_failed J m ≡ true
+pub ruled_nothing : (J : List Entry) (p : Plan) (m : Machine) (s : Mind) (r : Option Reading) → is_failed J m ≡ true
     → ruling J m p s r ≡ Nothing
 unfolding ruling
 ruled_nothing J p m s r h = by_first _ _ _ _ _ _ _ Nothing (ap (λ (x : Bool). when x Nothing) h)
 
-by_fourth : {a b c d : Option Ruling} (v q e g : Option Ruling) (k : Ruling) → a ≡ None → b ≡ None → c ≡ None
+pub by_fourth : {a b c d : Option Ruling} (v q e g : Option Ruling) (k : Ruling) → a ≡ None → b ≡ None → c ≡ None
     → d ≡ Some k → first_ruling (a ∷ b ∷ c ∷ d ∷ v ∷ q ∷ e ∷ g ∷ Some Proposes ∷ []) ≡ k
 by_fourth v q e g k ha hb hc hd = rw (ha, hb, hc, hd) refl
 
@@ -156,12 +156,12 @@ ruled_anew J p m s w r t h =
 
 -- WHAT IS KEPT OF A TURN
 
-failed_after : (J : List Entry) (p : Plan) (m : Machine) (s : Mind) (r : Option Reading) (e : Option Entry)
+pub failed_after : (J : List Entry) (p : Plan) (m : Machine) (s : Mind) (r : Option Reading) (e : Option Entry)
     → (mind_after J m p s r e).memory.failed ≡ is_failed (J ++ option_to_list e) m
 unfolding mind_after
 failed_after J p m s r e = refl
 
-obeyed_after : (J : List Entry) (p : Plan) (m : Machine) (s : Mind) (r : Option Reading) (e : Option Entry)
+pub obeyed_after : (J : List Entry) (p : Plan) (m : Machine) (s : Mind) (r : Option Reading) (e : Option Entry)
     → s.memory.command_failed ≡ false → (mind_after J m p s r e).memory.command_failed ≡ false
 unfolding mind_after
 obeyed_after J p m s r e h = ap (λ (x : Bool). is_none e && x) h ∙ and_false (is_none e)
@@ -226,7 +226,7 @@ stands_more : (J : List Entry) (m : Machine) (a : Axis) (q : Pose) → StandsAs 
 stands_more J m a q (inl h) = inl (h ∙ sym (at_before J (Declared m cause.OperatorStop) a refl))
 stands_more J m a q (inr g) = inr (going_before J (Declared m cause.OperatorStop) a refl ∙ g)
 
-declared_failed : (J : List Entry) (m : Machine) → is_failed (one_more J (Declared m cause.OperatorStop)) m ≡ true
+pub declared_failed : (J : List Entry) (m : Machine) → is_failed (one_more J (Declared m cause.OperatorStop)) m ≡ true
 declared_failed J m =
     view_snoc (fails m) false J (Declared m cause.OperatorStop)
     ∙ ap (λ (b : Bool). unwrap_or (when b true) (is_failed J m)) (same_machines m)
@@ -343,19 +343,19 @@ anew : (J : List Entry) (m : Machine) (s : Mind) (w : Simulated) → IsRepaired 
     → begins_anew J m s.memory ≡ true
 anew J m s w t h = let a = t.was_failed in let b = t.healthy in let c = t.was_obeyed in rw (a, b, c, h) refl
 
-first_axis : (J : List Entry) (p : Plan) (m : Machine) (w : Simulated) (r : Option Reading) (e : Option Entry)
+pub first_axis : (J : List Entry) (p : Plan) (m : Machine) (w : Simulated) (r : Option Reading) (e : Option Entry)
     → axis_noted J m p None r ≡ None → (mind_after J m p (first_mind J m) r e).axis ≡ None
 unfolding mind_after
 first_axis J p m w r e h =
     none_if (begins_anew J m (first_mind J m).memory || ends_motion e) (axis_noted J m p None r) h
 
-anew_axis : (J : List Entry) (p : Plan) (m : Machine) (s : Mind) (r : Option Reading) (e : Option Entry)
+pub anew_axis : (J : List Entry) (p : Plan) (m : Machine) (s : Mind) (r : Option Reading) (e : Option Entry)
     → begins_anew J m s.memory ≡ true → (mind_after J m p s r e).axis ≡ None
 unfolding mind_after
 anew_axis J p m s r e h =
     ap (λ (x : Bool). if x || ends_motion e then None else axis_noted J m p s.axis r) h
 
-anew_rest : (J : List Entry) (p : Plan) (m : Machine) (s : Mind) (r : Option Reading) (e : Option Entry)
+pub anew_rest : (J : List Entry) (p : Plan) (m : Machine) (s : Mind) (r : Option Reading) (e : Option Entry)
     → begins_anew J m s.memory ≡ true → rest (mind_after J m p s r e).rest ≡ Pending
 unfolding mind_after
 anew_rest J p m s r e h =
@@ -525,7 +525,7 @@ cell_by l J p minds w m e false b t o =
       legal = t.legal;
       fair = t.fair;
       as_booked = c;
-      plates = t.stations.within;
+      plates = λ u h f. t.stations.within u h;
       robot = robot_of l J p minds w t;
     }) t.legal o.decided o.allowed in (
       record {
@@ -658,11 +658,11 @@ to_rest o = option_map (λ _. None) o
 repaired_it : (a : Axis) (m : Machine) → machine_of_axis a ≡ m → same_machine (machine_of_axis a) m ≡ true
 repaired_it a m e = ap (λ (n : Machine). same_machine (machine_of_axis a) n) (sym e) ∙ same_machines (machine_of_axis a)
 
-at_home : (J : List Entry) (m : Machine) (a : Axis) → machine_of_axis a ≡ m
+pub at_home : (J : List Entry) (m : Machine) (a : Axis) → machine_of_axis a ≡ m
     → at_of (one_more J (Repaired m)) a ≡ home a
 at_home J m a e = at_now J (Repaired m) a (home a) (ap (λ (b : Bool). when b (home a)) (repaired_it a m e))
 
-still_home : (J : List Entry) (m : Machine) (a : Axis) → machine_of_axis a ≡ m
+pub still_home : (J : List Entry) (m : Machine) (a : Axis) → machine_of_axis a ≡ m
     → going_of (one_more J (Repaired m)) a ≡ None
 still_home J m a e =
     going_now J (Repaired m) a None
@@ -696,7 +696,7 @@ home_spares J m n w t d =
       axes = λ a i. other_home m a w (λ e. d (sym e ∙ i));
     }
 
-repaired_healthy : (J : List Entry) (m : Machine) → is_failed (one_more J (Repaired m)) m ≡ false
+pub repaired_healthy : (J : List Entry) (m : Machine) → is_failed (one_more J (Repaired m)) m ≡ false
 repaired_healthy J m =
     view_snoc (fails m) false J (Repaired m)
     ∙ ap (λ (b : Bool). unwrap_or (when b false) (is_failed J m)) (same_machines m)

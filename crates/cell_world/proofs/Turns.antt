@@ -75,7 +75,7 @@ use Rattle.cell_world.proofs.Long.{fair_then, reading_long}
 use Rattle.cell_world.proofs.Ends.{SparesEnds, dropped_spares, gripped_spares, read_spares_ends, spares_same}
 use Rattle.cell_world.proofs.Ends.{spares_then, started_part, started_spares}
 use Rattle.cell_world.proofs.Entries.{at_before, going_before}
-use Rattle.cell_world.proofs.Hands.{drops, drops_there, grips, grips_there}
+use Rattle.cell_world.proofs.Hands.{drops, drops_healthy, drops_there, grips, grips_healthy, grips_there}
 use Rattle.cell_world.proofs.Machines.{rests_read}
 use Rattle.cell_world.proofs.Machines.{machine_ends, machine_goes, machine_starts, no_belt, tied_stands}
 use Rattle.cell_world.proofs.Plates.{Left, told_left}
@@ -226,7 +226,7 @@ agreed_then : (l : BookLimits) (J : List Entry) (p : Plan) (m : Machine) (s : Mi
 agreed_then l J p m s w b t =
     let c = t.as_booked in
     agrees_pending s.rest _ c.agreed (reading_agrees J p m s.axis w (is_unvisited J m s.memory) b c.tied
-    (λ u e. t.plates u (within_of u (ap has_belt e ∙ b))))
+    (λ u e. t.plates u (within_of u (ap has_belt e ∙ b)) (ap (λ (n : Machine). is_failed J n) e ∙ c.healthy)))
 
 pub as_booked_then : {T : Type 0} (J K : List Entry) (p : Plan) (m : Machine) (s : Mind) (r : Option Reading)
     (e : Option Entry) (Tie : Option Following → Type 0) → AsBooked J m s T → Agreed J m s r
@@ -352,9 +352,10 @@ record AtEntry (l : BookLimits) (J : List Entry) (p : Plan) (m : Machine) (s : M
   tied : IsTied J p m (Noted J p m s w) (after_reading w m)
 
 booked_then : (l : BookLimits) (J : List Entry) (p : Plan) (m : Machine) (s : Mind) (w : Simulated) (u : Station)
-    → AtEntry l J p m s w → is_within u ≡ true → HasBooked J (after_reading w m) u
-booked_then l J p m s w u t h =
-    leaves_plates J p m s.axis w t.belt t.begins.as_booked.tied u ∙ t.begins.plates u h
+    → AtEntry l J p m s w → is_within u ≡ true → is_failed J (machine_of_station u) ≡ false
+    → HasBooked J (after_reading w m) u
+booked_then l J p m s w u t h f =
+    leaves_plates J p m s.axis w t.belt t.begins.as_booked.tied u ∙ t.begins.plates u h f
 
 abbrev LeftBy : List Entry → Plan → Machine → Mind → Simulated → Entry → Type 0
 LeftBy J p m s w x =
@@ -421,21 +422,27 @@ within_drops arm.Arm2 station.FeedIn h = h
 within_drops arm.Arm2 station.DepEnd h = h
 within_drops x u h = refl
 
+arm_healthy : {T : Type 0} (J : List Entry) (m : Machine) (s : Mind) (x : Arm) → m ≡ machine.Robot → AsBooked J m s T
+    → is_failed J (machine_of_station (station_of_arm x)) ≡ false
+arm_healthy J m s arm.Arm1 r t = ap (λ (n : Machine). is_failed J n) (sym r) ∙ t.healthy
+arm_healthy J m s arm.Arm2 r t = ap (λ (n : Machine). is_failed J n) (sym r) ∙ t.healthy
+
 within_arm : (x : Arm) → is_within (station_of_arm x) ≡ true
 within_arm arm.Arm1 = refl
 within_arm arm.Arm2 = refl
 
 handed_ready : (l : BookLimits) (J : List Entry) (p : Plan) (m : Machine) (s : Mind) (w : Simulated) (x : Arm)
     (u : Station) (e : Entry) → AtEntry l J p m s w → m ≡ machine.Robot → first_of l J e ≡ None → is_within u ≡ true
-    → IsHanded l J (after_reading w m) x u e
-handed_ready l J p m s w x u e t r free h =
+    → is_failed J (machine_of_station u) ≡ false → IsHanded l J (after_reading w m) x u e
+handed_ready l J p m s w x u e t r free h o =
     record {
       legal = t.begins.legal;
       allowed = free;
       plain = tied_plain J p m (Noted J p m s w) (after_reading w m) t.tied;
       stands = λ a i. tied_stands J p m (Noted J p m s w) (after_reading w m) t.tied a (i ∙ sym r);
-      arm = booked_then l J p m s w (station_of_arm x) t (within_arm x);
-      there = booked_then l J p m s w u t h;
+      arm = booked_then l J p m s w (station_of_arm x) t (within_arm x)
+          (arm_healthy J m s x r t.begins.as_booked);
+      there = booked_then l J p m s w u t h o;
     }
 
 kind_leaves : (l : BookLimits) (J : List Entry) (p : Plan) (m : Machine) (s : Mind) (w : Simulated) (x : Entry)
@@ -451,12 +458,12 @@ kind_leaves l J p m s w (Yielded n z) t g k free h =
     (moves_none J (Yielded n z) v g k (tied_plain J p m (Noted J p m s w) v t.tied) refl refl) (spares_same J v v refl)
 kind_leaves l J p m s w (Gripped x j u) t g k free h =
     let i = within_grips x u (grips_there l J x j u g free) in
-    let h = handed_ready l J p m s w x u (Gripped x j u) t h free i in
+    let h = handed_ready l J p m s w x u (Gripped x j u) t h free i (grips_healthy l J x j u g free) in
     apart_leaves l J p m s w (Gripped x j u) t (record { unfailed = refl; unasked = refl }) (λ a. refl) (λ a. refl) refl
     (grips l J (after_reading w m) x j u h) (gripped_spares l J (after_reading w m) x j u g h)
 kind_leaves l J p m s w (Dropped x j u) t g k free h =
     let i = within_drops x u (drops_there l J x j u g free) in
-    let h = handed_ready l J p m s w x u (Dropped x j u) t h free i in
+    let h = handed_ready l J p m s w x u (Dropped x j u) t h free i (drops_healthy l J x j u g free) in
     apart_leaves l J p m s w (Dropped x j u) t (record { unfailed = refl; unasked = refl }) (λ a. refl) (λ a. refl) refl
     (drops l J (after_reading w m) x j u h) (dropped_spares l J (after_reading w m) x j u g h)
 kind_leaves l J p m s w x t g k free h = absurd h

@@ -78,7 +78,7 @@ switch_begins l J p minds w m b t =
       legal = t.legal;
       fair = t.fair;
       as_booked = t.switches m b;
-      plates = t.stations.within;
+      plates = λ u h f. t.stations.within u h;
       robot = robot_stands l J p minds w t;
     }
 

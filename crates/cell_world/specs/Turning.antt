@@ -4,6 +4,7 @@ use Rattle.cell_types.specs.declared.words.Machine.{Machine}
 use Rattle.cell_types.specs.declared.words.Station.{Station}
 use Rattle.cell_types.specs.declared.words.Station.TheVariants as station
 use Rattle.cell_types.specs.declared.words.Entry.{Entry}
+use Rattle.cell_types.specs.Cell.{machine_of_station}
 use Rattle.cell_rules.specs.declared.limits.BookLimits.{BookLimits}
 use Rattle.cell_rules.specs.Legal.{first_of, legal}
 use Rattle.cell_rules.specs.Views.{is_asked, is_failed}
@@ -38,13 +39,13 @@ is_within station.FeedIn = false
 is_within station.DepEnd = false
 is_within _ = true
 
--- what a turn of it begins with
+-- what a turn of it begins with: the stations of machines that failed needn't be as booked
 pub record TurnBegins (l : BookLimits) (J : List Entry) (p : Plan) (m : Machine) (s : Mind) (w : Simulated) : Type 0
   where
     pub legal : legal l J ≡ true
     pub fair : IsFairPlan p w
     pub as_booked : IsAsBooked J p m s w
-    pub plates : (t : Station) → is_within t ≡ true → HasBooked J w t
+    pub plates : (t : Station) → is_within t ≡ true → is_failed J (machine_of_station t) ≡ false → HasBooked J w t
     pub robot : RobotMayStand J w
 
 -- the world after a turn that read the machine and booked this
