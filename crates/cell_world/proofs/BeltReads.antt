@@ -130,7 +130,7 @@ pub after_still : (J : List Entry) (c : Conveying) (f : Option Following) (w : S
 unfolding after_reading
 after_still J c f w t = read_still c (by_the_hands w (machine_of c)) (rests_by_hand J c f w t).still
 
-no_motion : (J : List Entry) (p : Plan) (c : Conveying) → going_of J (belt_of c) ≡ None
+pub no_motion : (J : List Entry) (p : Plan) (c : Conveying) → going_of J (belt_of c) ≡ None
     → motion_of_machine J p (machine_of c) ≡ None
 no_motion J p to_feed_end h = rw h refl
 no_motion J p to_table h = rw h refl
@@ -287,7 +287,7 @@ still_agrees J p c f w u st t =
     (λ s e l. ap (λ (a : Axis). senses v a s) (its_axis c)
     ∙ (ap (λ (o : Option Moving). senses_by v o s) h.still ∙ looked_there J p v s booked l))
 
-tied_agrees : (J : List Entry) (p : Plan) (m : Machine) (f : Option Following) (w : Simulated) (u : Bool)
+pub tied_agrees : (J : List Entry) (p : Plan) (m : Machine) (f : Option Following) (w : Simulated) (u : Bool)
     → has_belt m ≡ true → StationsAsBooked J p w → IsBeltTied J p m f w → ReadingAgreesAt J m u w
 tied_agrees J p m f w u b st (inl t) =
     subst (λ (x : Machine). ReadingAgreesAt J x u w) (way_is m b) (still_agrees J p (way_of m) f w u st t)

@@ -48,7 +48,7 @@ no_belt a m e h = no_belt_of a (ap has_belt e ∙ h)
 abbrev AllRest : List Entry → Machine → Simulated → Type 0
 AllRest J m w = (a : Axis) → machine_of_axis a ≡ m → IsAtRest J w a
 
-no_motion : (J : List Entry) (p : Plan) (m : Machine) (w : Simulated) → has_belt m ≡ false → AllRest J m w
+pub no_motion : (J : List Entry) (p : Plan) (m : Machine) (w : Simulated) → has_belt m ≡ false → AllRest J m w
     → motion_of_machine J p m ≡ None
 no_motion J p machine.Feed w b r = cc b
 no_motion J p machine.Deposit w b r = cc b

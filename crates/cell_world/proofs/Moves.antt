@@ -81,7 +81,7 @@ pub record HoldsOn (T : Terms) (H : Holding) : Type 0 where
 
 -- THE SIX MINDS
 
-mind_put : (s : Six Mind) (m n : Machine) (x : Mind) → with_mind m x (at s) n ≡ at (put s m x) n
+pub mind_put : (s : Six Mind) (m n : Machine) (x : Mind) → with_mind m x (at s) n ≡ at (put s m x) n
 mind_put s machine.Feed machine.Feed x = refl
 mind_put s machine.Feed n x = refl
 mind_put s machine.Table machine.Table x = refl
@@ -179,7 +179,7 @@ unasked T H s t point h o c =
 
 -- A TURN
 
-kept_so : (e : Option Entry) (kept : Bool) (k j : Unkept) → Keeps AllKept e kept k j → kept ≡ true
+pub kept_so : (e : Option Entry) (kept : Bool) (k j : Unkept) → Keeps AllKept e kept k j → kept ≡ true
 kept_so None kept k j (same, told) = told
 kept_so (Some x) kept k j h = h
 
@@ -279,7 +279,7 @@ acted T H s t a on books next hands desk place c =
 not_his : (point other : Point) → point ≡ other → is_his point ≡ false → is_his other ≡ true → ⊥
 not_his point other h o y = let x : true ≡ false = sym y ∙ (ap is_his (sym h) ∙ o) in cc x
 
-none_pending : (o : Option LastCommand) (last : LastCommand) → o ≡ None → o ≡ Some last → ⊥
+pub none_pending : (o : Option LastCommand) (last : LastCommand) → o ≡ None → o ≡ Some last → ⊥
 none_pending o last h k = let x : None ≡ Some last = sym h ∙ k in cc x
 
 if_there : (ok : Bool) (point : Point) → ok ≡ true → is_his point ≡ false → is_his (if_reached ok point) ≡ false

@@ -30,7 +30,7 @@ use Rattle.cell_plant.specs.declared.desk.Wish.{Wish}
 use Rattle.cell_plant.specs.declared.desk.Wish.TheVariants as wish
 use Rattle.cell_plant.specs.declared.gone.Gone.{Gone}
 use Rattle.cell_plant.specs.declared.keeper.Unkept.{Unkept}
-use Rattle.cell_rounds.specs.Moves.{Books, Hands, Keeps, Leads, Move, Orders, OrdersIf, Terms, Turn, after_act}
+use Rattle.cell_rounds.specs.Moves.{Books, Hands, Leads, Move, Orders, OrdersIf, Terms, Turn, after_act}
 use Rattle.cell_rounds.specs.Moves.{GoesOn, after_close, after_wish, answered, if_kept, if_reached, most_heard, moved}
 use Rattle.cell_rounds.specs.Moves.{next_at as due_at}
 use Rattle.cell_rounds.specs.Moves.{is_lost as isnt_done}
@@ -40,7 +40,6 @@ use Rattle.cell_rounds.specs.Moves.Move.{looks, misses, notes, rejects, repeats,
 use Rattle.cell_rounds.specs.Rest.{KeepsOn}
 use Rattle.cell_rounds.specs.Stands.{Answering, Between, Closing, Desk, Noted, Noting, Place, Point, Serving}
 use Rattle.cell_rounds.specs.Stands.{Stand, Turning, Wanted, desk, place, start, to}
-use Rattle.cell_rounds.specs.declared.settle.LastCommand.{LastCommand}
 use Rattle.cell_sim.specs.Commands.{after_command, fails as does_fail}
 use Rattle.cell_sim.specs.Readings.{after_reading, after_round, shown}
 use Rattle.cell_sim.specs.Simulated.{Simulated}
@@ -49,6 +48,7 @@ use Rattle.sim_plant.specs.Answers.{AnswersSo, SimCell}
 use Rattle.cell_runs.specs.Cells.{AllKept}
 use Rattle.cell_world.specs.OneRun.{Moment, RunFollows, decided, handed, is_lost, later, moment, moment_of, next}
 use Rattle.cell_world.specs.OneRun.{next_at, ordered, ruled, served, turned}
+use Rattle.cell_world.proofs.Moves.{kept_so, none_pending}
 
 -- the same moment, part by part
 same_moment : (a b : Moment) → a.world ≡ b.world → a.now ≡ b.now → a.desk ≡ b.desk → a.place ≡ b.place → a ≡ b
@@ -101,9 +101,6 @@ follows_at T faults s t x here ordinary is may = record {
 pub not_ordinary : (x y : Point) → x ≡ y → is_ordinary x ≡ true → is_ordinary y ≡ false → ⊥
 not_ordinary x y h o n = let z : true ≡ false = sym o ∙ (ap is_ordinary h ∙ n) in cc z
 
-unsettled : (o : Option LastCommand) (last : LastCommand) → o ≡ None → o ≡ Some last → ⊥
-unsettled o last h k = let x : None ≡ Some last = sym h ∙ k in cc x
-
 -- WHAT A TURN DECIDES ON
 
 ruled_is : (l : BookLimits) (J : List Entry) (plates : ℕ) (m : Machine) (k : Ruling) (e : Option Entry)
@@ -150,10 +147,6 @@ is_ordered faults m (Some x) lost point next seen new f (r, told, carried, there
       goes = there ∙ ap (λ (a : Result Bool Gone). answered a point) answer;
     }
 
-all_kept : (e : Option Entry) (kept : Bool) (k j : Unkept) → Keeps AllKept e kept k j → kept ≡ true
-all_kept None kept k j (same, told) = told
-all_kept (Some x) kept k j h = h
-
 -- A TURN
 
 -- what a turn left, in the words of its own reading and entry
@@ -185,7 +178,7 @@ turn_follows T faults m rest s t c here turn =
     let did = is_ordered faults m (option_and_then command_of e) done.lost (Turning rest) turn.next turn.seen t.cell
     (turn.shown.0 ∙ c.faults)
     (subst (λ (b : Bool). OrdersIf AnswersSo b m (option_and_then command_of e) done.lost (Turning rest) turn.next
-    turn.seen t.cell) (all_kept e turn.kept s.keeper t.keeper turn.keeping) turn.orders) in
+    turn.seen t.cell) (kept_so e turn.kept s.keeper t.keeper turn.keeping) turn.orders) in
     let decides = subst (λ (r : Option Reading). IsDecided T.limits s.now.journal m T.plan (at s.now.minds m) r e)
     reads done.decided in
     let entry = decided_is T.limits T.plan m (shown s.cell.world m) s.now e decides in
@@ -314,11 +307,11 @@ move_follows T faults s t c (rejects n done why here refused told h) =
     absurd (not_ordinary s.place.point (Noted n done) here c.point refl)
 move_follows T faults s t c (turns m rest here turn) = turn_follows T faults m rest s t c here turn
 move_follows T faults s t c (looks m rest last r here waits its told h) =
-    absurd (unsettled s.pending last c.settled waits)
+    absurd (none_pending s.pending last c.settled waits)
 move_follows T faults s t c (finds m rest last r here waits its told h) =
-    absurd (unsettled s.pending last c.settled waits)
+    absurd (none_pending s.pending last c.settled waits)
 move_follows T faults s t c (repeats m rest last r seen here waits its told again) =
-    absurd (unsettled s.pending last c.settled waits)
+    absurd (none_pending s.pending last c.settled waits)
 move_follows T faults s t c (rests here nothing h) = rests_follow T faults s t c here nothing h
 move_follows T faults s t c (does a books here able due hands left there) =
     does_follow T faults s t a c here books due hands left there

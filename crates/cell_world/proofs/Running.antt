@@ -44,10 +44,10 @@ other_minds l J p minds others w h t =
     }
 
 -- the script has no line
-abbrev Undisturbed : Terms → Holding
+abbrev pub Undisturbed : Terms → Holding
 Undisturbed T ls J minds w = (ls ≡ []) × IsBooked T.limits J T.plan minds w
 
-none_next : (lines : List Line) (h : History) (a : Action) → lines ≡ [] → next_of lines h ≡ Some a → ⊥
+pub none_next : (lines : List Line) (h : History) (a : Action) → lines ≡ [] → next_of lines h ≡ Some a → ⊥
 none_next lines h a e n = let x : None ≡ Some a = ap (λ (ls : List Line). next_of ls h) (sym e) ∙ n in cc x
 
 -- a reading counts no collision
@@ -56,7 +56,7 @@ read_by : (l : BookLimits) (J : List Entry) (p : Plan) (minds : Machine → Mind
 read_by l J p minds w m false b t = leaves_collisions J p m (minds m).axis w b (t.switches m b).tied
 read_by l J p minds w m true b t = read_counts J p m (minds m).axis w b (t.belts m b).tied
 
-holds_on : (T : Terms) → HoldsOn T (Undisturbed T)
+pub holds_on : (T : Terms) → HoldsOn T (Undisturbed T)
 holds_on T =
     let l = T.limits in let p = T.plan in
     record {

@@ -28,10 +28,10 @@ pub opens_so : OpensSo
 opens_so inputs = refl
 
 -- what the texts say
-record IsFaultless (i : Inputs) (ds : Durations) (lines : List Line) : Type 0 where
-  long : i.durations ≡ ds
-  faults : i.faults ≡ []
-  script : i.script ≡ lines
+pub record IsFaultless (i : Inputs) (ds : Durations) (lines : List Line) : Type 0 where
+  pub long : i.durations ≡ ds
+  pub faults : i.faults ≡ []
+  pub script : i.script ≡ lines
 
 ran_so : (i : Inputs) (ds : Durations) (lines : List Line) (J : List Entry) (e : End) (left : SimCell)
     → IsFaultless i ds lines
@@ -69,7 +69,7 @@ served i ds lines J e t are fair (left, sim) =
     }
 
 -- what is kept of it, under what is known of its plan
-written : (P : Kept → Type 0) (i : Inputs) (journal : Bool) (old new : Option (List ℕ)) (status : ℕ)
+pub written : (P : Kept → Type 0) (i : Inputs) (journal : Bool) (old new : Option (List ℕ)) (status : ℕ)
     (run : Option Kept) → ((J : List Entry) (e : End) → Simulates i (opening_of i) [] J e → P (kept J e i.plan))
     → WritesRounds journal i old new status run → IfSome run P
 written P i journal old new status run h (inl (e, J, leads, prints, is)) =
@@ -77,7 +77,7 @@ written P i journal old new status run h (inl (e, J, leads, prints, is)) =
 written P i journal old new status run h (inr (writes, is)) =
     subst (λ (r : Option Kept). IfSome r P) (sym is) tt
 
-faultless : (faults operator : List ℕ) (i : Inputs) (ds : Durations) (lines : List Line) → i.durations ≡ ds
+pub faultless : (faults operator : List ℕ) (i : Inputs) (ds : Durations) (lines : List Line) → i.durations ≡ ds
     → lines_of next_fault (rows_of faults) ≡ Ok i.faults → lines_of line_of (rows_of operator) ≡ Ok i.script
     → lines_of next_fault (rows_of faults) ≡ Ok [] → lines_of line_of (rows_of operator) ≡ Ok lines
     → IsFaultless i ds lines

@@ -123,7 +123,7 @@ pub and_false : (b : Bool) → (b && false) ≡ false
 and_false true = refl
 and_false false = refl
 
-no_sign : (J : List Entry) (m : Machine) (r : Option Reading) → has_belt m ≡ false → shows_sign J m r ≡ false
+pub no_sign : (J : List Entry) (m : Machine) (r : Option Reading) → has_belt m ≡ false → shows_sign J m r ≡ false
 no_sign J machine.Feed r b = cc b
 no_sign J machine.Deposit r b = cc b
 no_sign J m r b = refl
