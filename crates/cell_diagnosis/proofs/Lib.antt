@@ -3,3 +3,4 @@ pub mod VerdictLaws
 pub mod AxisLaws
 pub mod RestLaws
 pub mod RestAgrees
+pub mod LimitLaws

@@ -1,9 +1,12 @@
 -- Laws of the two verdicts, for every list of readings
-use Rattle.std.specs.Prelude.{◌≡◌, ◌≢◌, ℕ, List, ◌++◌, take}
+use Rattle.std.specs.Prelude.{◌≡◌, ◌≢◌, ℕ, ◌≤◌, false, List, ◌++◌, length, take}
+use Rattle.std.specs.List.{list_any}
+use Rattle.cell_types.specs.declared.words.Cause.{Cause}
 use Rattle.cell_diagnosis.specs.declared.motion.Motion.{Motion}
-use Rattle.cell_diagnosis.specs.declared.verdict.Verdict.TheVariants.{Pending}
+use Rattle.cell_diagnosis.specs.declared.verdict.Verdict.TheVariants.{Pending, Fault}
 use Rattle.cell_diagnosis.specs.Verdicts.{IsFirstDecided, IsNeverDecided}
 use Rattle.cell_diagnosis.specs.Readings.{Seen}
+use Rattle.cell_diagnosis.specs.AxisFacts.{shows_alone}
 use Rattle.cell_diagnosis.specs.AxisRules.{judged, verdict}
 use Rattle.cell_diagnosis.specs.RestFacts.{Noted}
 use Rattle.cell_diagnosis.specs.RestRules.{judged_at_rest, rest}
@@ -36,3 +39,13 @@ SomeFirstDecides = (m : Motion) (L : List Seen) → verdict m L ≢ Pending → 
 
 abbrev pub RestSomeFirstDecides : Type 0
 RestSomeFirstDecides = (L : List Noted) → rest L ≢ Pending → (i : ℕ) × IsFirstDecided judged_at_rest L i
+
+-- no reading shows the end alone
+abbrev pub NeverShowsEnd : Motion → List Seen → Type 0
+NeverShowsEnd m L = list_any (shows_alone m.to) L ≡ false
+
+-- then a fault is found at the latest when as many readings were noted as the limit says
+abbrev pub LastingFaultIsFound : Type 0
+LastingFaultIsFound =
+    (m : Motion) (L : List Seen) → NeverShowsEnd m L → 1 ≤ m.limits.limit → m.limits.limit ≤ length L
+    → (why : Cause) × (verdict m L ≡ Fault why)

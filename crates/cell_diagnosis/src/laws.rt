@@ -1,7 +1,7 @@
 //! Laws of the two verdicts, for every list of readings. The calls do nothing: their contracts are the laws.
 ghost use Rattle.cell_diagnosis.specs.Laws.{VerdictStays, RestVerdictStays, FirstDecides, RestFirstDecides};
 ghost use Rattle.cell_diagnosis.specs.Laws.{PendingWhereNoneDecides, RestPendingWhereNoneDecides, SomeFirstDecides};
-ghost use Rattle.cell_diagnosis.specs.Laws.{RestSomeFirstDecides};
+ghost use Rattle.cell_diagnosis.specs.Laws.{RestSomeFirstDecides, LastingFaultIsFound};
 
 /// A verdict other than Pending stays, whatever readings come after.
 pub fn verdict_stays()
@@ -21,4 +21,11 @@ pub fn pending_where_none_decides()
     ensures rest { RestPendingWhereNoneDecides }
     ensures axis_only { SomeFirstDecides }
     ensures rest_only { RestSomeFirstDecides }
+{}
+
+/// A motion whose end no reading shows alone is declared faulty at the latest at the reading that its limit names, and
+/// stays so, whatever keeps the axis from showing its end, by switches or by a belt's sensors: be the readings missing,
+/// contradictory or those of where it began. Of fewer readings than the limit the law says nothing.
+pub fn lasting_faults_are_found()
+    ensures { LastingFaultIsFound }
 {}
