@@ -10,3 +10,9 @@ pub mod Nothing
 pub mod Resting
 pub mod Finished
 pub mod Runs
+pub mod Undeclared
+pub mod Noting
+pub mod Signs
+pub mod Quickens
+pub mod Paces
+pub mod Finishing

@@ -41,7 +41,7 @@ pub neither : (a b : Bool) → (a || b) ≡ false → (a ≡ false) × (b ≡ fa
 neither false b h = (refl, h)
 neither true b h = cc
 
-none_disturbs : (b : Bool) → not b ≡ true → b ≡ false
+pub none_disturbs : (b : Bool) → not b ≡ true → b ≡ false
 none_disturbs false h = refl
 none_disturbs true h = cc
 
@@ -91,7 +91,7 @@ room_before : (l : BookLimits) (J : List Entry) (e : Entry) → disturbs e ≡ f
 room_before l J (Declared m cause) calm h = cc
 room_before l J e calm h = not_full_law l (situation_of J) e h
 
-calm_turn : (l : BookLimits) (p : Plan) (J : List Entry) (m : Machine) (mind : Mind) (r : Option Reading)
+pub calm_turn : (l : BookLimits) (p : Plan) (J : List Entry) (m : Machine) (mind : Mind) (r : Option Reading)
     (booked : Option Entry) → IsDecided l J m p mind r booked → IfSome booked (λ e. first_of l J e ≡ None)
     → is_calm (J ++ option_to_list booked) ≡ true → (is_calm J ≡ true → Calm l p.plates J)
     → Calm l p.plates (J ++ option_to_list booked)

@@ -62,7 +62,7 @@ each_for machine.Deposit = refl
 module _ (l : BookLimits) (p : Plan) (room : HasRoom l p.plates)
     (script : List Line) (J : List Entry) (calm : is_calm J ≡ true) where
   -- the journal of a run
-  run_calm : (e : End) → IsRun l p script J e → Calm l p.plates J
+  pub run_calm : (e : End) → IsRun l p script J e → Calm l p.plates J
   run_calm e r =
       let h = run_leads l p script J e r in
       calm_led l p (start script).now h.0 h.1 h.2 (now J h.3) refl h.4 calm

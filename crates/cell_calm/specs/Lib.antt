@@ -1,1 +1,2 @@
 pub mod Calm
+pub mod Healthy

@@ -16,6 +16,7 @@ ghost use Rattle.cell_runs.specs.Rounds.{IsRun};
 ghost use Rattle.cell_useful.specs.Moves.{is_finished};
 ghost use Rattle.cell_progress.specs.Orders.{IsPossible, cell_of};
 ghost use Rattle.cell_calm.specs.Calm.{HasRoom, is_calm};
+ghost use Rattle.cell_calm.specs.Healthy.{HealthyRunsFinish, NoneDeclared, WrittenRunsFinish};
 
 /// The journal of a calm run, whatever the machines' turns and whatever the readings and the operator, is an order of
 /// events in which nothing may fail and nobody serves: each entry is among those that can happen after the ones before
@@ -51,4 +52,22 @@ pub fn calm_runs_deliver_all()
     ensures finished { (l : BookLimits) (p : Plan) (script : List Line) (J : List Entry)
         → IsRun l p script J end.Finished → is_calm J ≡ true → HasRoom l p.plates
         → (is_finished p.plates false (cell_of (after J)) ≡ true) × ((count_of J).delivered ≡ p.plates) }
+{}
+
+/// Such are the runs of the simulated cell without a fault and without an operator, however they end, if the plan's
+/// limits let each motion be as long as it is: no machine is declared failed.
+pub fn none_is_declared()
+    ensures { NoneDeclared }
+{}
+
+/// So where the limits have room, and the plan has rounds enough, such a run ends finished, with all plates admitted
+/// and delivered, unless memory was refused.
+pub fn healthy_runs_finish()
+    ensures { HealthyRunsFinish }
+{}
+
+/// And so does the run of which `run_texts` of `cell_runs` writes in rounds, for texts with no fault and no line of the
+/// operator.
+pub fn written_runs_finish()
+    ensures { WrittenRunsFinish }
 {}

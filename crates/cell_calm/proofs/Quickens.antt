@@ -1,0 +1,193 @@
+-- A turn of a healthy cell that books nothing leaves less due of its machine, or finds it idle
+use Rattle.std.proofs.Common.{◌≡◌, ◌≤◌, inl, inr, ℕ, Bool, true, false, not, Option, Some, None}
+use Rattle.std.proofs.Common.{List, length, refl, sym, ap, ◌∙◌, subst, append-nil}
+use Rattle.std.specs.Prelude.{nat_le}
+use Rattle.cell_types.specs.declared.words.Axis.{Axis}
+use Rattle.cell_types.specs.declared.words.Entry.{Entry}
+use Rattle.cell_types.specs.declared.words.Machine.{Machine}
+use Rattle.cell_types.specs.declared.words.Machine.TheVariants as machine
+use Rattle.cell_types.specs.declared.words.Station.TheVariants as station
+use Rattle.cell_rules.specs.Views.{going_of}
+use Rattle.cell_rules.specs.declared.limits.BookLimits.{BookLimits}
+use Rattle.cell_diagnosis.specs.Readings.{bit}
+use Rattle.cell_diagnosis.specs.declared.reading.Reading.{Reading}
+use Rattle.cell_diagnosis.specs.declared.verdict.Verdict.TheVariants.{Pending}
+use Rattle.cell_diagnosis.specs.RestFacts.{Noted}
+use Rattle.cell_diagnosis.specs.RestRules.{rest}
+use Rattle.cell_ports.specs.declared.plan.Plan.{Plan}
+use Rattle.cell_turns.specs.Minds.{Mind}
+use Rattle.cell_turns.specs.Moving.{limits_of, motion_of_machine}
+use Rattle.cell_turns.specs.Signs.{shows_sign}
+use Rattle.cell_turns.specs.Turns.{IsDecided, mind_after}
+use Rattle.cell_turns.specs.Visits.{is_unvisited}
+use Rattle.cell_workers.specs.Ends.{is_lit}
+use Rattle.cell_sim.specs.Readings.{shown}
+use Rattle.cell_sim.specs.Simulated.{Simulated}
+use Rattle.cell_world.specs.Agreeing.{has_belt}
+use Rattle.cell_world.specs.Belts.{BeltRests, Conveying, belt_of, machine_of, name_of, to_deposit_end, to_feed_end}
+use Rattle.cell_world.specs.Belts.{to_table}
+use Rattle.cell_world.specs.BeltTurning.{BeltAsBooked, BeltCarries, IsBeltTied, StationsAsBooked, way_of}
+use Rattle.cell_world.specs.Switched.{with_mind}
+use Rattle.cell_world.specs.Tie.{IsTied, MachineGoes, PlatesBooked}
+use Rattle.cell_world.specs.Tied.{motion_by}
+use Rattle.cell_world.specs.Turning.{IsAsBooked, after_turn}
+use Rattle.cell_world.specs.Starting.{MachineRests}
+use Rattle.cell_world.specs.Whole.{CellAsBooked}
+use Rattle.cell_world.proofs.Any.{moves_as}
+use Rattle.cell_world.proofs.Belts.{moves_as as belt_moves_as}
+use Rattle.cell_world.proofs.BeltReads.{no_motion as belt_still, tied_agrees, way_is}
+use Rattle.cell_world.proofs.Machines.{no_belt, no_motion}
+use Rattle.cell_world.proofs.Shows.{reading_agrees}
+use Rattle.cell_world.proofs.Turns.{and_false, no_sign}
+use Rattle.cell_world.proofs.Whole.{cell_kept}
+use Rattle.cell_calm.proofs.Noting.{Quickens, idle_quickens, lit_quickens, moving_quickens, quiet_next, rest_next}
+use Rattle.cell_calm.proofs.Possible.{Calm}
+use Rattle.cell_calm.proofs.Signs.{IsShown, sign_shown}
+
+-- what goes doesn't rest
+both_ways : {X : Type 0} (o : Option X) (x : X) → o ≡ None → o ≡ Some x → ⊥
+both_ways o x h g = let c : None ≡ Some x = sym h ∙ g in cc c
+
+-- A MACHINE WITH SWITCHES
+
+its_plates : (J : List Entry) (p : Plan) (m : Machine) (w : Simulated) → has_belt m ≡ false → StationsAsBooked J p w
+    → PlatesBooked J m w
+its_plates J p m w b t station.FeedIn of = let c : true ≡ false = ap has_belt of ∙ b in cc c
+its_plates J p m w b t station.DepEnd of = let c : true ≡ false = ap has_belt of ∙ b in cc c
+its_plates J p m w b t s of = t.within s refl
+
+unlit : (J : List Entry) (m : Machine) → has_belt m ≡ false → is_lit J m ≡ false
+unlit J machine.Feed b = cc b
+unlit J machine.Deposit b = cc b
+unlit J m b = refl
+
+its_motion : (J : List Entry) (p : Plan) (m : Machine) (s : Mind) (w : Simulated) → has_belt m ≡ false
+    → (t : MachineGoes J p m s.axis w) → motion_of_machine J p m ≡ Some (motion_by J p t.mover t.to)
+its_motion J p m s w b t =
+    subst (λ (n : Machine). motion_of_machine J p n ≡ Some (motion_by J p t.mover t.to)) t.of
+    (moves_as J p t.mover t.to w (no_belt t.mover m t.of b) t.goes.booked t.goes.others)
+
+-- a light that isn't green lets no sign be seen
+unsigned : (J : List Entry) (m : Machine) (r : Option Reading) → is_lit J m ≡ false → shows_sign J m r ≡ false
+unsigned J machine.Feed None h = refl
+unsigned J machine.Feed (Some r) h = rw h (and_false (bit r.presence 0))
+unsigned J machine.Deposit None h = refl
+unsigned J machine.Deposit (Some r) h = rw h (and_false (not (bit r.presence 1)))
+unsigned J m r h = refl
+
+module _ (J : List Entry) (p : Plan) (m : Machine) (s : Mind) (w v : Simulated) (most : ℕ)
+    (bound : (a : Axis) → (limits_of p a).limit ≤ most) where
+  abbrev next : Mind
+  next = mind_after J m p s (shown w m) None
+
+  switch_goes : has_belt m ≡ false → s.memory.failed ≡ false → MachineGoes J p m s.axis w
+      → IsTied J p m next.axis v → Quickens most J p m s next
+  switch_goes b h t (inl rests) =
+      absurd (both_ways (going_of J t.mover) t.to (rests.rest t.mover t.of).booked t.goes.booked)
+  switch_goes b h t (inr u) =
+      moving_quickens most J p m s (shown w m) (motion_by J p t.mover t.to) (motion_by J p u.mover u.to) t.given u.given
+      h (its_motion J p m s w b t) t.goes.noted u.goes.noted u.fair.limit (bound u.mover)
+
+  switch_rests : has_belt m ≡ false → s.memory.failed ≡ false → MachineRests J m s.axis w → StationsAsBooked J p w
+      → Quickens most J p m s next
+  switch_rests b h t st =
+      let r = shown w m in
+      idle_quickens most J p m s next (no_motion J p m w b t.rest) (unlit J m b)
+      (quiet_next J m p s r h
+      (reading_agrees J p m s.axis w (is_unvisited J m s.memory) b (inl t) (its_plates J p m w b st))
+      (no_sign J m r b))
+
+  pub switch_quickens : has_belt m ≡ false → IsAsBooked J p m s w → StationsAsBooked J p w → IsAsBooked J p m next v
+      → Quickens most J p m s next
+  switch_quickens b t st u = by_tie t.tied
+    where
+      by_tie : IsTied J p m s.axis w → Quickens most J p m s next
+      by_tie (inl rests) = switch_rests b t.was_healthy rests st
+      by_tie (inr goes) = switch_goes b t.was_healthy goes u.tied
+
+  -- A BELT'S MACHINE
+
+  belt_motion : (t : BeltCarries J p m s.axis w)
+      → motion_of_machine J p m ≡ Some (motion_by J p (belt_of t.way) (name_of t.way))
+  belt_motion t =
+      subst (λ (n : Machine). motion_of_machine J p n ≡ Some (motion_by J p (belt_of t.way) (name_of t.way))) t.of
+      (belt_moves_as J p t.way t.goes.booked)
+
+  same_belt : (c : Conveying) → machine_of c ≡ m → belt_of (way_of m) ≡ belt_of c
+  same_belt to_feed_end of = ap (λ (n : Machine). belt_of (way_of n)) (sym of)
+  same_belt to_table of = ap (λ (n : Machine). belt_of (way_of n)) (sym of)
+  same_belt to_deposit_end of = ap (λ (n : Machine). belt_of (way_of n)) (sym of)
+
+  belt_goes : s.memory.failed ≡ false → BeltCarries J p m s.axis w → IsBeltTied J p m next.axis v
+      → Quickens most J p m s next
+  belt_goes h t (inl rests) =
+      absurd (both_ways (going_of J (belt_of t.way)) (name_of t.way)
+      (subst (λ (a : Axis). going_of J a ≡ None) (same_belt t.way t.of) rests.booked) t.goes.booked)
+  belt_goes h t (inr u) =
+      moving_quickens most J p m s (shown w m) (motion_by J p (belt_of t.way) (name_of t.way))
+      (motion_by J p (belt_of u.way) (name_of u.way)) t.given u.given h (belt_motion t) t.goes.noted u.goes.noted
+      u.fair.limit (bound (belt_of u.way))
+
+  belt_rests : (lit : Bool) → is_lit J m ≡ lit → has_belt m ≡ true → s.memory.failed ≡ false
+      → BeltRests J (way_of m) s.axis w → StationsAsBooked J p w
+      → (lit ≡ true → IsShown J m s (shown w m)) → Quickens most J p m s next
+  belt_rests true is b h t st signs =
+      let sign = signs refl in
+      lit_quickens most J p m s (shown w m) h
+      (subst (λ (n : Machine). motion_of_machine J p n ≡ None) (way_is m b) (belt_still J p (way_of m) t.booked)) is
+      sign.before sign.now
+  belt_rests false is b h t st signs =
+      let r = shown w m in
+      idle_quickens most J p m s next
+      (subst (λ (n : Machine). motion_of_machine J p n ≡ None) (way_is m b) (belt_still J p (way_of m) t.booked)) is
+      (quiet_next J m p s r h (tied_agrees J p m s.axis w (is_unvisited J m s.memory) b st (inl t))
+      (unsigned J m r is))
+
+  pub belt_quickens : has_belt m ≡ true → BeltAsBooked J p m s w → StationsAsBooked J p w → BeltAsBooked J p m next v
+      → (BeltRests J (way_of m) s.axis w → is_lit J m ≡ true → IsShown J m s (shown w m)) → Quickens most J p m s next
+  belt_quickens b t st u signs = by_tie t.tied
+    where
+      by_tie : IsBeltTied J p m s.axis w → Quickens most J p m s next
+      by_tie (inl rests) = belt_rests (is_lit J m) refl b t.was_healthy rests st (signs rests)
+      by_tie (inr goes) = belt_goes t.was_healthy goes u.tied
+
+-- A TURN
+
+pub with_same : (m : Machine) (s : Mind) (minds : Machine → Mind) → with_mind m s minds m ≡ s
+with_same machine.Feed s minds = refl
+with_same machine.Table s minds = refl
+with_same machine.Robot s minds = refl
+with_same machine.Press1 s minds = refl
+with_same machine.Press2 s minds = refl
+with_same machine.Deposit s minds = refl
+
+pub quickens : (l : BookLimits) (J : List Entry) (p : Plan) (minds : Machine → Mind) (w : Simulated) (m : Machine)
+    (most : ℕ) → ((a : Axis) → (limits_of p a).limit ≤ most) → CellAsBooked l J p minds w → Calm l p.plates J
+    → nat_le l.entries (length J) ≡ false → IsDecided l J m p (minds m) (shown w m) None
+    → Quickens most J p m (minds m) (mind_after J m p (minds m) (shown w m) None)
+quickens l J p minds w m most bound t c room decided = by_belt (has_belt m) refl
+  where
+    s : Mind
+    s = minds m
+
+    next_mind : Mind
+    next_mind = mind_after J m p s (shown w m) None
+
+    v : Simulated
+    v = after_turn w m None
+
+    left : CellAsBooked l J p (with_mind m next_mind minds) v
+    left =
+        let k = (cell_kept l J p minds w m None t (record { decided = decided; allowed = tt; own = tt })).0 in
+        rw append-nil at k
+
+    by_belt : (b : Bool) → has_belt m ≡ b → Quickens most J p m s next_mind
+    by_belt false b =
+        switch_quickens J p m s w v most bound b (t.switches m b) t.stations
+        (subst (λ (x : Mind). IsAsBooked J p m x v) (with_same m next_mind minds) (left.switches m b))
+    by_belt true b =
+        let after = subst (λ (x : Mind). BeltAsBooked J p m x v) (with_same m next_mind minds) (left.belts m b) in
+        belt_quickens J p m s w v most bound b (t.belts m b) t.stations after
+        (λ rests lit. sign_shown l J p s w c t.stations room m b (t.belts m b) rests
+        (subst (λ (L : List Noted). rest L ≡ Pending) (rest_next J m p s (shown w m) (t.belts m b).was_healthy)
+        after.agreed) decided lit)
