@@ -1,4 +1,4 @@
--- A healthy cell that has room and time finishes, with all plates delivered
+-- A healthy cell that has room and time finishes, with all plates forged and delivered
 use Rattle.std.proofs.Common.{◌≡◌, ◌≢◌, ◌≤◌, ◌+◌, ◌*◌, ◌⊎◌, inl, inr, ℕ, true, false, Option, None, Ok, Err, List, []}
 use Rattle.std.proofs.Common.{IfSome, length, refl, sym, ap, ◌∙◌, subst, arith}
 use Rattle.std.proofs.Math.Nat.{mul-le-mul_left}
@@ -30,7 +30,8 @@ use Rattle.cell_world.proofs.Fair.{settings_are_fair}
 use Rattle.cell_world.proofs.OneRun.{not_ordinary}
 use Rattle.cell_world.proofs.Simulating.{IsFaultless, faultless, written}
 use Rattle.cell_calm.specs.Calm.{HasRoom, is_calm}
-use Rattle.cell_calm.specs.Healthy.{HealthyRunsFinish, AllDelivered, HasTime, Finishes, WrittenRunsFinish}
+use Rattle.cell_calm.specs.Healthy.{HealthyRunsFinish, AllForged, HasTime, Finishes, WrittenRunsFinish}
+use Rattle.cell_calm.proofs.Counted.{all_forged}
 use Rattle.cell_calm.proofs.Paces.{PacedAt, paces}
 use Rattle.cell_calm.proofs.Refused.{calm_length}
 use Rattle.cell_calm.proofs.Runs.{finished_whole, never_full, never_stalled, run_calm}
@@ -84,12 +85,13 @@ healthy_runs_finish l p ds most new J e fair room time sim memory = go e refl
     run_as : (x : End) → e ≡ x → IsRun l p [] J x
     run_as x is = subst (λ (y : End). IsRun l p [] J y) is sim.run
 
-    go : (x : End) → e ≡ x → (e ≡ end.Finished) × AllDelivered p.plates J
+    go : (x : End) → e ≡ x → (e ≡ end.Finished) × AllForged p.plates J
     go end.Finished is =
         let run = run_as end.Finished is in (
           is,
           record {
             admitted = run.ended.ends.1.admitted;
+            forged = all_forged l p.plates J (run_calm l p room [] J calm e sim.run) run.ended.ends.1;
             delivered = (finished_whole l p room [] J calm run).1;
           },
         )

@@ -15,4 +15,5 @@ pub mod Noting
 pub mod Signs
 pub mod Quickens
 pub mod Paces
+pub mod Counted
 pub mod Finishing

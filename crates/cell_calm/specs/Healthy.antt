@@ -25,29 +25,30 @@ NoneDeclared =
     (l : BookLimits) (p : Plan) (ds : Durations) (new : SimCell) (J : List Entry) (e : End) → Allows p ds
     → Ran AnswersSo l p (opened p ds) [] [] new J e → is_calm J ≡ true
 
--- the plan has rounds enough, where no motion may take more than so many readings: for each plate 76 times one more
--- than that, and one
+-- the plan has rounds enough, where no motion may take more than so many readings: for each plate more than 76 times
+-- one more than that
 pub record HasTime (p : Plan) (most : ℕ) : Type 0 where
   pub readings : (a : Axis) → (limits_of p a).limit ≤ most
   pub rounds : (most + 1) * (76 * p.plates) < p.turns
 
--- all plates of the plan are admitted and delivered
-pub record AllDelivered (plates : ℕ) (J : List Entry) : Type 0 where
+-- all plates of the plan are admitted, forged and delivered
+pub record AllForged (plates : ℕ) (J : List Entry) : Type 0 where
   pub admitted : (count_of J).admitted ≡ plates
+  pub forged : (count_of J).forged ≡ plates
   pub delivered : (count_of J).delivered ≡ plates
 
--- where there are room and time, the run ends finished, with all plates delivered, unless memory was refused
+-- where there are room and time, the run ends finished, with all plates forged and delivered, unless memory was refused
 abbrev pub HealthyRunsFinish : Type 0
 HealthyRunsFinish =
     (l : BookLimits) (p : Plan) (ds : Durations) (most : ℕ) (new : SimCell) (J : List Entry) (e : End) → Allows p ds
     → HasRoom l p.plates → HasTime p most → IsSimulated l p (opened p ds) [] [] new J e → e ≢ end.Memory
-    → (e ≡ end.Finished) × AllDelivered p.plates J
+    → (e ≡ end.Finished) × AllForged p.plates J
 
 -- so it is with a run that is kept
 abbrev pub Finishes : Kept → Type 0
 Finishes run =
     (most : ℕ) → HasRoom (limits_in run.plan) run.plan.plates → HasTime run.plan most → run.end ≢ end.Memory
-    → (run.end ≡ end.Finished) × AllDelivered run.plan.plates run.entries
+    → (run.end ≡ end.Finished) × AllForged run.plan.plates run.entries
 
 -- and with the one of which `run_texts` writes in rounds, for texts with no fault and no line of the operator
 abbrev pub WrittenRunsFinish : Type 0

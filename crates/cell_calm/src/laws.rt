@@ -60,8 +60,8 @@ pub fn none_is_declared()
     ensures { NoneDeclared }
 {}
 
-/// So where the limits have room, and the plan has rounds enough, such a run ends finished, with all plates admitted
-/// and delivered, unless memory was refused.
+/// So where the limits have room, and the plan has rounds enough, such a run ends finished, with all plates admitted,
+/// forged and delivered, unless memory was refused.
 pub fn healthy_runs_finish()
     ensures { HealthyRunsFinish }
 {}
