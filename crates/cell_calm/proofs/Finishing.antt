@@ -26,7 +26,7 @@ use Rattle.cell_runs.specs.declared.inputs.Inputs.{Inputs}
 use Rattle.cell_runs.specs.Rounds.{IsRun}
 use Rattle.cell_world.specs.Running.{Allows, opened}
 use Rattle.cell_world.specs.Whole.{opening_for}
-use Rattle.cell_world.proofs.Fair.{settings_are_fair}
+use Rattle.cell_world.proofs.Fair.{one_long, settings_are_fair}
 use Rattle.cell_world.proofs.OneRun.{not_ordinary}
 use Rattle.cell_world.proofs.Simulating.{IsFaultless, faultless, written}
 use Rattle.cell_calm.specs.Calm.{HasRoom, is_calm}
@@ -38,22 +38,21 @@ use Rattle.cell_calm.proofs.Runs.{finished_whole, never_full, never_stalled, run
 use Rattle.cell_calm.proofs.Undeclared.{none_declared}
 
 -- a motion takes three readings at least
-three : (p : Plan) (ds : Durations) (most : ℕ) → Allows p ds → HasTime p most → 2 ≤ most
-three p ds most fair time =
-    let few = (fair axis.FeedBelt pose.ToEnd).1 in let bound = time.readings axis.FeedBelt in omega (arith, few, bound)
+three : (p : Plan) (ds : Durations) (most : ℕ) → HasTime p ds most → 2 ≤ most
+three p ds most time = let few = time.readings axis.FeedBelt pose.ToEnd in omega (arith, few)
 
 other_end : (h : Halt) (x : End) → end_of h ≡ end.TurnLimit → end_of h ≡ x → x ≢ end.TurnLimit → ⊥
 other_end h x is that none = none (sym that ∙ is)
 
 -- its turns don't run out
 never_tired : (l : BookLimits) (p : Plan) (ds : Durations) (most : ℕ) (k j : Unkept) (h : Halt) (new : SimCell)
-    (J : List Entry) → Allows p ds → HasRoom l p.plates → HasTime p most → length J ≤ 76 * p.plates
+    (J : List Entry) → Allows p ds → HasRoom l p.plates → HasTime p ds most → length J ≤ 76 * p.plates
     → Halts AnswersSo AllKept (terms_of l p false) (start (opened p ds) k [] [] None) h new j J
     → end_of h ≡ end.TurnLimit → ⊥
 never_tired l p ds most k j h new J fair room time few (breaks t leads here has) is =
     let T = terms_of l p false in
     not_ordinary t.place.point (Over h) here
-    (paces T most time.readings (three p ds most fair time) refl ds k t fair room leads).0.point refl
+    (paces T ds most time.readings (three p ds most time) refl k t fair room leads).0.point refl
 never_tired l p ds most k j h new J fair room time few (lacks t leads ends unbooked has) is =
     other_end h end.Memory is (ap end_of ends) (λ x. cc x)
 never_tired l p ds most k j h new J fair room time few (fills t leads ends away has) is =
@@ -66,7 +65,7 @@ never_tired l p ds most k j h new J fair room time few (rests t e leads ends res
     at_rest (inr x) = other_end h e is (ap end_of ends) (λ y. let z : end.Stalled ≡ end.TurnLimit = sym x.0 ∙ y in cc z)
 never_tired l p ds most k j h new J fair room time few (tires t leads ends here rounds has) is =
     let T = terms_of l p false in
-    let paced = (paces T most time.readings (three p ds most fair time) refl ds k t fair room leads).1 in
+    let paced = (paces T ds most time.readings (three p ds most time) refl k t fair room leads).1 in
     let steady = subst (λ (x : Point). PacedAt most p x t.place.rounds t.place.begun t.now.journal t.now.minds) here
     paced in
     let enough = steady.enough in
@@ -121,7 +120,10 @@ finishes_so : (i : Inputs) (J : List Entry) (e : End) → IsFaultless i one_each
 finishes_so i J e t fair (left, sim) =
     let p = i.plan in let l = limits_in p in let so = simulated_so i one_each J e left t sim in (
       none_declared l p one_each left J e fair so.ran,
-      λ most room time memory. healthy_runs_finish l p one_each most left J e fair room time so memory,
+      λ room time memory. healthy_runs_finish l p one_each 3 left J e fair
+          (record { entries = room; plates = omega arith })
+          (record { readings = λ a to. let few = one_long a to in omega (arith, few); rounds = omega (arith, time) }) so
+          memory,
     )
 
 pub written_runs_finish : WrittenRunsFinish

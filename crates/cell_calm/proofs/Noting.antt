@@ -133,20 +133,18 @@ one_noted J p m s r mo g moves was =
 pub moving_quickens : (most : ℕ) (J : List Entry) (p : Plan) (m : Machine) (s : Mind) (r : Option Reading)
     (mo mo' : Motion) (g g' : Given) → s.memory.failed ≡ false → motion_of_machine J p m ≡ Some mo
     → s.axis ≡ noted_of mo g → (mind_after J m p s r None).axis ≡ noted_of mo' g'
-    → further_of g' + 3 ≤ mo'.limits.limit → mo'.limits.limit ≤ most
-    → Quickens most J p m s (mind_after J m p s r None)
-moving_quickens most J p m s r mo mo' g g' h moves was now fair bound =
+    → further_of g' + 3 ≤ most → Quickens most J p m s (mind_after J m p s r None)
+moving_quickens most J p m s r mo mo' g g' h moves was now bound =
     let t = mind_after J m p s r None in
     let longer : readings_noted t.axis ≡ readings_noted s.axis + 1 =
     ap readings_noted (axis_next J m p s r h) ∙ one_noted J p m s r mo g moves was in
-    let few : readings_noted t.axis + 1 ≤ mo'.limits.limit =
-    subst (λ (f : Option Following). readings_noted f + 1 ≤ mo'.limits.limit) (sym now)
-    (noted_few mo' g' mo'.limits.limit fair) in
+    let few : readings_noted t.axis + 1 ≤ most =
+    subst (λ (f : Option Following). readings_noted f + 1 ≤ most) (sym now) (noted_few mo' g' most bound) in
     let before : due most J p m s ≡ most - readings_noted s.axis =
     ap (λ (o : Option Motion). due_by most o (is_lit J m) s) moves in
     let behind : due most J p m t ≡ most - readings_noted t.axis =
     ap (λ (o : Option Motion). due_by most o (is_lit J m) t) moves in
-    inl (omega (arith, longer, few, before, behind, bound))
+    inl (omega (arith, longer, few, before, behind))
 
 -- UNDER ITS GREEN LIGHT
 

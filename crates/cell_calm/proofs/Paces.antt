@@ -9,13 +9,13 @@ use Rattle.cell_types.specs.declared.words.Axis.{Axis}
 use Rattle.cell_types.specs.declared.words.Entry.{Entry}
 use Rattle.cell_types.specs.declared.words.Machine.{Machine}
 use Rattle.cell_types.specs.declared.words.Machine.TheVariants as machine
+use Rattle.cell_types.specs.declared.words.Pose.{Pose}
 use Rattle.cell_types.specs.Same.{same_machine}
 use Rattle.cell_types.specs.Texts.{all_machine}
 use Rattle.cell_rules.proofs.Safe.Facts.{machine_same}
 use Rattle.cell_measures.specs.declared.durations.Durations.{Durations}
 use Rattle.cell_ports.specs.declared.plan.Plan.{Plan}
 use Rattle.cell_turns.specs.Minds.{Mind, first_mind}
-use Rattle.cell_turns.specs.Moving.{limits_of}
 use Rattle.cell_turns.specs.Six.{at, each, put}
 use Rattle.cell_turns.specs.Turns.{IsDecided, mind_after}
 use Rattle.cell_turns.specs.declared.six.Six.{Six}
@@ -33,8 +33,10 @@ use Rattle.sim_plant.specs.Answers.{AnswersSo, SimCell}
 use Rattle.cell_runs.specs.Cells.{AllKept}
 use Rattle.cell_world.specs.OneRun.{Moment, moment_of, next_at, served, turned}
 use Rattle.cell_world.specs.Running.{Allows, opened}
+use Rattle.cell_world.specs.Starting.{further_in}
 use Rattle.cell_world.specs.Switched.{with_mind}
-use Rattle.cell_world.specs.Whole.{CellAsBooked}
+use Rattle.cell_world.specs.Whole.{CellAsBooked, opening_for}
+use Rattle.cell_world.proofs.Long.{further_then}
 use Rattle.cell_world.proofs.Moves.{each_at, mind_put}
 use Rattle.cell_world.proofs.OneRun.{IsOrdinary, MayGoOn, decided_is, is_ordinary, move_follows, starts_ordinary}
 use Rattle.cell_calm.proofs.Noting.{Quickens, due, due_within}
@@ -43,6 +45,7 @@ use Rattle.cell_calm.proofs.Quickens.{quickens, with_same}
 use Rattle.cell_calm.proofs.Refused.{calm_room}
 use Rattle.cell_calm.proofs.Undeclared.{stands_healthy}
 use Rattle.cell_calm.specs.Calm.{HasRoom}
+use Rattle.cell_calm.specs.Healthy.{readings_of}
 
 abbrev pub is_among : Machine → List Machine → Bool
 is_among m rest = list_any (λ n. same_machine n m) rest
@@ -207,11 +210,12 @@ closed_paced most p rounds begun J minds two on (inr h) =
 -- EACH MOMENT
 
 -- what is known of a moment of a healthy cell: no line of a script is left, and it is as booked
-pub record IsHealthyAt (T : Terms) (a : Moment) : Type 0 where
+pub record IsHealthyAt (T : Terms) (ds : Durations) (a : Moment) : Type 0 where
   pub lines : a.desk.lines ≡ []
   pub booked : CellAsBooked T.limits a.now.journal T.plan (at a.now.minds) a.world
   pub calm : Calm T.limits T.plan.plates a.now.journal
   pub room : nat_le T.limits.entries (length a.now.journal) ≡ false
+  pub long : a.world.durations ≡ ds
 
 all_among : (m : Machine) → is_among m all_machine ≡ true
 all_among machine.Feed = refl
@@ -224,9 +228,15 @@ all_among machine.Deposit = refl
 differ : true ≡ false → ⊥
 differ h = cc h
 
-module _ (T : Terms) (most : ℕ) (bound : (a : Axis) → (limits_of T.plan a).limit ≤ most) (two : 2 ≤ most)
+module _ (T : Terms) (ds : Durations) (most : ℕ)
+    (within : (a : Axis) (to : Pose) → readings_of T.plan ds a to ≤ most)
+    (two : 2 ≤ most)
     (brief : T.waits ≡ false) where
-  turn_by : (a : Moment) (m : Machine) (rest : List Machine) (e : Option Entry) → IsHealthyAt T a
+  in_time : (a : Moment) → a.world.durations ≡ ds → (b : Axis) (to : Pose) → further_in a.world b to + 3 ≤ most
+  in_time a long b to =
+      subst (λ (n : ℕ). n + 3 ≤ most) (sym (further_then (opening_for T.plan ds) a.world b to long)) (within b to)
+
+  turn_by : (a : Moment) (m : Machine) (rest : List Machine) (e : Option Entry) → IsHealthyAt T ds a
       → IsDecided T.limits a.now.journal m T.plan (at a.now.minds m) (shown a.world m) e
       → Paced most T.plan (m ∷ rest) a.place.rounds a.place.begun a.now.journal a.now.minds
       → IsPaced most T.plan (turned T [] m rest (shown a.world m) e a)
@@ -235,11 +245,12 @@ module _ (T : Terms) (most : ℕ) (bound : (a : Axis) → (limits_of T.plan a).l
       rw append-nil
       (turn_paced most T.plan m rest a.place.rounds a.place.begun J minds
       (mind_after J m T.plan s (shown a.world m) None)
-      (quickens T.limits J T.plan (at minds) a.world m most bound g.booked g.calm g.room decides) h)
+      (quickens T.limits J T.plan (at minds) a.world m most (in_time a g.long) g.booked g.calm g.room
+      decides) h)
   turn_by a m rest (Some x) g decides h =
       booked_paced most T.plan (m ∷ rest) rest a.place.rounds a.place.begun a.now.journal x a.now.minds _ h
 
-  paced_next : (a : Moment) (x : Point) → is_ordinary x ≡ true → IsHealthyAt T a → MayGoOn T x a
+  paced_next : (a : Moment) (x : Point) → is_ordinary x ≡ true → IsHealthyAt T ds a → MayGoOn T x a
       → PacedAt most T.plan x a.place.rounds a.place.begun a.now.journal a.now.minds
       → IsPaced most T.plan (next_at T [] x a)
   paced_next a Between o g may h = (refl, h)
@@ -279,19 +290,20 @@ module _ (T : Terms) (most : ℕ) (bound : (a : Axis) → (limits_of T.plan a).l
             omega (arith, none, same);
       }
 
-  pub paces : (ds : Durations) (k : Unkept) (t : Stand SimCell Unkept) → Allows T.plan ds
+  pub paces : (k : Unkept) (t : Stand SimCell Unkept) → Allows T.plan ds
       → HasRoom T.limits T.plan.plates → Leads AnswersSo AllKept T (start (opened T.plan ds) k [] [] None) t
       → IsOrdinary [] t × IsPaced most T.plan (moment_of t)
-  paces ds k _ fair room stays = (starts_ordinary (opened T.plan ds) k [] [], starts_paced)
-  paces ds k u fair room (goes {t = t} before move) =
-      let was = paces ds k t fair room before in
+  paces k _ fair room stays = (starts_ordinary (opened T.plan ds) k [] [], starts_paced)
+  paces k u fair room (goes {t = t} before move) =
+      let was = paces k t fair room before in
       let g = (stands_healthy T ds k t fair before).holds in
       let f = move_follows T [] t u was.0 move in
-      let healthy : IsHealthyAt T (moment_of t) = record {
+      let healthy : IsHealthyAt T ds (moment_of t) = record {
         lines = g.0.0;
         booked = g.0.1.0;
         calm = g.2;
         room = calm_room T.limits T.plan room t.now.journal g.2;
+        long = g.3;
       } in (
         f.ordinary,
         subst (IsPaced most T.plan) (sym f.is)

@@ -1,11 +1,12 @@
 -- A turn of a healthy cell that books nothing leaves less due of its machine, or finds it idle
-use Rattle.std.proofs.Common.{◌≡◌, ◌≤◌, inl, inr, ℕ, Bool, true, false, not, Option, Some, None}
+use Rattle.std.proofs.Common.{◌≡◌, ◌≤◌, ◌+◌, inl, inr, ℕ, Bool, true, false, not, Option, Some, None}
 use Rattle.std.proofs.Common.{List, length, refl, sym, ap, ◌∙◌, subst, append-nil}
 use Rattle.std.specs.Prelude.{nat_le}
 use Rattle.cell_types.specs.declared.words.Axis.{Axis}
 use Rattle.cell_types.specs.declared.words.Entry.{Entry}
 use Rattle.cell_types.specs.declared.words.Machine.{Machine}
 use Rattle.cell_types.specs.declared.words.Machine.TheVariants as machine
+use Rattle.cell_types.specs.declared.words.Pose.{Pose}
 use Rattle.cell_types.specs.declared.words.Station.TheVariants as station
 use Rattle.cell_rules.specs.Views.{going_of}
 use Rattle.cell_rules.specs.declared.limits.BookLimits.{BookLimits}
@@ -16,7 +17,7 @@ use Rattle.cell_diagnosis.specs.RestFacts.{Noted}
 use Rattle.cell_diagnosis.specs.RestRules.{rest}
 use Rattle.cell_ports.specs.declared.plan.Plan.{Plan}
 use Rattle.cell_turns.specs.Minds.{Mind}
-use Rattle.cell_turns.specs.Moving.{limits_of, motion_of_machine}
+use Rattle.cell_turns.specs.Moving.{motion_of_machine}
 use Rattle.cell_turns.specs.Signs.{shows_sign}
 use Rattle.cell_turns.specs.Turns.{IsDecided, mind_after}
 use Rattle.cell_turns.specs.Visits.{is_unvisited}
@@ -29,13 +30,14 @@ use Rattle.cell_world.specs.Belts.{to_table}
 use Rattle.cell_world.specs.BeltTurning.{BeltAsBooked, BeltCarries, IsBeltTied, StationsAsBooked, way_of}
 use Rattle.cell_world.specs.Switched.{with_mind}
 use Rattle.cell_world.specs.Tie.{IsTied, MachineGoes, PlatesBooked}
-use Rattle.cell_world.specs.Tied.{motion_by}
+use Rattle.cell_world.specs.Tied.{Given, further_of, motion_by}
 use Rattle.cell_world.specs.Turning.{IsAsBooked, after_turn}
-use Rattle.cell_world.specs.Starting.{MachineRests}
+use Rattle.cell_world.specs.Starting.{MachineRests, further_in}
 use Rattle.cell_world.specs.Whole.{CellAsBooked}
 use Rattle.cell_world.proofs.Any.{moves_as}
 use Rattle.cell_world.proofs.Belts.{moves_as as belt_moves_as}
 use Rattle.cell_world.proofs.BeltReads.{no_motion as belt_still, tied_agrees, way_is}
+use Rattle.cell_world.proofs.Long.{further_then, reading_long}
 use Rattle.cell_world.proofs.Machines.{no_belt, no_motion}
 use Rattle.cell_world.proofs.Shows.{reading_agrees}
 use Rattle.cell_world.proofs.Turns.{and_false, no_sign}
@@ -76,9 +78,12 @@ unsigned J machine.Deposit (Some r) h = rw h (and_false (not (bit r.presence 1))
 unsigned J m r h = refl
 
 module _ (J : List Entry) (p : Plan) (m : Machine) (s : Mind) (w v : Simulated) (most : ℕ)
-    (bound : (a : Axis) → (limits_of p a).limit ≤ most) where
+    (bound : (a : Axis) (to : Pose) → further_in v a to + 3 ≤ most) where
   abbrev next : Mind
   next = mind_after J m p s (shown w m) None
+
+  at_most : (g : Given) (a : Axis) (to : Pose) → further_of g ≡ further_in v a to → further_of g + 3 ≤ most
+  at_most g a to long = subst (λ (n : ℕ). n + 3 ≤ most) (sym long) (bound a to)
 
   switch_goes : has_belt m ≡ false → s.memory.failed ≡ false → MachineGoes J p m s.axis w
       → IsTied J p m next.axis v → Quickens most J p m s next
@@ -86,7 +91,7 @@ module _ (J : List Entry) (p : Plan) (m : Machine) (s : Mind) (w v : Simulated) 
       absurd (both_ways (going_of J t.mover) t.to (rests.rest t.mover t.of).booked t.goes.booked)
   switch_goes b h t (inr u) =
       moving_quickens most J p m s (shown w m) (motion_by J p t.mover t.to) (motion_by J p u.mover u.to) t.given u.given
-      h (its_motion J p m s w b t) t.goes.noted u.goes.noted u.fair.limit (bound u.mover)
+      h (its_motion J p m s w b t) t.goes.noted u.goes.noted (at_most u.given u.mover u.to u.long)
 
   switch_rests : has_belt m ≡ false → s.memory.failed ≡ false → MachineRests J m s.axis w → StationsAsBooked J p w
       → Quickens most J p m s next
@@ -126,7 +131,7 @@ module _ (J : List Entry) (p : Plan) (m : Machine) (s : Mind) (w v : Simulated) 
   belt_goes h t (inr u) =
       moving_quickens most J p m s (shown w m) (motion_by J p (belt_of t.way) (name_of t.way))
       (motion_by J p (belt_of u.way) (name_of u.way)) t.given u.given h (belt_motion t) t.goes.noted u.goes.noted
-      u.fair.limit (bound (belt_of u.way))
+      (at_most u.given (belt_of u.way) (name_of u.way) u.long)
 
   belt_rests : (lit : Bool) → is_lit J m ≡ lit → has_belt m ≡ true → s.memory.failed ≡ false
       → BeltRests J (way_of m) s.axis w → StationsAsBooked J p w
@@ -162,10 +167,10 @@ with_same machine.Press2 s minds = refl
 with_same machine.Deposit s minds = refl
 
 pub quickens : (l : BookLimits) (J : List Entry) (p : Plan) (minds : Machine → Mind) (w : Simulated) (m : Machine)
-    (most : ℕ) → ((a : Axis) → (limits_of p a).limit ≤ most) → CellAsBooked l J p minds w → Calm l p.plates J
-    → nat_le l.entries (length J) ≡ false → IsDecided l J m p (minds m) (shown w m) None
+    (most : ℕ) → ((a : Axis) (to : Pose) → further_in w a to + 3 ≤ most) → CellAsBooked l J p minds w
+    → Calm l p.plates J → nat_le l.entries (length J) ≡ false → IsDecided l J m p (minds m) (shown w m) None
     → Quickens most J p m (minds m) (mind_after J m p (minds m) (shown w m) None)
-quickens l J p minds w m most bound t c room decided = by_belt (has_belt m) refl
+quickens l J p minds w m most brief t c room decided = by_belt (has_belt m) refl
   where
     s : Mind
     s = minds m
@@ -175,6 +180,9 @@ quickens l J p minds w m most bound t c room decided = by_belt (has_belt m) refl
 
     v : Simulated
     v = after_turn w m None
+
+    bound : (a : Axis) (to : Pose) → further_in v a to + 3 ≤ most
+    bound a to = subst (λ (n : ℕ). n + 3 ≤ most) (sym (further_then w v a to (reading_long w m))) (brief a to)
 
     left : CellAsBooked l J p (with_mind m next_mind minds) v
     left =

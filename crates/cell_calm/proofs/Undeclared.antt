@@ -32,7 +32,9 @@ use Rattle.cell_runs.specs.Cells.{AllKept}
 use Rattle.cell_world.specs.Agreeing.{has_belt}
 use Rattle.cell_world.specs.Running.{Allows, opened}
 use Rattle.cell_world.specs.Whole.{CellAsBooked}
+use Rattle.cell_world.proofs.Long.{turn_long}
 use Rattle.cell_world.proofs.Moves.{Holding, Holds, HoldsOn, come}
+use Rattle.cell_world.proofs.Rounds.{round_spares}
 use Rattle.cell_world.proofs.Running.{Undisturbed, holds_on, none_next}
 use Rattle.cell_world.proofs.Whole.{cell_opening}
 use Rattle.cell_calm.specs.Calm.{disturbs, is_calm}
@@ -100,20 +102,29 @@ calm_then l J p minds w (Some x) h t =
 
 -- WHAT HOLDS
 
--- the cell is as booked, and its journal is calm
-abbrev pub Healthy : Terms → Holding
-Healthy T ls J minds w =
-    Undisturbed T ls J minds w × (is_calm J ≡ true) × Calm T.limits T.plan.plates J
+-- the cell is as booked, its journal is calm, and its motions take as long as ever
+abbrev pub Healthy : Terms → Durations → Holding
+Healthy T ds ls J minds w =
+    Undisturbed T ls J minds w × (is_calm J ≡ true) × Calm T.limits T.plan.plates J × (w.durations ≡ ds)
 
-healthy_on : (T : Terms) → HoldsOn T (Healthy T)
-healthy_on T =
+healthy_on : (T : Terms) (ds : Durations) → HoldsOn T (Healthy T ds)
+healthy_on T ds =
     let l = T.limits in let p = T.plan in let on = holds_on T in
     record {
-      alike = λ ls J f g w h t. (on.alike ls J f g w h t.0, t.1, t.2);
+      alike = λ ls J f g w h t. (on.alike ls J f g w h t.0, t.1, t.2, t.3);
       turn = λ ls J f w m e t decided allowed. let left = on.turn ls J f w m e t.0 decided allowed in
-          let calm = calm_then l J p _ _ e t.1 left.1.0 in
-          (left, calm, calm_turn l p J m (f m) (shown w m) e decided allowed calm (λ h. t.2));
-      round = λ ls J f w t. (on.round ls J f w t.0, t.1, t.2);
+          let calm = calm_then l J p _ _ e t.1 left.1.0 in (
+            left,
+            calm,
+            calm_turn l p J m (f m) (shown w m) e decided allowed calm (λ h. t.2),
+            turn_long w m e ∙ t.3,
+          );
+      round = λ ls J f w t. (
+        on.round ls J f w t.0,
+        t.1,
+        t.2,
+        (round_spares J machine.Feed w (on.plain ls J f w t.0)).long ∙ t.3,
+      );
       hand = λ ls J f w a t next allowed. absurd (none_next ls (record { limits = l; entries = J }) a t.0.0 next);
       plain = λ ls J f w t. on.plain ls J f w t.0;
       counts = λ ls J f w t. on.counts ls J f w t.0;
@@ -121,12 +132,13 @@ healthy_on T =
     }
 
 pub stands_healthy : (T : Terms) (ds : Durations) (k : Unkept) (t : Stand SimCell Unkept) → Allows T.plan ds
-    → Leads AnswersSo AllKept T (start (opened T.plan ds) k [] [] None) t → Holds T (Healthy T) t
+    → Leads AnswersSo AllKept T (start (opened T.plan ds) k [] [] None) t → Holds T (Healthy T ds) t
 stands_healthy T ds k t fair leads =
-    come T (Healthy T) (opened T.plan ds) k [] [] t (healthy_on T) refl (
+    come T (Healthy T ds) (opened T.plan ds) k [] [] t (healthy_on T ds) refl (
       (refl, (cell_opening T.limits T.plan ds fair, refl)),
       refl,
       record { legal = refl; still = still_start T.plan.plates; possible = tt },
+      refl,
     ) leads
 
 -- THE END

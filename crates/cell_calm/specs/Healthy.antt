@@ -2,20 +2,22 @@
 use Rattle.std.specs.Prelude.{ℕ, ◌≡◌, ◌≢◌, ◌≤◌, ◌<◌, ◌+◌, ◌*◌, Bool, true, Option, List, [], IfSome}
 use Rattle.cell_types.specs.declared.words.Axis.{Axis}
 use Rattle.cell_types.specs.declared.words.Entry.{Entry}
+use Rattle.cell_types.specs.declared.words.Pose.{Pose}
 use Rattle.cell_rules.specs.Views.{count_of}
 use Rattle.cell_rules.specs.declared.limits.BookLimits.{BookLimits}
 use Rattle.cell_measures.specs.declared.durations.Durations.{Durations}
 use Rattle.cell_ports.specs.declared.plan.Plan.{Plan}
-use Rattle.cell_turns.specs.Moving.{limits_of}
 use Rattle.cell_workers.specs.declared.ends.End.{End}
 use Rattle.cell_workers.specs.declared.ends.End.TheVariants as end
 use Rattle.cell_sim.specs.Simulated.{one_each}
 use Rattle.sim_plant.specs.Answers.{AnswersSo, SimCell}
 use Rattle.cell_runs.specs.Cells.{IsSimulated, Ran}
 use Rattle.cell_runs.specs.Inputs.{AreFaults, AreLines}
-use Rattle.cell_runs.specs.Runs.{KeepsRun, Kept, limits_of as limits_in}
+use Rattle.cell_runs.specs.Runs.{KeepsRun, Kept}
 use Rattle.cell_runs.specs.declared.texts.Mode.TheVariants as mode
 use Rattle.cell_world.specs.Running.{Allows, opened}
+use Rattle.cell_world.specs.Starting.{further_in}
+use Rattle.cell_world.specs.Whole.{opening_for}
 use Rattle.cell_calm.specs.Calm.{HasRoom, is_calm}
 
 -- in none of them is a machine declared failed, however it ends, if the plan's limits let each motion be as long as it
@@ -25,10 +27,15 @@ NoneDeclared =
     (l : BookLimits) (p : Plan) (ds : Durations) (new : SimCell) (J : List Entry) (e : End) → Allows p ds
     → Ran AnswersSo l p (opened p ds) [] [] new J e → is_calm J ≡ true
 
--- the plan has rounds enough, where no motion may take more than so many readings: for each plate more than 76 times
--- one more than that
-pub record HasTime (p : Plan) (most : ℕ) : Type 0 where
-  pub readings : (a : Axis) → (limits_of p a).limit ≤ most
+-- how many readings a motion takes: one that shows where it begins, one where it ends, and between them those that show
+-- nothing
+abbrev pub readings_of : Plan → Durations → Axis → Pose → ℕ
+readings_of p ds a to = further_in (opening_for p ds) a to + 3
+
+-- the plan has rounds enough, where no motion takes more than so many readings: for each plate more than 76 times one
+-- more than that
+pub record HasTime (p : Plan) (ds : Durations) (most : ℕ) : Type 0 where
+  pub readings : (a : Axis) (to : Pose) → readings_of p ds a to ≤ most
   pub rounds : (most + 1) * (76 * p.plates) < p.turns
 
 -- all plates of the plan are admitted, forged and delivered
@@ -41,13 +48,14 @@ pub record AllForged (plates : ℕ) (J : List Entry) : Type 0 where
 abbrev pub HealthyRunsFinish : Type 0
 HealthyRunsFinish =
     (l : BookLimits) (p : Plan) (ds : Durations) (most : ℕ) (new : SimCell) (J : List Entry) (e : End) → Allows p ds
-    → HasRoom l p.plates → HasTime p most → IsSimulated l p (opened p ds) [] [] new J e → e ≢ end.Memory
+    → HasRoom l p.plates → HasTime p ds most → IsSimulated l p (opened p ds) [] [] new J e → e ≢ end.Memory
     → (e ≡ end.Finished) × AllForged p.plates J
 
--- so it is with a run that is kept
+-- so it is with a run that is kept, whose motions take three readings each, where the journal has room for more than 76
+-- entries a plate, and the plan has more than 304 rounds a plate
 abbrev pub Finishes : Kept → Type 0
 Finishes run =
-    (most : ℕ) → HasRoom (limits_in run.plan) run.plan.plates → HasTime run.plan most → run.end ≢ end.Memory
+    76 * run.plan.plates < run.plan.journal_limit → 304 * run.plan.plates < run.plan.turns → run.end ≢ end.Memory
     → (run.end ≡ end.Finished) × AllForged run.plan.plates run.entries
 
 -- and with the one of which `run_texts` writes in rounds, for texts with no fault and no line of the operator

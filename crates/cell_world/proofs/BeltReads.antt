@@ -53,7 +53,8 @@ use Rattle.cell_world.proofs.Belts.{after_belt, belt_goes_on, gone_to}
 use Rattle.cell_world.proofs.Laying.{hands_booked, stations_before}
 use Rattle.cell_world.proofs.Read.{hands_leave}
 use Rattle.cell_world.proofs.RestPending.{agrees_pending}
-use Rattle.cell_world.proofs.Steps.{either, fair_more}
+use Rattle.cell_world.proofs.Long.{further_then, reading_long}
+use Rattle.cell_world.proofs.Steps.{either, fair_more, further_more}
 use Rattle.cell_world.proofs.Turns.{Agreed, Noted, Verdicts, not_robot, stands_by}
 
 -- a belt has one axis, whichever its motion
@@ -198,11 +199,12 @@ goes_stations J p c k (more n (suc j)) h w e t =
 goes_stations J p c k (more n zero) h w e t = cc e
 
 stays_read : (J : List Entry) (p : Plan) (c : Conveying) (k : Plate) (g h : Given) (s : Mind) (w : Simulated)
-    → next_given g ≡ Some h → IsFair (motion_by J p (belt_of c) (name_of c)) (further_of g) → RobotMayStand J w
-    → StationsAsBooked J p w → BeltGoes J p c k g s.axis w
+    → next_given g ≡ Some h → IsFair (motion_by J p (belt_of c) (name_of c)) (further_of g)
+    → further_of g ≡ further_in w (belt_of c) (name_of c) → RobotMayStand J w → StationsAsBooked J p w
+    → BeltGoes J p c k g s.axis w
     → BeltStays J p c k h (Noted J p (machine_of c) s w) (after_reading w (machine_of c))
     → Went J p (machine_of c) s w
-stays_read J p c k g h s w e fair r st t x =
+stays_read J p c k g h s w e fair long r st t x =
     inl (
       x.pending,
       record {
@@ -211,6 +213,9 @@ stays_read J p c k g h s w e fair r st t x =
           plate = k;
           given = h;
           of = refl;
+          long = sym (further_more g h e)
+              ∙ (long ∙ sym (further_then w (after_reading w (machine_of c)) (belt_of c) (name_of c)
+              (reading_long w (machine_of c))));
           fair = fair_more (motion_by J p (belt_of c) (name_of c)) g h e fair;
           goes = x.goes;
         });
@@ -221,16 +226,17 @@ stays_read J p c k g h s w e fair r st t x =
     )
 
 carries_reads : (J : List Entry) (p : Plan) (c : Conveying) (k : Plate) (g : Given) (s : Mind) (w : Simulated)
-    → IsFair (motion_by J p (belt_of c) (name_of c)) (further_of g) → RobotMayStand J w → StationsAsBooked J p w
+    → IsFair (motion_by J p (belt_of c) (name_of c)) (further_of g)
+    → further_of g ≡ further_in w (belt_of c) (name_of c) → RobotMayStand J w → StationsAsBooked J p w
     → BeltGoes J p c k g s.axis w → Went J p (machine_of c) s w
-carries_reads J p c k (none n) s w fair r st t =
-    stays_read J p c k (none n) (one n) s w refl fair r st t (belt_goes_on J p c k (none n) s.axis w fair t)
-carries_reads J p c k (one n) s w fair r st t =
-    stays_read J p c k (one n) (more 0 n) s w refl fair r st t (belt_goes_on J p c k (one n) s.axis w fair t)
-carries_reads J p c k (more n (suc j)) s w fair r st t =
-    stays_read J p c k (more n (suc j)) (more (suc n) j) s w refl fair r st t
+carries_reads J p c k (none n) s w fair long r st t =
+    stays_read J p c k (none n) (one n) s w refl fair long r st t (belt_goes_on J p c k (none n) s.axis w fair t)
+carries_reads J p c k (one n) s w fair long r st t =
+    stays_read J p c k (one n) (more 0 n) s w refl fair long r st t (belt_goes_on J p c k (one n) s.axis w fair t)
+carries_reads J p c k (more n (suc j)) s w fair long r st t =
+    stays_read J p c k (more n (suc j)) (more (suc n) j) s w refl fair long r st t
     (belt_goes_on J p c k (more n (suc j)) s.axis w fair t)
-carries_reads J p c k (more n zero) s w fair r st t =
+carries_reads J p c k (more n zero) s w fair long r st t =
     inr (record {
       way = c;
       plate = k;
@@ -245,7 +251,7 @@ pub belt_reads : (J : List Entry) (p : Plan) (m : Machine) (s : Mind) (w : Simul
 belt_reads J p m s w b r st (inl t) =
     subst (λ (x : Machine). Went J p x s w) (way_is m b) (still_reads J p (way_of m) s w r st t)
 belt_reads J p m s w b r st (inr t) =
-    subst (λ (x : Machine). Went J p x s w) t.of (carries_reads J p t.way t.plate t.given s w t.fair r st t.goes)
+    subst (λ (x : Machine). Went J p x s w) t.of (carries_reads J p t.way t.plate t.given s w t.fair t.long r st t.goes)
 
 -- ITS READING AGREES WITH WHAT IS EXPECTED
 

@@ -84,7 +84,7 @@ use Rattle.cell_world.proofs.Spared.{some_same}
 use Rattle.cell_world.proofs.Turns.{Free, Verdicts, IsCalm, Noted, good_then, plates_as}
 use Rattle.cell_world.proofs.Turns.{ruled_end, ruled_proposes, ruled_signed, started_plates}
 use Rattle.cell_world.proofs.Turns.{proposed_wants}
-use Rattle.cell_world.proofs.Long.{fair_then, reading_long}
+use Rattle.cell_world.proofs.Long.{entry_long, fair_then, further_then, reading_long}
 use Rattle.cell_world.proofs.BeltWays.{AtBelt, LeftBy, belt_stays, deposit_lit_so, ends_booked, entry_leaves}
 use Rattle.cell_world.proofs.BeltWays.{feed_lit_so, green_rests, lamp_at, lit_as, none_leaves, red_green, red_unless}
 use Rattle.cell_world.proofs.BeltWays.{rests_then}
@@ -103,6 +103,7 @@ apart_leaves l J p m s w x t r g k calm n rs sd e st so =
     let tie = belt_stays J K p m f v v t.belt
     (record {
       plain = tied_plain J p m f v r.tied;
+      long = refl;
       at = λ a i. at_before J x a (rs a);
       going = λ a i. going_before J x a (sd a);
       axes = λ a i. refl;
@@ -214,6 +215,7 @@ started_leaves l J p c s w t r g k allow =
       plate = here.0;
       given = none (further_in v (belt_of c) (name_of c));
       of = refl;
+      long = sym (further_then v (after_entry v x) (belt_of c) (name_of c) (entry_long v x));
       fair = fair_of (one_more J x) p c v (fair_then p w v (reading_long w m) t.begins.fair)
           (at_before J x (belt_of c) refl ∙ rest.home);
       goes = belt_starts J p c here.0 f v rest red here.1 empty;

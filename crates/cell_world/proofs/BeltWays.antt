@@ -40,6 +40,7 @@ use Rattle.cell_world.specs.Laying.{NoneIsLaid, OneIsLaid, OneIsTaken}
 use Rattle.cell_world.specs.Sparing.{IsSpared}
 use Rattle.cell_world.specs.Starting.{after_entry, one_more}
 use Rattle.cell_world.specs.Tied.{Given, IsFair, further_of}
+use Rattle.cell_world.proofs.Long.{further_then}
 use Rattle.cell_world.proofs.BeltReads.{IsRead, read_counts}
 use Rattle.cell_world.proofs.BeltReads.{rests_alike, way_back, way_is}
 use Rattle.cell_world.proofs.BeltOther.{SparesOther, ends_then, read_spares_other}
@@ -214,6 +215,7 @@ belt_stays J K p m f w v b s ends (inr t) =
       plate = t.plate;
       given = t.given;
       of = t.of;
+      long = t.long ∙ sym (further_then w v (belt_of t.way) (name_of t.way) s.long);
       fair = subst (λ (q : Pose). IsFair (record {
         axis = belt_of t.way;
         from = q;

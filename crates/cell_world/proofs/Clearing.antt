@@ -174,6 +174,7 @@ cleared_spares J k s n w t =
     let x = Quarantined k s in
     record {
       plain = cleared_plain s w t;
+      long = refl;
       at = λ a i. at_before J x a refl;
       going = λ a i. going_before J x a refl;
       axes = λ a i. refl;

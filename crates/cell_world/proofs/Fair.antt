@@ -160,7 +160,7 @@ one_of_row : (to : Pose) → slice_index (replicate {A = ℕ} 18 1) (pose_number
 one_of_row pose.Rest = refl
 one_of_row _ = refl
 
-one_long : (a : Axis) (to : Pose) → duration one_each (record { axis = a; to = to }) - 1 ≡ 0
+pub one_long : (a : Axis) (to : Pose) → duration one_each (record { axis = a; to = to }) - 1 ≡ 0
 one_long a to = ap (λ (r : List ℕ). slice_index r (pose_number to) - 1) (row_of_ones a) ∙ one_of_row to
 
 pub settings_are_fair : SettingsAreFair

@@ -58,7 +58,13 @@ turn_spared J w m n None t d h =
     subst (λ (K : List Entry). IsSpared n J K w (after_reading w m)) (sym (append-nil J)) (reading_spares J w n m t d)
 turn_spared J w m n (Some x) t d h =
     let r = reading_spares J w n m t d in let s = entry_spares J (after_reading w m) x n m r.plain h d in
-    record { plain = s.plain; at = s.at; going = s.going; axes = λ a i. s.axes a i ∙ r.axes a i }
+    record {
+      plain = s.plain;
+      long = s.long ∙ r.long;
+      at = s.at;
+      going = s.going;
+      axes = λ a i. s.axes a i ∙ r.axes a i;
+    }
 
 pub turn_healthy : (J : List Entry) (m n : Machine) (e : Option Entry) → m ≢ n
     → IfSome e (λ x. machine_of_entry x ≡ Some m) → is_failed (J ++ option_to_list e) n ≡ is_failed J n

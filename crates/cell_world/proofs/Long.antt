@@ -53,7 +53,7 @@ use Rattle.cell_sim.specs.Readings.{left_with, next_laid, passed, plate_laid, pl
 use Rattle.cell_sim.specs.Readings.{stations_left}
 use Rattle.cell_sim.specs.Script.{fault_in}
 use Rattle.cell_sim.specs.Simulated.{Simulated}
-use Rattle.cell_world.specs.Starting.{after_order}
+use Rattle.cell_world.specs.Starting.{after_entry, after_order, further_in}
 use Rattle.cell_world.specs.Tie.{IsFairPlan}
 use Rattle.cell_world.specs.Turning.{DurationsStay, after_turn}
 use Rattle.cell_world.proofs.Steps.{either}
@@ -296,6 +296,9 @@ turn_keeps w m (Some x) = order_long (after_reading w m) (command_of x) ∙ read
 pub turn_long : (w : Simulated) (m : Machine) (e : Option Entry) → (after_turn w m e).durations ≡ w.durations
 turn_long w m e = ap (λ (x : Durations × ℕ). x.0) (turn_keeps w m e)
 
+pub entry_long : (w : Simulated) (x : Entry) → (after_entry w x).durations ≡ w.durations
+entry_long w x = ap (λ (y : Durations × ℕ). y.0) (order_long w (command_of x))
+
 pub turn_clears : (w : Simulated) (m : Machine) (e : Option Entry) → (after_turn w m e).cleared ≡ w.cleared
 turn_clears w m e = ap (λ (x : Durations × ℕ). x.1) (turn_keeps w m e)
 
@@ -307,3 +310,8 @@ pub fair_then : (p : Plan) (w v : Simulated) → v.durations ≡ w.durations →
 fair_then p w v h t =
     subst (λ (ds : Durations). (a : Axis) (to : Pose) → (2 ≤ (limits_of p a).leave)
     × ((duration ds (record { axis = a; to = to }) - 1) + 3 ≤ (limits_of p a).limit)) (sym h) t
+
+-- nor does what a motion takes there, of which so much is left beyond a reading
+pub further_then : (w v : Simulated) (a : Axis) (to : Pose) → v.durations ≡ w.durations
+    → further_in v a to ≡ further_in w a to
+further_then w v a to h = ap (λ (d : Durations). duration d (record { axis = a; to = to }) - 1) h

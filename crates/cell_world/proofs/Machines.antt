@@ -31,7 +31,8 @@ use Rattle.cell_world.specs.Starting.{after_entry, further_in, one_more, Machine
 use Rattle.cell_world.specs.Agreeing.{has_belt}
 use Rattle.cell_world.specs.Tie.{MachineEnds, MachineGoesOn, MachineStarts}
 use Rattle.cell_world.specs.Tie.{TiedStands, WentOn}
-use Rattle.cell_world.proofs.Steps.{each_axis, fair_more, not_true, rest_silent, stays, unless}
+use Rattle.cell_world.proofs.Long.{entry_long, further_then, reading_long}
+use Rattle.cell_world.proofs.Steps.{each_axis, fair_more, further_more, not_true, rest_silent, stays, unless}
 use Rattle.cell_world.proofs.Any.{any_goes}
 use Rattle.cell_world.proofs.Entries.{at_before}
 use Rattle.cell_world.proofs.Starts.{axis_ends, axis_starts}
@@ -111,9 +112,9 @@ nothing_noted J p m f w r b t =
     ∙ ap (λ (o : Option Motion). option_map (with_reading r) (followed None o)) (no_motion J p m w b t.rest)
 
 stays_tied : (J : List Entry) (p : Plan) (a : Axis) (to : Pose) (g h : Given) (f : Option Following) (w : Simulated)
-    → next_given g ≡ Some h → IsFair (motion_by J p a to) (further_of g) → AxisStays J p a to h f w
-    → WentOn J p (machine_of_axis a) f w
-stays_tied J p a to g h f w e fair t =
+    → next_given g ≡ Some h → IsFair (motion_by J p a to) (further_of g) → further_of g ≡ further_in w a to
+    → AxisStays J p a to h f w → WentOn J p (machine_of_axis a) f w
+stays_tied J p a to g h f w e fair long t =
     inl (
       t.pending,
       inr (record {
@@ -121,6 +122,7 @@ stays_tied J p a to g h f w e fair t =
         to = to;
         given = h;
         of = refl;
+        long = sym (further_more g h e) ∙ long;
         fair = fair_more (motion_by J p a to) g h e fair;
         goes = t.goes;
       }),
@@ -135,13 +137,13 @@ rests_read J p m f w b t =
     (record { plain = t.plain; rest = t.rest; unnoted = nothing_noted J p m f w (shown w m) b t })
 
 axis_went : (J : List Entry) (p : Plan) (a : Axis) (to : Pose) (g : Given) (f : Option Following) (w : Simulated)
-    → IsFair (motion_by J p a to) (further_of g) → AxisWent J p a to (next_given g) f w
-    → WentOn J p (machine_of_axis a) f w
-axis_went J p a to (none n) f w fair t = stays_tied J p a to (none n) (one n) f w refl fair t
-axis_went J p a to (one n) f w fair t = stays_tied J p a to (one n) (more 0 n) f w refl fair t
-axis_went J p a to (more n (suc k)) f w fair t =
-    stays_tied J p a to (more n (suc k)) (more (suc n) k) f w refl fair t
-axis_went J p a to (more n zero) f w fair t = inr (record { mover = a; to = to; of = refl; came = t })
+    → IsFair (motion_by J p a to) (further_of g) → further_of g ≡ further_in w a to
+    → AxisWent J p a to (next_given g) f w → WentOn J p (machine_of_axis a) f w
+axis_went J p a to (none n) f w fair long t = stays_tied J p a to (none n) (one n) f w refl fair long t
+axis_went J p a to (one n) f w fair long t = stays_tied J p a to (one n) (more 0 n) f w refl fair long t
+axis_went J p a to (more n (suc k)) f w fair long t =
+    stays_tied J p a to (more n (suc k)) (more (suc n) k) f w refl fair long t
+axis_went J p a to (more n zero) f w fair long t = inr (record { mover = a; to = to; of = refl; came = t })
 
 pub machine_goes : MachineGoesOn
 machine_goes J p m f w b (inl t) =
@@ -152,6 +154,7 @@ machine_goes J p m f w b (inr t) =
     let n = machine_of_axis t.mover in
     subst (λ (x : Machine). WentOn J p x (axis_noted J x p f (shown w x)) (after_reading w x)) t.of
     (axis_went J p t.mover t.to t.given (axis_noted J n p f (shown w n)) (after_reading w n) t.fair
+    (t.long ∙ sym (further_then w (after_reading w n) t.mover t.to (reading_long w n)))
     (any_goes J p t.mover t.to t.given f w (no_belt t.mover m t.of b) t.fair t.goes))
 
 -- the poses of an axis are told apart by their places
@@ -201,6 +204,7 @@ machine_starts J p a to f w s plan h n t =
       to = to;
       given = none (further_in w a to);
       of = refl;
+      long = sym (further_then w (after_entry w (Started a to)) a to (entry_long w (Started a to)));
       fair = record {
         elsewhere = ap (λ (q : Pose). place_in_axis to == place_in_axis q) at
             ∙ elsewhere a to (at_of J a) s h (t.rest a refl).own_pose n;

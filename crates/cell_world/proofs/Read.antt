@@ -41,6 +41,7 @@ use Rattle.cell_world.proofs.Belts.{unlooked_carrying}
 use Rattle.cell_world.proofs.Leaves.{Apart, Leaves, axis_leaves, leaves_all, leaves_by, leaves_either, leaves_then}
 use Rattle.cell_world.proofs.Leaves.{motion_leaves, plate_leaves, plates_leave, turn_leaves}
 use Rattle.cell_world.proofs.Spared.{axis_of, axis_of_it}
+use Rattle.cell_world.proofs.Long.{reading_long}
 use Rattle.cell_world.proofs.Steps.{broke_on, unlooked}
 
 broke_leaves : (r : SafetyRule) (c : Option Command) (a : Axis) (w : Simulated) → IsPlain w → Leaves a w (broke r c w)
@@ -225,6 +226,7 @@ pub reading_spares : ReadingSpares
 reading_spares J w m n t d =
     record {
       plain = (after_leaves n (axis_of m) w (λ e. d (e ∙ axis_of_it m)) t).plain;
+      long = reading_long w n;
       at = λ a k. refl;
       going = λ a k. refl;
       axes = λ a k. (after_leaves n a w (λ e. d (e ∙ k)) t).axis;

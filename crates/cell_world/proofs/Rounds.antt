@@ -86,6 +86,7 @@ pub round_spares : (J : List Entry) (m : Machine) (w : Simulated) → IsPlain w 
 round_spares J m w t =
     record {
       plain = round_plain w t;
+      long = round_same (λ (v : Simulated). v.durations) (record { moving = λ n v. refl; round = λ n v. refl }) w;
       at = λ a i. refl;
       going = λ a i. refl;
       axes = λ a i. round_same (λ (v : Simulated). axis_at v a)

@@ -49,6 +49,7 @@ use Rattle.cell_world.proofs.Leaves.{Apart, Leaves, apart_number, leaves_all, le
 use Rattle.cell_world.proofs.Leaves.{motion_leaves, not_same, plates_leave, turn_leaves}
 use Rattle.cell_world.proofs.Entries.{at_before, going_before}
 use Rattle.cell_world.proofs.Starts.{on_does, ready, ready_at, ready_plain, told_other}
+use Rattle.cell_world.proofs.Long.{entry_long, further_then}
 use Rattle.cell_world.proofs.Steps.{rests_as, unless, unlooked}
 
 -- what is as before is tied as before
@@ -87,6 +88,7 @@ spared_stays J J' p m f w w' s (inr t) =
       to = t.to;
       given = t.given;
       of = t.of;
+      long = t.long ∙ sym (further_then w w' a t.to s.long);
       fair = subst (λ (q : Pose). IsFair (record { axis = a; from = q; to = t.to; limits = limits_of p a })
           (further_of t.given)) (sym (s.at a t.of)) t.fair;
       goes = goes_spared J J' p m a t.to t.given f w w' s t.of t.goes;
@@ -271,6 +273,7 @@ pub entry_spares : EntrySpares
 entry_spares J w e m n t h d =
     record {
       plain = (entry_leaves e (axis_of m) m n w t h (axis_of_it m) d).plain;
+      long = entry_long w e;
       at = λ a k. at_before J e a (says_no_rest e a m n h k d);
       going = λ a k. going_before J e a (says_no_going e a m n h k d);
       axes = λ a k. (entry_leaves e a m n w t h k d).axis;

@@ -205,7 +205,7 @@ unless false x y h = refl
 pub same_given : (g h : Given) → Some g ≡ Some h → g ≡ h
 same_given g h e = cc e
 
-further_more : (g h : Given) → next_given g ≡ Some h → further_of g ≡ further_of h
+pub further_more : (g h : Given) → next_given g ≡ Some h → further_of g ≡ further_of h
 further_more (none n) h e = ap further_of (same_given (one n) h e)
 further_more (one n) h e = let x : n ≡ 0 + n = omega arith in x ∙ ap further_of (same_given (more 0 n) h e)
 further_more (more n zero) h e = cc e

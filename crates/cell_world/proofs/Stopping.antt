@@ -594,6 +594,7 @@ asked_spares J m n w t =
     let x = StopAsked m in
     record {
       plain = t;
+      long = refl;
       at = λ a i. at_before J x a refl;
       going = λ a i. going_before J x a refl;
       axes = λ a i. refl;
@@ -690,6 +691,7 @@ home_spares J m n w t d =
     let x = Repaired m in
     record {
       plain = homed_plain (axes_of m) w t;
+      long = homed_part (λ (u : Simulated). u.durations) (λ a y u. refl) (axes_of m) w;
       at = λ a i. at_before J x a (ap (λ (b : Bool). when b (home a)) (not_its a m n i d));
       going = λ a i. going_before J x a
           (ap (λ (b : Bool). to_rest (when b (home a))) (not_its a m n i d));

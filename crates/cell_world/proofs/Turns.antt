@@ -71,7 +71,7 @@ use Rattle.cell_world.specs.Turning.{AsBooked, TurnBegins, TurnKeeps, TurnLeaves
 use Rattle.cell_world.proofs.Any.{moves_as}
 use Rattle.cell_world.proofs.Begins.{from_rest, some_not}
 use Rattle.cell_world.proofs.Clear.{starts_stay_clear}
-use Rattle.cell_world.proofs.Long.{fair_then, reading_long}
+use Rattle.cell_world.proofs.Long.{entry_long, fair_then, reading_long}
 use Rattle.cell_world.proofs.Ends.{SparesEnds, dropped_spares, gripped_spares, read_spares_ends, spares_same}
 use Rattle.cell_world.proofs.Ends.{spares_then, started_part, started_spares}
 use Rattle.cell_world.proofs.Entries.{at_before, going_before}
@@ -392,6 +392,7 @@ apart_leaves l J p m s w x t calm r q e n spares =
     (spared_stays J (one_more J x) p m f v (after_entry v x)
     (record {
       plain = n.plain;
+      long = entry_long v x;
       at = λ a i. at_before J x a (r a);
       going = λ a i. going_before J x a (q a);
       axes = λ a i. n.axes a;

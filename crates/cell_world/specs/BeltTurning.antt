@@ -18,7 +18,7 @@ use Rattle.cell_world.specs.Belts.{BeltGoes, BeltRests, Conveying, belt_of, mach
 use Rattle.cell_world.specs.Belts.{to_feed_end}
 use Rattle.cell_world.specs.Handing.{HasBooked}
 use Rattle.cell_world.specs.Laying.{LayingAsBooked, TakingAsBooked}
-use Rattle.cell_world.specs.Starting.{RobotMayStand}
+use Rattle.cell_world.specs.Starting.{RobotMayStand, further_in}
 use Rattle.cell_world.specs.Tie.{IsFairPlan}
 use Rattle.cell_world.specs.Tied.{Given, IsFair, further_of, motion_by}
 use Rattle.cell_world.specs.Turning.{AsBooked, after_turn, is_within}
@@ -28,12 +28,13 @@ abbrev pub way_of : Machine → Conveying
 way_of machine.Feed = to_feed_end
 way_of _ = to_deposit_end
 
--- the belt carries a plate on one of its motions
+-- the belt carries a plate on one of its motions, which takes as long as the world's motions do
 pub record BeltCarries (J : List Entry) (p : Plan) (m : Machine) (f : Option Following) (w : Simulated) : Type 0 where
   pub way : Conveying
   pub plate : Plate
   pub given : Given
   pub of : machine_of way ≡ m
+  pub long : further_of given ≡ further_in w (belt_of way) (name_of way)
   pub fair : IsFair (motion_by J p (belt_of way) (name_of way)) (further_of given)
   pub goes : BeltGoes J p way plate given f w
 

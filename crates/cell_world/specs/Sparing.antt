@@ -15,9 +15,10 @@ use Rattle.cell_world.specs.Going.{IsPlain}
 use Rattle.cell_world.specs.Starting.{after_entry, one_more}
 use Rattle.cell_world.specs.Tie.{IsTied}
 
--- the axes of a machine are as before, in the book and in the world
+-- the axes of a machine are as before, in the book and in the world, where motions take as long as before
 pub record IsSpared (m : Machine) (J J' : List Entry) (w w' : Simulated) : Type 0 where
   pub plain : IsPlain w'
+  pub long : w'.durations ≡ w.durations
   pub at : (a : Axis) → machine_of_axis a ≡ m → at_of J' a ≡ at_of J a
   pub going : (a : Axis) → machine_of_axis a ≡ m → going_of J' a ≡ going_of J a
   pub axes : (a : Axis) → machine_of_axis a ≡ m → axis_at w' a ≡ axis_at w a

@@ -25,12 +25,14 @@ use Rattle.cell_world.specs.Starting.{after_entry, further_in, one_more, BringsT
 use Rattle.cell_world.specs.Agreeing.{has_belt}
 use Rattle.cell_world.specs.Handing.{HasBooked}
 
--- an axis of the machine goes, on a motion that the watch can follow, and the others rest
+-- an axis of the machine goes, on a motion that takes as long as the world's motions do and that the watch can follow,
+-- and the others rest
 pub record MachineGoes (J : List Entry) (p : Plan) (m : Machine) (f : Option Following) (w : Simulated) : Type 0 where
   pub mover : Axis
   pub to : Pose
   pub given : Given
   pub of : machine_of_axis mover ≡ m
+  pub long : further_of given ≡ further_in w mover to
   pub fair : IsFair (motion_by J p mover to) (further_of given)
   pub goes : AxisGoes J p mover to given f w
 
