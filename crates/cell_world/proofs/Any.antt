@@ -37,7 +37,7 @@ use Rattle.cell_world.proofs.Steps.{goes_on, stays, rest_silent, axes_at, below_
 use Rattle.cell_world.specs.Agreeing.{bits_at}
 use Rattle.cell_world.specs.Going.{AxisGoes, AxisCame, AxisStays, AxisGoesOn, IsPlain, OthersRest}
 
-broke_axes : (r : SafetyRule) (c : Option Command) (w : Simulated) → (broke r c w).axes ≡ w.axes
+pub broke_axes : (r : SafetyRule) (c : Option Command) (w : Simulated) → (broke r c w).axes ≡ w.axes
 unfolding broke
 broke_axes r c w = refl
 
@@ -214,7 +214,7 @@ none_silent J axis.PressOne at to g w s o h =
 none_silent J axis.PressTwo at to g w s o h =
     rw h refl
 
-no_hands : (a : Axis) (w : Simulated) → is_belt a ≡ false → by_the_hands w (machine_of_axis a) ≡ w
+pub no_hands : (a : Axis) (w : Simulated) → is_belt a ≡ false → by_the_hands w (machine_of_axis a) ≡ w
 no_hands axis.FeedBelt w s = cc s
 no_hands axis.DepositBelt w s = cc s
 no_hands a w s = refl
@@ -242,13 +242,13 @@ shown_any J a at to g w u s o h =
     ∙ (unless (is_reading_missing w (machine_of_axis a)) _ _ (none_silent J a at to g w s o h)
     ∙ ap (λ (v : Simulated). Some (shown_now v (machine_of_axis a))) (read_any J a at to g w u s o h))
 
-bits_shown : (a : Axis) (to : Pose) (w : Simulated) → is_belt a ≡ false
+pub bits_shown : (a : Axis) (to : Pose) (w : Simulated) → is_belt a ≡ false
     → axis_bits a to (shown_now w (machine_of_axis a)) ≡ bits_at a (switches_of w a)
 bits_shown axis.FeedBelt to w s = cc s
 bits_shown axis.DepositBelt to w s = cc s
 bits_shown a to w s = refl
 
-no_bit : (a : Axis) → bits_at a 0 ≡ no_bits
+pub no_bit : (a : Axis) → bits_at a 0 ≡ no_bits
 unfolding bit
 no_bit axis.FeedBelt = refl
 no_bit axis.TableLift = refl

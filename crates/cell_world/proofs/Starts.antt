@@ -100,7 +100,7 @@ no_belt_motion axis.FeedBelt to s = cc s
 no_belt_motion axis.DepositBelt to s = cc s
 no_belt_motion a to s = refl
 
-path_as : (w : Simulated) (a : Axis) (to : Pose) → is_belt a ≡ false → is_pose_of a to ≡ true
+pub path_as : (w : Simulated) (a : Axis) (to : Pose) → is_belt a ≡ false → is_pose_of a to ≡ true
     → path_of w a to ≡ Some (Poses (axis_at w a).pose to)
 path_as w a to s h =
     let e : (is_belt a || not (is_pose_of a to)) ≡ false = rw (s, h) refl in

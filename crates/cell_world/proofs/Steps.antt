@@ -123,7 +123,7 @@ there_left part l a s (Some p) w =
     either part p.is_forged (broke rule.ForgedTwice (Some (On a pose.Top)) w) _ (part w)
     (l.broken rule.ForgedTwice (Some (On a pose.Top)) w) (l.plates s (Some (forged_plate p)) (counted w.forged) w)
 
-forges_left : {X : Type 0} (part : Simulated → X) → IsLeft part → (a : Axis) (w : Simulated)
+pub forges_left : {X : Type 0} (part : Simulated → X) → IsLeft part → (a : Axis) (w : Simulated)
     → part (forges a w) ≡ part w
 unfolding forges
 forges_left part l axis.PressOne w = there_left part l axis.PressOne station.Press1 (plate_here w station.Press1) w
