@@ -1,4 +1,4 @@
--- At the end of a calm run that is done all plates are delivered, and each was forged once
+-- At the end of a run that is done all plates are delivered, and each was forged once
 use Rattle.std.proofs.Common.{◌≡◌, ◌≢◌, ◌≤◌, ◌+◌, ◌⊎◌, inl, inr, ℕ, zero, suc, Bool, true, false, Option, Some}
 use Rattle.std.proofs.Common.{None, List, [], ◌∷◌, refl, sym, ap, ◌∙◌, subst, append-nil, arith}
 use Rattle.std.specs.Prelude.{◌==◌, cond, is_none, is_some, nat_lt}
@@ -11,7 +11,6 @@ use Rattle.cell_types.specs.declared.words.Machine.{Machine}
 use Rattle.cell_types.specs.declared.words.Place.{Place}
 use Rattle.cell_types.specs.declared.words.Place.TheVariants as place
 use Rattle.cell_types.specs.declared.words.Station.{Station}
-use Rattle.cell_types.specs.declared.words.Station.TheVariants as station
 use Rattle.cell_types.specs.After.{after}
 use Rattle.cell_rules.specs.Situations.{Situation}
 use Rattle.cell_rules.specs.Safety.{SafeState, is_forged_as}
@@ -22,8 +21,9 @@ use Rattle.cell_rules.proofs.Safe.Facts.{axes_of}
 use Rattle.cell_rules.proofs.Safe.Plates.{Counted}
 use Rattle.cell_rules.proofs.Safe.Safety.{safe_when_legal}
 use Rattle.cell_rules.proofs.Safe.Told.{told_when_legal}
-use Rattle.cell_workers.specs.Ends.{IsDone, is_vacant}
-use Rattle.cell_calm.proofs.Possible.{Calm}
+use Rattle.cell_workers.specs.Ends.{IsDone}
+use Rattle.cell_calm.proofs.Finished.{none_of}
+use Rattle.cell_calm.proofs.Tame.{Tame}
 
 -- SUMS
 
@@ -157,19 +157,8 @@ all_times n (e ∷ J) h = by (forged_or_not e) (all_times n J (first_then n e J 
 
 -- A RUN THAT IS DONE
 
-none_of : (J : List Entry) (s : Station) → is_vacant J ≡ true → is_none (plate_of J s) ≡ true
-unfolding is_vacant
-none_of J station.FeedIn h = grind arith
-none_of J station.FeedEnd h = grind arith
-none_of J station.Table h = grind arith
-none_of J station.Arm1 h = grind arith
-none_of J station.Arm2 h = grind arith
-none_of J station.Press1 h = grind arith
-none_of J station.Press2 h = grind arith
-none_of J station.DepIn h = grind arith
-none_of J station.DepEnd h = grind arith
-
-module _ (l : BookLimits) (plan : ℕ) (J : List Entry) (c : Calm l plan J) (done : IsDone plan J) where
+module _ (may : Machine → Bool) (l : BookLimits) (plan : ℕ) (J : List Entry) (c : Tame may l plan J)
+    (done : IsDone plan J) where
   safe : SafeState J
   safe = (safe_when_legal l J c.legal).states J [] (append-nil J)
 

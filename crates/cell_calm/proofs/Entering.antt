@@ -1,4 +1,4 @@
--- What is useful, the end of a motion and a sign are among what can happen
+-- What is useful, the end of a motion, a sign and a failure are among what can happen
 use Rattle.std.proofs.Common.{◌≡◌, ℕ, ◌+◌, Bool, true, false, suc, zero, get_or, List, [], ◌∷◌, ◌++◌, Option, Some}
 use Rattle.std.proofs.Common.{None, refl, arith, eq-eqb}
 use Rattle.std.specs.Prelude.{◌==◌, ◌≤◌, nat_le, nat_lt, option_to_list}
@@ -16,8 +16,9 @@ use Rattle.cell_types.specs.declared.words.Pose.TheVariants as pose
 use Rattle.cell_types.specs.declared.words.Belt.TheVariants as belt
 use Rattle.cell_types.specs.declared.words.Colour.{Colour}
 use Rattle.cell_types.specs.declared.words.Colour.TheVariants as colour
+use Rattle.cell_types.specs.declared.words.Cause.TheVariants as cause
 use Rattle.cell_types.specs.declared.words.Entry.{Entry}
-use Rattle.cell_types.specs.declared.words.Entry.TheVariants.{Admitted, Arrived, Conveyed, Delivered, Forged}
+use Rattle.cell_types.specs.declared.words.Entry.TheVariants.{Admitted, Arrived, Conveyed, Declared, Delivered, Forged}
 use Rattle.cell_types.specs.declared.cell.BeltMotion.{BeltMotion}
 use Rattle.cell_types.specs.After.{Snapshot}
 use Rattle.cell_types.specs.Cell.{machine_of_axis, motion_to}
@@ -27,8 +28,8 @@ use Rattle.cell_rules.specs.First.{ends_by_arrival, first_true, forged_tests, no
 use Rattle.cell_machines.specs.Room.{is_bookable}
 use Rattle.cell_machines.specs.Useful.{is_useful_now}
 use Rattle.cell_useful.specs.Cells.{ample}
-use Rattle.cell_useful.specs.Events.{arrivals_of, arrived, failures_of, belt_ends_of, conveyed, forged, laid_in}
-use Rattle.cell_useful.specs.Events.{signs_of, taken_out}
+use Rattle.cell_useful.specs.Events.{arrivals_of, arrived, belt_ends_of, conveyed, failure, failures_of}
+use Rattle.cell_useful.specs.Events.{forged, laid_in, signs_of, taken_out}
 use Rattle.cell_useful.specs.Moves.{acts_of, entries_of}
 use Rattle.cell_useful.specs.Rows.{of_plate_where, somes}
 use Rattle.cell_useful.specs.Useful.{all_useful, useful_of}
@@ -57,11 +58,11 @@ in_nth e A [] n h = absurd (omega arith)
 in_nth e A (B ∷ Bs) zero h = in_base e (A ++ B) Bs (Contains-append_right A B e h)
 in_nth e A (B ∷ Bs) (suc n) h = in_nth e (A ++ B) Bs n h
 
--- what can happen where nothing may fail and nobody serves
-abbrev pub calm_entries : ℕ → Situation → List Entry
-calm_entries plan c = entries_of plan false (λ m. false) c
+-- what can happen where these machines may yet fail and nobody serves
+abbrev pub unserved : (Machine → Bool) → ℕ → Situation → List Entry
+unserved now plan c = entries_of plan false now c
 
-module _ (plan : ℕ) (c : Situation) (e : Entry) where
+module _ (now : Machine → Bool) (plan : ℕ) (c : Situation) (e : Entry) where
   abbrev first : List Entry
   first = useful_of c plan machine.Feed
 
@@ -80,9 +81,9 @@ module _ (plan : ℕ) (c : Situation) (e : Entry) where
 
   -- what happens beside useful entries
   abbrev events : List (List Entry)
-  events = belt_ends_of c ∷ arrivals_of c ∷ signs_of plan c ∷ [] ∷ failures_of (λ m. false) c ∷ []
+  events = belt_ends_of c ∷ arrivals_of c ∷ signs_of plan c ∷ [] ∷ failures_of now c ∷ []
 
-  pub useful_in : (m : Machine) → is_useful_now ample c plan m e ≡ true → Contains (calm_entries plan c) e
+  pub useful_in : (m : Machine) → is_useful_now ample c plan m e ≡ true → Contains (unserved now plan c) e
   unfolding acts_of entries_of
   useful_in m h = in_base e (all_useful c plan) events (in_all m (useful_listed c plan m e h))
 
@@ -91,20 +92,28 @@ module _ (plan : ℕ) (c : Situation) (e : Entry) where
       → get_or (conveyed c axis.FeedBelt station.FeedIn station.FeedEnd
       ∷ conveyed c axis.FeedBelt station.FeedEnd station.Table
       ∷ conveyed c axis.DepositBelt station.DepIn station.DepEnd ∷ forged c machine.Press1 station.Press1
-      ∷ forged c machine.Press2 station.Press2 ∷ []) n None ≡ Some e → Contains (calm_entries plan c) e
+      ∷ forged c machine.Press2 station.Press2 ∷ []) n None ≡ Some e → Contains (unserved now plan c) e
   unfolding acts_of belt_ends_of entries_of
   belt_end_in n h = in_nth e (all_useful c plan) events 0 (in_somes _ n e h)
 
   -- the n-th end of another motion
   pub arrival_in : (n : ℕ) → get_or (arrived c axis.TableLift ∷ arrived c axis.TableTurn ∷ arrived c axis.RobotTurn
       ∷ arrived c axis.ArmOne ∷ arrived c axis.ArmTwo ∷ arrived c axis.PressOne ∷ arrived c axis.PressTwo ∷ []) n None
-      ≡ Some e → Contains (calm_entries plan c) e
+      ≡ Some e → Contains (unserved now plan c) e
   unfolding acts_of arrivals_of entries_of
   arrival_in n h = in_nth e (all_useful c plan) events 1 (in_somes _ n e h)
 
-  pub sign_in : (n : ℕ) → get_or (laid_in plan c ∷ taken_out c ∷ []) n None ≡ Some e → Contains (calm_entries plan c) e
+  pub sign_in : (n : ℕ) → get_or (laid_in plan c ∷ taken_out c ∷ []) n None ≡ Some e → Contains (unserved now plan c) e
   unfolding acts_of entries_of signs_of
   sign_in n h = in_nth e (all_useful c plan) events 2 (in_somes _ n e h)
+
+  -- the n-th machine's failure
+  failure_in : (n : ℕ)
+      → get_or (failure now c machine.Feed ∷ failure now c machine.Table ∷ failure now c machine.Robot
+      ∷ failure now c machine.Press1 ∷ failure now c machine.Press2 ∷ failure now c machine.Deposit ∷ []) n None
+      ≡ Some e → Contains (unserved now plan c) e
+  unfolding acts_of entries_of failures_of
+  failure_in n h = in_nth e (all_useful c plan) events 4 (in_somes _ n e h)
 
 -- where a plate is there and its entry may be booked, that is the entry
 plate_entry : (p : Entry → Bool) (f : ℕ → Entry) (o : Option ℕ) (k : ℕ) → o ≡ Some k → p (f k) ≡ true
@@ -158,3 +167,23 @@ unfolding is_bookable first_true
 admitted_is plan s most healthy lit none next =
     let room : nat_le 100000 s.admitted ≡ false = grind (arith, nat_tests) in
     rw (next, room, healthy, same (s.admitted + 1), green (s.lamp belt.Feed) lit, none) refl
+
+-- a healthy machine that may yet fail can fail
+
+failure_is : (now : Machine → Bool) (s : Snapshot) (m : Machine) → now m ≡ true → s.failed m ≡ false
+    → failure now (cell_of s) m ≡ Some (Declared m cause.CommandFault)
+unfolding is_bookable first_true
+failure_is now s m can healthy = rw (can, healthy) refl
+
+pub failure_among : (now : Machine → Bool) (plan : ℕ) (s : Snapshot) (m : Machine) → now m ≡ true → s.failed m ≡ false
+    → Contains (unserved now plan (cell_of s)) (Declared m cause.CommandFault)
+failure_among now plan s m can healthy = at_machine m (failure_is now s m can healthy)
+  where
+    at_machine : (m : Machine) → failure now (cell_of s) m ≡ Some (Declared m cause.CommandFault)
+        → Contains (unserved now plan (cell_of s)) (Declared m cause.CommandFault)
+    at_machine machine.Feed h = failure_in now plan (cell_of s) _ 0 h
+    at_machine machine.Table h = failure_in now plan (cell_of s) _ 1 h
+    at_machine machine.Robot h = failure_in now plan (cell_of s) _ 2 h
+    at_machine machine.Press1 h = failure_in now plan (cell_of s) _ 3 h
+    at_machine machine.Press2 h = failure_in now plan (cell_of s) _ 4 h
+    at_machine machine.Deposit h = failure_in now plan (cell_of s) _ 5 h

@@ -31,7 +31,6 @@ use Rattle.cell_world.proofs.OneRun.{not_ordinary}
 use Rattle.cell_world.proofs.Simulating.{IsFaultless, faultless, written}
 use Rattle.cell_calm.specs.Calm.{HasRoom, is_calm}
 use Rattle.cell_calm.specs.Healthy.{HealthyRunsFinish, AllForged, HasTime, Finishes, WrittenRunsFinish}
-use Rattle.cell_calm.proofs.Counted.{all_forged}
 use Rattle.cell_calm.proofs.Paces.{PacedAt, paces}
 use Rattle.cell_calm.proofs.Refused.{calm_length}
 use Rattle.cell_calm.proofs.Runs.{finished_whole, never_full, never_stalled, run_calm}
@@ -86,14 +85,7 @@ healthy_runs_finish l p ds most new J e fair room time sim memory = go e refl
 
     go : (x : End) → e ≡ x → (e ≡ end.Finished) × AllForged p.plates J
     go end.Finished is =
-        let run = run_as end.Finished is in (
-          is,
-          record {
-            admitted = run.ended.ends.1.admitted;
-            forged = all_forged l p.plates J (run_calm l p room [] J calm e sim.run) run.ended.ends.1;
-            delivered = (finished_whole l p room [] J calm run).1;
-          },
-        )
+        (is, (finished_whole l p room [] J calm (run_as end.Finished is)).1)
     go end.Stalled is = absurd (never_stalled l p room [] J calm (run_as end.Stalled is))
     go end.Full is = absurd (never_full l p room [] J calm (run_as end.Full is))
     go end.Memory is = absurd (memory is)

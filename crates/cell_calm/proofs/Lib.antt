@@ -1,6 +1,9 @@
 pub mod Room
+pub mod Plain
+pub mod Barred
 pub mod Entering
 pub mod Still
+pub mod Tame
 pub mod Ends
 pub mod Decided
 pub mod Orders

@@ -1,8 +1,9 @@
--- Where nothing moves, no light is green and nothing is useful, nothing can happen
+-- Where no healthy machine moves or has a green light, and nothing is useful, nothing can happen
 use Rattle.std.proofs.Common.{◌≡◌, ℕ, ◌+◌, Bool, true, false, ◌&&◌, not, List, [], ◌∷◌, ◌++◌, Option, Some, None}
-use Rattle.std.proofs.Common.{is_some, refl, sym, ◌∙◌, arith}
+use Rattle.std.proofs.Common.{is_some, refl, sym, ap, ◌∙◌, arith}
 use Rattle.std.specs.Prelude.{◌==◌, if◌then◌else◌, nat_le, nat_lt}
 use Rattle.std.specs.List.{All}
+use Rattle.std.specs.Option.{option_and_then}
 use Rattle.std.proofs.lemmas.List.Elements.{All-contains, Contains-append_left}
 use Rattle.cell_types.specs.declared.words.Machine.{Machine}
 use Rattle.cell_types.specs.declared.words.Machine.TheVariants as machine
@@ -10,36 +11,39 @@ use Rattle.cell_types.specs.declared.words.Station.{Station}
 use Rattle.cell_types.specs.declared.words.Station.TheVariants as station
 use Rattle.cell_types.specs.declared.words.Axis.{Axis}
 use Rattle.cell_types.specs.declared.words.Axis.TheVariants as axis
+use Rattle.cell_types.specs.declared.words.Pose.{Pose}
 use Rattle.cell_types.specs.declared.words.Pose.TheVariants as pose
 use Rattle.cell_types.specs.declared.words.Belt.{Belt}
 use Rattle.cell_types.specs.declared.words.Belt.TheVariants as belt
 use Rattle.cell_types.specs.declared.words.Colour.{Colour}
 use Rattle.cell_types.specs.declared.words.Colour.TheVariants as colour
 use Rattle.cell_types.specs.declared.words.Entry.{Entry}
-use Rattle.cell_types.specs.declared.words.Entry.TheVariants.{Admitted, Conveyed, Delivered, Forged}
+use Rattle.cell_types.specs.declared.words.Entry.TheVariants.{Admitted, Arrived, Conveyed, Delivered, Forged}
 use Rattle.cell_types.specs.declared.cell.BeltMotion.{BeltMotion}
 use Rattle.cell_types.specs.After.{Snapshot, is_plate}
 use Rattle.cell_types.specs.Cell.{machine_of_axis, motion_to}
 use Rattle.cell_types.specs.Same.{same_colour}
 use Rattle.cell_rules.specs.First.{first_true, forged_tests, not_going, plate_not_at}
 use Rattle.cell_rules.specs.Last.{when}
-use Rattle.cell_rules.specs.declared.refusal.Refusal.TheVariants.{LampRed, PlateLimit, WrongPlate}
+use Rattle.cell_rules.specs.declared.refusal.Refusal.TheVariants.{LampRed, MachineFailed, PlateLimit, WrongPlate}
 use Rattle.cell_machines.specs.Room.{is_bookable, is_none_or_full}
 use Rattle.cell_machines.specs.Useful.{is_useful_now}
 use Rattle.cell_useful.specs.Cells.{ample}
 use Rattle.cell_useful.specs.Events.{arrivals_of, arrived, belt_ends_of, conveyed, forged, laid_in, signs_of, taken_out}
+use Rattle.cell_useful.specs.Events.{where_allowed}
 use Rattle.cell_useful.specs.Moves.{acts_of, is_nil}
 use Rattle.cell_useful.specs.Rows.{of_plate_where, somes}
 use Rattle.cell_useful.specs.Useful.{all_useful, useful_of}
 use Rattle.cell_useful.proofs.Listed.{listed_useful}
 use Rattle.cell_progress.specs.Orders.{cell_of}
+use Rattle.cell_calm.proofs.Barred.{barred}
 use Rattle.cell_calm.proofs.Entering.{joined}
-use Rattle.cell_calm.proofs.Still.{Still}
 
+-- of the machines that haven't failed no axis moves and no light is green, and nothing is useful for any machine
 pub record Rests (plan : ℕ) (s : Snapshot) : Type 0 where
-  pub going : (a : Axis) → s.going a ≡ None
-  pub feed : same_colour (s.lamp belt.Feed) colour.Green ≡ false
-  pub deposit : same_colour (s.lamp belt.Deposit) colour.Green ≡ false
+  pub going : (a : Axis) → s.failed (machine_of_axis a) ≡ false → s.going a ≡ None
+  pub feed : s.failed machine.Feed ≡ false → same_colour (s.lamp belt.Feed) colour.Green ≡ false
+  pub deposit : s.failed machine.Deposit ≡ false → same_colour (s.lamp belt.Deposit) colour.Green ≡ false
   pub useless : (m : Machine) (e : Entry) → is_useful_now ample (cell_of s) plan m e ≡ false
 
 red : (c : Colour) → same_colour c colour.Green ≡ false → c ≡ colour.Red
@@ -80,7 +84,12 @@ unallowed : (a b : Bool) (e : Entry) → b ≡ false → when (a && b) e ≡ Non
 unallowed true b e h = rw h refl
 unallowed false b e h = refl
 
-module _ (plan : ℕ) (s : Snapshot) (still : Still plan s) (rests : Rests plan s) where
+-- by whether a machine has failed
+either : {X : Type 0} (failed : Bool) → (failed ≡ true → X) → (failed ≡ false → X) → X
+either true f g = f refl
+either false f g = g refl
+
+module _ (plan : ℕ) (s : Snapshot) (rests : Rests plan s) where
   useless : (m : Machine) → is_nil (useful_of (cell_of s) plan m) ≡ true
   useless m =
       nil_of (λ e. is_useful_now ample (cell_of s) plan m e ≡ true) (useful_of (cell_of s) plan m)
@@ -93,32 +102,51 @@ module _ (plan : ℕ) (s : Snapshot) (still : Still plan s) (rests : Rests plan 
   unfolding is_bookable first_true
   unconveyed a m is =
       no_plate (is_bookable ample (cell_of s)) (λ k. Conveyed a k m.dest) (s.plate m.from)
-      (λ k. rw (still.healthy (machine_of_axis a), is, rests.going a) refl)
+      (λ k. either (s.failed (machine_of_axis a)) (λ h. barred s (machine_of_axis a) (Conveyed a k m.dest) _ refl h)
+      (λ h. rw (h, is, rests.going a h) refl))
 
-  unforged : (m : Machine) (a : Axis) (t : Station)
+  unforged : (m : Machine) (a : Axis) (t : Station) → machine_of_axis a ≡ m
       → ((k : ℕ) → forged_tests (cell_of s) m k ≡ not_going (cell_of s) a pose.Top ∷ plate_not_at (cell_of s) t k ∷ [])
       → forged (cell_of s) m t ≡ None
   unfolding is_bookable first_true
-  unforged m a t tests =
+  unforged m a t own tests =
       no_plate (is_bookable ample (cell_of s)) (λ k. Forged m k) (s.plate t)
-      (λ k. rw (still.healthy m, tests k, rests.going a) refl)
+      (λ k. either (s.failed m) (λ h. barred s m (Forged m k) _ refl h)
+      (λ h. rw (h, tests k, rests.going a (ap s.failed own ∙ h)) refl))
 
   unarrived : (a : Axis) → arrived (cell_of s) a ≡ None
-  unarrived a = rw (rests.going a) refl
+  unarrived a =
+      either (s.failed (machine_of_axis a)) (λ h. by h (s.going a)) (λ h. rw (rests.going a h) refl)
+    where
+      by : s.failed (machine_of_axis a) ≡ true → (o : Option Pose)
+          → option_and_then (λ to. where_allowed (cell_of s) (Arrived a to)) o ≡ None
+      by h None = refl
+      by h (Some to) =
+          ap (λ (b : Bool). when b (Arrived a to)) (barred s (machine_of_axis a) (Arrived a to) _ refl h)
 
   undelivered : taken_out (cell_of s) ≡ None
   unfolding is_bookable first_true
   undelivered =
       no_plate (is_bookable ample (cell_of s)) (λ k. Delivered k) (s.plate station.DepEnd)
-      (λ k. rw (red (s.lamp belt.Deposit) rests.deposit, still.healthy machine.Deposit)
-      (lamp_refuses false (is_some (s.plate station.DepEnd) && not (is_plate k (s.plate station.DepEnd))) belt.Deposit))
+      (λ k. either (s.failed machine.Deposit) (λ h. barred s machine.Deposit (Delivered k) _ refl h)
+      (λ h. rw (red (s.lamp belt.Deposit) (rests.deposit h), h)
+      (lamp_refuses false (is_some (s.plate station.DepEnd) && not (is_plate k (s.plate station.DepEnd)))
+      belt.Deposit)))
 
   unadmitted : laid_in plan (cell_of s) ≡ None
   unfolding is_bookable first_true
   unadmitted =
-      rw (red (s.lamp belt.Feed) rests.feed, still.healthy machine.Feed)
+      either (s.failed machine.Feed)
+      (λ h. rw h (unallowed (nat_lt s.admitted plan) _ (Admitted (s.admitted + 1))
+      (failed_refuses (nat_le 100000 s.admitted))))
+      (λ h. rw (red (s.lamp belt.Feed) (rests.feed h), h)
       (unallowed (nat_lt s.admitted plan) _ (Admitted (s.admitted + 1))
-      (lamp_refuses (nat_le 100000 s.admitted) (not ((s.admitted + 1) == (s.admitted + 1))) belt.Feed))
+      (lamp_refuses (nat_le 100000 s.admitted) (not ((s.admitted + 1) == (s.admitted + 1))) belt.Feed)))
+    where
+      failed_refuses : (a : Bool)
+          → is_none_or_full (if a then Some PlateLimit else Some (MachineFailed machine.Feed)) ≡ false
+      failed_refuses true = refl
+      failed_refuses false = refl
 
   no_belt_end : is_nil (belt_ends_of (cell_of s)) ≡ true
   unfolding belt_ends_of somes
@@ -127,8 +155,8 @@ module _ (plan : ℕ) (s : Snapshot) (still : Still plan s) (rests : Rests plan 
         unconveyed axis.FeedBelt (record { to = pose.ToEnd; from = station.FeedIn; dest = station.FeedEnd }) refl,
         unconveyed axis.FeedBelt (record { to = pose.ToTable; from = station.FeedEnd; dest = station.Table }) refl,
         unconveyed axis.DepositBelt (record { to = pose.ToEnd; from = station.DepIn; dest = station.DepEnd }) refl,
-        unforged machine.Press1 axis.PressOne station.Press1 (λ k. refl),
-        unforged machine.Press2 axis.PressTwo station.Press2 (λ k. refl),
+        unforged machine.Press1 axis.PressOne station.Press1 refl (λ k. refl),
+        unforged machine.Press2 axis.PressTwo station.Press2 refl (λ k. refl),
       ) refl
 
   no_arrival : is_nil (arrivals_of (cell_of s)) ≡ true

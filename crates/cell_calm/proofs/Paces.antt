@@ -40,7 +40,7 @@ use Rattle.cell_world.proofs.Long.{further_then}
 use Rattle.cell_world.proofs.Moves.{each_at, mind_put}
 use Rattle.cell_world.proofs.OneRun.{IsOrdinary, MayGoOn, decided_is, is_ordinary, move_follows, starts_ordinary}
 use Rattle.cell_calm.proofs.Noting.{Quickens, due, due_within}
-use Rattle.cell_calm.proofs.Possible.{Calm}
+use Rattle.cell_calm.proofs.Tame.{Calm}
 use Rattle.cell_calm.proofs.Quickens.{quickens, with_same}
 use Rattle.cell_calm.proofs.Refused.{calm_room}
 use Rattle.cell_calm.proofs.Undeclared.{stands_healthy}

@@ -43,7 +43,7 @@ use Rattle.cell_world.proofs.Shows.{reading_agrees}
 use Rattle.cell_world.proofs.Turns.{and_false, no_sign}
 use Rattle.cell_world.proofs.Whole.{cell_kept}
 use Rattle.cell_calm.proofs.Noting.{Quickens, idle_quickens, lit_quickens, moving_quickens, quiet_next, rest_next}
-use Rattle.cell_calm.proofs.Possible.{Calm}
+use Rattle.cell_calm.proofs.Tame.{Calm}
 use Rattle.cell_calm.proofs.Signs.{IsShown, sign_shown}
 
 -- what goes doesn't rest

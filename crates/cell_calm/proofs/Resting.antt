@@ -1,4 +1,4 @@
--- A calm run that comes to rest is finished
+-- Where a run in which only some machines fail comes to rest
 use Rattle.std.proofs.Common.{◌≡◌, ◌≤◌, ℕ, Bool, true, false, ◌&&◌, ◌||◌, not, List, [], ◌∷◌, ◌++◌, Option, Some, None}
 use Rattle.std.proofs.Common.{length, refl, sym, ap, subst, ◌∙◌, append-nil, arith, length-append}
 use Rattle.std.specs.Prelude.{is_none, nat_le, option_to_list}
@@ -14,6 +14,7 @@ use Rattle.cell_types.specs.declared.words.Belt.TheVariants as belt
 use Rattle.cell_types.specs.declared.words.Colour.TheVariants as colour
 use Rattle.cell_types.specs.declared.words.Entry.{Entry}
 use Rattle.cell_types.specs.After.{after}
+use Rattle.cell_types.specs.Cell.{machine_of_axis}
 use Rattle.cell_types.specs.Same.{same_colour, same_machine}
 use Rattle.cell_rules.specs.Situations.{Situation}
 use Rattle.cell_rules.specs.Views.{at_of, going_of, is_failed, lamp_of}
@@ -35,7 +36,7 @@ use Rattle.cell_turns.specs.Turns.{IsDecided}
 use Rattle.cell_workers.specs.Ends.{is_idle, is_lit}
 use Rattle.cell_calm.proofs.Decided.{none_useful}
 use Rattle.cell_calm.proofs.Nothing.{Rests}
-use Rattle.cell_calm.proofs.Possible.{Calm}
+use Rattle.cell_calm.proofs.Tame.{Tame}
 
 -- a turn of the machine decided on nothing after this journal
 abbrev pub Paused : BookLimits → Plan → List Entry → Machine → Type 0
@@ -139,12 +140,15 @@ idle_parts : (failed motion lit quiet : Bool) → failed ≡ false
     → (failed || (motion && (not lit && quiet))) ≡ true → (motion ≡ true) × (lit ≡ false)
 idle_parts failed motion lit quiet h g = (grind arith, grind arith)
 
-module _ (l : BookLimits) (p : Plan) (J : List Entry) (c : Calm l p.plates J) (minds : Six Mind)
-    (idle : (m : Machine) → is_idle J m p (at minds m) ≡ true) where
-  parts : (m : Machine) → (is_none (motion_of_machine J p m) ≡ true) × (is_lit J m ≡ false)
-  parts m =
+module _ (may : Machine → Bool) (l : BookLimits) (p : Plan) (J : List Entry) (c : Tame may l p.plates J)
+    (minds : Six Mind) (idle : (m : Machine) → is_idle J m p (at minds m) ≡ true) where
+  abbrev IsWell : Machine → Type 0
+  IsWell m = (after J).failed m ≡ false
+
+  parts : (m : Machine) → IsWell m → (is_none (motion_of_machine J p m) ≡ true) × (is_lit J m ≡ false)
+  parts m well =
       idle_parts (is_failed J m) (is_none (motion_of_machine J p m)) (is_lit J m) (is_quiet (at minds m))
-      (ap (λ (c : Situation). c.failed m) (told_when_legal l J c.legal).cell ∙ c.still.healthy m) (idle m)
+      (ap (λ (c : Situation). c.failed m) (told_when_legal l J c.legal).cell ∙ well) (idle m)
 
   -- none of the machine's axes moves
   record AxesStill (m : Machine) : Type 0 where
@@ -152,33 +156,33 @@ module _ (l : BookLimits) (p : Plan) (J : List Entry) (c : Calm l p.plates J) (m
     two : motion_of_axis J p m 1 ≡ None
     three : motion_of_axis J p m 2 ≡ None
 
-  axes_still : (m : Machine) → AxesStill m
-  axes_still m =
-      let none = none_then (motion_of_machine J p m) (parts m).0 in
+  axes_still : (m : Machine) → IsWell m → AxesStill m
+  axes_still m well =
+      let none = none_then (motion_of_machine J p m) (parts m well).0 in
       let axis = motion_of_axis J p m in
       let last = neither_one (option_or (axis 0) (axis 1)) (axis 2) none in
       let both = neither_one (axis 0) (axis 1) last.0 in
       record { one = both.0; two = both.1; three = last.1 }
 
-  still_axis : (a : Axis) → motion_on J p a ≡ None
-  still_axis axis.FeedBelt = (axes_still machine.Feed).one
-  still_axis axis.TableLift = (axes_still machine.Table).one
-  still_axis axis.TableTurn = (axes_still machine.Table).two
-  still_axis axis.RobotTurn = (axes_still machine.Robot).one
-  still_axis axis.ArmOne = (axes_still machine.Robot).two
-  still_axis axis.ArmTwo = (axes_still machine.Robot).three
-  still_axis axis.PressOne = (axes_still machine.Press1).one
-  still_axis axis.PressTwo = (axes_still machine.Press2).one
-  still_axis axis.DepositBelt = (axes_still machine.Deposit).one
+  still_axis : (a : Axis) → IsWell (machine_of_axis a) → motion_on J p a ≡ None
+  still_axis axis.FeedBelt well = (axes_still machine.Feed well).one
+  still_axis axis.TableLift well = (axes_still machine.Table well).one
+  still_axis axis.TableTurn well = (axes_still machine.Table well).two
+  still_axis axis.RobotTurn well = (axes_still machine.Robot well).one
+  still_axis axis.ArmOne well = (axes_still machine.Robot well).two
+  still_axis axis.ArmTwo well = (axes_still machine.Robot well).three
+  still_axis axis.PressOne well = (axes_still machine.Press1 well).one
+  still_axis axis.PressTwo well = (axes_still machine.Press2 well).one
+  still_axis axis.DepositBelt well = (axes_still machine.Deposit well).one
 
   pub resting : nat_le l.entries (length J) ≡ false → ((m : Machine) → Paused l p J m) → Rests p.plates (after J)
   resting room paused =
       let told = told_when_legal l J c.legal in
       record {
-        going = λ a. sym (ap (λ (c : Situation). c.going a) told.cell) ∙ on_none J p a (still_axis a);
-        feed = unlit belt.Feed (parts machine.Feed).1;
-        deposit = unlit belt.Deposit (parts machine.Deposit).1;
-        useless = λ m e. let h = paused m in none_useful l p J m h.0 h.1 e told c.still room h.2;
+        going = λ a well. sym (ap (λ (c : Situation). c.going a) told.cell) ∙ on_none J p a (still_axis a well);
+        feed = λ well. unlit belt.Feed (parts machine.Feed well).1;
+        deposit = λ well. unlit belt.Deposit (parts machine.Deposit well).1;
+        useless = λ m e. let h = paused m in none_useful may l p J c m h.0 h.1 e room h.2;
       }
     where
       unlit : (b : Belt) → same_colour (lamp_of J b) colour.Green ≡ false

@@ -37,10 +37,11 @@ use Rattle.cell_world.proofs.Moves.{Holding, Holds, HoldsOn, come}
 use Rattle.cell_world.proofs.Rounds.{round_spares}
 use Rattle.cell_world.proofs.Running.{Undisturbed, holds_on, none_next}
 use Rattle.cell_world.proofs.Whole.{cell_opening}
-use Rattle.cell_calm.specs.Calm.{disturbs, is_calm}
+use Rattle.cell_calm.specs.Calm.{disturbs, is_calm, none_may}
 use Rattle.cell_calm.specs.Healthy.{NoneDeclared}
-use Rattle.cell_calm.proofs.Possible.{Calm, calm_turn, none_disturbs}
-use Rattle.cell_calm.proofs.Still.{still_start}
+use Rattle.cell_calm.proofs.Plain.{none_disturbs}
+use Rattle.cell_calm.proofs.Possible.{tame_turn}
+use Rattle.cell_calm.proofs.Tame.{Calm, tame_start}
 
 -- WHAT DISTURBS
 
@@ -116,7 +117,7 @@ healthy_on T ds =
           let calm = calm_then l J p _ _ e t.1 left.1.0 in (
             left,
             calm,
-            calm_turn l p J m (f m) (shown w m) e decided allowed calm (λ h. t.2),
+            tame_turn none_may l p J m (f m) (shown w m) e decided allowed calm (λ h. t.2),
             turn_long w m e ∙ t.3,
           );
       round = λ ls J f w t. (
@@ -137,7 +138,7 @@ stands_healthy T ds k t fair leads =
     come T (Healthy T ds) (opened T.plan ds) k [] [] t (healthy_on T ds) refl (
       (refl, (cell_opening T.limits T.plan ds fair, refl)),
       refl,
-      record { legal = refl; still = still_start T.plan.plates; possible = tt },
+      tame_start none_may T.limits T.plan.plates,
       refl,
     ) leads
 

@@ -1,4 +1,4 @@
-//! Runs in which no machine is declared failed and no stop is asked.
+//! Runs in which no machine is declared failed, or only some may be, and no stop is asked.
 #![tactic(auto)]
 
 pub mod laws;
