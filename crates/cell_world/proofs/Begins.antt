@@ -174,6 +174,17 @@ inward J x g h =
       elsewhere = other_pose J a pose.In pose.Out it.pose refl;
     }
 
+-- where an arm rests out, all axes of the robot rest
+robot_rests : (J : List Entry) (x : Arm) (to : Pose) → ArmMay J x to → (b : Axis)
+    → machine_of_axis b ≡ machine.Robot → going_of J b ≡ None
+robot_rests J arm.Arm1 to m b e = each_still J machine.Robot (m.turn, m.it, m.far) b e
+robot_rests J arm.Arm2 to m b e = each_still J machine.Robot (m.turn, m.far, m.it) b e
+
+pub rest_where_out : (J : List Entry) (x : Arm) → Good J
+    → not (rests_at (situation_in (after J)) (axis_of_arm x) pose.Out) ≡ false → (b : Axis)
+    → machine_of_axis b ≡ machine.Robot → going_of J b ≡ None
+rest_where_out J x g h b e = robot_rests J x pose.In (inward J x g h) b e
+
 arm_may : (J : List Entry) (x : Arm) (to : Pose) → Good J → Passed (arm_tests (situation_in (after J)) x to)
     → ArmMay J x to
 arm_may J x pose.Out g h = outward J x (is_some ((after J).going axis.RobotTurn)) g refl h

@@ -358,8 +358,8 @@ stops_by J p c s w u obeyed read plain silent counts st =
     ap (λ (y : Simulated). after_entry y x) read ∙ halt_does m u plain in
     let unlit' = unlit_plain m u plain in
     let halts : BeltHasStopped K m s' v = record {
-      failed = declared_failed J m;
-      was_failed = failed_after J p m s (shown w m) (Some x) ∙ declared_failed J m;
+      failed = declared_failed J m cause.OperatorStop;
+      was_failed = failed_after J p m s (shown w m) (Some x) ∙ declared_failed J m cause.OperatorStop;
       was_obeyed = obeyed_after J p m s (shown w m) (Some x) obeyed;
       plain = halted_plain m u plain;
       red = halted_red m u (belt_its c);

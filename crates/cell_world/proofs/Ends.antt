@@ -80,11 +80,11 @@ spares_then J w v u s t =
 
 -- ITS READING
 
-broke_part : (r : SafetyRule) (c : Option Command) (w : Simulated) → laying_of (broke r c w) ≡ laying_of w
+pub broke_part : (r : SafetyRule) (c : Option Command) (w : Simulated) → laying_of (broke r c w) ≡ laying_of w
 unfolding broke
 broke_part r c w = refl
 
-broke_light : (r : SafetyRule) (c : Option Command) (w : Simulated) → (broke r c w).deposit_light ≡ w.deposit_light
+pub broke_light : (r : SafetyRule) (c : Option Command) (w : Simulated) → (broke r c w).deposit_light ≡ w.deposit_light
 unfolding broke
 broke_light r c w = refl
 
@@ -112,7 +112,7 @@ there_here a s t (Some q) w d =
     (record (with_plate s (Some (forged_plate q)) w) { forged = counted w.forged }) (plate_here w t) refl
     (here_before s t (Some (forged_plate q)) w d)
 
-forges_here : (a : Axis) (t : Station) (w : Simulated) → station_number t ≢ station_number station.Press1
+pub forges_here : (a : Axis) (t : Station) (w : Simulated) → station_number t ≢ station_number station.Press1
     → station_number t ≢ station_number station.Press2 → plate_here (forges a w) t ≡ plate_here w t
 unfolding forges
 forges_here axis.PressOne t w d e =
@@ -135,7 +135,7 @@ went_here a at to (more n zero) t w d e =
 pub apart_by : (t s : Station) → (t ≡ s → ⊥) → station_number t ≢ station_number s
 apart_by t s h e = h (station_same t s (same_number (station_number t) (station_number s) e))
 
-no_press : (J : List Entry) (t : Station) → CannotHand J t → (t ≡ station.Press1 → ⊥) × (t ≡ station.Press2 → ⊥)
+pub no_press : (J : List Entry) (t : Station) → CannotHand J t → (t ≡ station.Press1 → ⊥) × (t ≡ station.Press2 → ⊥)
 no_press J t c =
     (λ e. subst (λ (x : Station). CannotHand J x) e c, λ e. subst (λ (x : Station). CannotHand J x) e c)
 

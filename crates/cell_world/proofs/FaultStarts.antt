@@ -55,7 +55,7 @@ before_durations : (a : Axis) (to : Pose) (w : Simulated) → (before_it a to w)
 unfolding told
 before_durations a to w = ap (λ (t : List AxisInWorld × Durations). t.1) (before_told a to w)
 
-told_same : (a : Axis) (w : Simulated) → length w.axes ≡ 9
+pub told_same : (a : Axis) (w : Simulated) → length w.axes ≡ 9
     → axis_at (told a w) a ≡ record (axis_at w a) { commands = motion_number w a }
 unfolding told
 told_same a w nine = at_same w a _ (below_nine a _ nine)
@@ -81,7 +81,7 @@ before_pose a to w nine =
     ∙ ap (λ (x : AxisInWorld). x.pose) (told_same a w nine)
 
 -- the motion that it begins
-abbrev begun_by : Motion → Fault → Simulated → Moving
+abbrev pub begun_by : Motion → Fault → Simulated → Moving
 begun_by m f w =
     begun (Poses m.from m.to) (Some f) (duration w.durations (record { axis = m.axis; to = m.to }))
 
@@ -114,7 +114,7 @@ after_axes faults a to w =
     one_of (fails faults w (On a to)) (started faults a to w) (looked (Some (On a to)) (started faults a to w))
     (started faults a to w) refl (looked_axes (Some (On a to)) (started faults a to w))
 
-goes_out : (faults : List PlannedFault) (m : Motion) (f : Fault) (w : Simulated) → IsToFail faults m f w
+pub goes_out : (faults : List PlannedFault) (m : Motion) (f : Fault) (w : Simulated) → IsToFail faults m f w
     → GoesBy m (begun_by m f w) (after_command faults w (On m.axis m.to))
 goes_out faults m f w t =
     let u = before_it m.axis m.to w in

@@ -69,7 +69,7 @@ unfolding left_with
 with_axes (Some fault.LosePlate) a w = each_axes plate_lost lost_axes (stations_left a) w
 with_axes f a w = refl
 
-end_axes : (a : Axis) (to : Pose) (w : Simulated) → axes (at_its_end a to w) ≡ axes (with_pose a to w)
+pub end_axes : (a : Axis) (to : Pose) (w : Simulated) → axes (at_its_end a to w) ≡ axes (with_pose a to w)
 end_axes a to w =
     one_of (same_pose to pose.Top) (forges a (with_pose a to w)) (with_pose a to w) (with_pose a to w)
     (forges_left axes axes_left a (with_pose a to w)) refl
@@ -249,7 +249,7 @@ missing_here a v w s o m = missing_by a w s o ∙ ap (λ (x : Option Moving). is
 abbrev pub skip : Moving → Moving
 skip v = record v { missing = v.missing - 1 }
 
-read_advanced : (a : Axis) (v : Moving) (from to : Pose) (w : Simulated) → is_belt a ≡ false → OthersStill a w
+pub read_advanced : (a : Axis) (v : Moving) (from to : Pose) (w : Simulated) → is_belt a ≡ false → OthersStill a w
     → (axis_at w a).motion ≡ Some v → v.path ≡ Poses from to → v.stopped ≡ false → length w.axes ≡ 9
     → (v.missing == 0) ≡ true → read_on (machine_of_axis a) w ≡ advanced a w
 unfolding read_on
@@ -292,7 +292,7 @@ follows_read false a v from to w e s o m h d nine =
     subst (λ (u : Simulated). Follows a (Some (skip v)) w u) (sym (read_skipped a v w s o m nine e))
     (follows_skipped a v w m e nine)
 
-after_as : (a : Axis) (w : Simulated) → is_belt a ≡ false
+pub after_as : (a : Axis) (w : Simulated) → is_belt a ≡ false
     → after_reading w (machine_of_axis a) ≡ read_on (machine_of_axis a) w
 unfolding after_reading
 after_as a w s = ap (λ (v : Simulated). read_on (machine_of_axis a) v) (no_hands a w s)

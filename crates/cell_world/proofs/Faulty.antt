@@ -86,7 +86,7 @@ unbarred_hides m None p t h e = moved_hides m p t e
 
 -- THE NEXT PHASE
 
-barred_next : (f : Option Fault) (further : ℕ) (p : Phase) → is_barred f p ≡ true
+pub barred_next : (f : Option Fault) (further : ℕ) (p : Phase) → is_barred f p ≡ true
     → is_barred f (phase_after f further p) ≡ true
 barred_next (Some fault.NoMotion) further Begun h = refl
 barred_next (Some fault.NoMotion) further IsSeen h = refl
@@ -152,7 +152,7 @@ record Hides (k : ℕ) (m : Motion) (i : ℕ) (f : Option Fault) (further : ℕ)
   hidden : Hidden m (bits_in m f p)
   within : IsWithin k (left_in i f further p)
 
-within_barred : (b : Bool) (k n : ℕ) → b ≡ true → IsWithin k (if b then None else Some n)
+pub within_barred : (b : Bool) (k n : ℕ) → b ≡ true → IsWithin k (if b then None else Some n)
 within_barred true k n h = tt
 within_barred false k n h = cc h
 
@@ -192,7 +192,7 @@ less_missing : (b : Bool) (i k n : ℕ) → (i == 0) ≡ false → IsWithin (suc
 less_missing true i k n h l = tt
 less_missing false i k n h l = let x : 1 ≤ i = grind (arith, nat_tests, h) in omega (arith, x, l)
 
-next_as : (v : Moving) → v.stopped ≡ false → next_phase v ≡ phase_after v.fault v.further v.phase
+pub next_as : (v : Moving) → v.stopped ≡ false → next_phase v ≡ phase_after v.fault v.further v.phase
 next_as v s = rw s refl
 
 hides_gone : (k : ℕ) (m : Motion) (v : Moving) (w : Simulated) → GoesBy m v w → IsWithin (suc k) (readings_left v)
@@ -201,11 +201,11 @@ hides_gone k m v w t l e =
     subst (λ (p : Phase). Hides k m v.missing v.fault v.further p) (sym (next_as v t.driven))
     (hides_next (is_barred v.fault v.phase) k m v.missing v.fault v.further v.phase t.switched refl e l)
 
-follows_goes : (m : Motion) (v : Moving) (w : Simulated) → GoesBy m v w
+pub follows_goes : (m : Motion) (v : Moving) (w : Simulated) → GoesBy m v w
     → Follows m.axis (Some (read_once v)) w (after_reading w (machine_of_axis m.axis))
 follows_goes m v w t = follows_after m.axis v m.from m.to w t.switched.switches t.others t.motion t.path t.driven t.axes
 
-once_gone : (v : Moving) → (v.missing == 0) ≡ true → read_once v ≡ gone v
+pub once_gone : (v : Moving) → (v.missing == 0) ≡ true → read_once v ≡ gone v
 once_gone v e = rw e refl
 
 once_skipped : (v : Moving) → (v.missing == 0) ≡ false → read_once v ≡ skip v

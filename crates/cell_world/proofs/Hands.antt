@@ -38,6 +38,10 @@ use Rattle.cell_world.specs.Going.{IsPlain}
 use Rattle.cell_world.specs.Starting.{after_entry, one_more, RobotStands}
 use Rattle.cell_world.specs.Handing.{Drops, Grips, HasBooked, IsHanded, MovesPlate}
 use Rattle.cell_world.proofs.Steps.{unless, unlooked}
+use Rattle.cell_types.specs.declared.words.Machine.TheVariants as machine
+use Rattle.cell_types.specs.Cell.{machine_of_axis}
+use Rattle.cell_rules.specs.Views.{going_of}
+use Rattle.cell_world.proofs.Begins.{rest_where_out}
 
 -- what the book's tests say of a grip and of a drop
 neighbours : (b : Bool) (ts : List (Bool × Refusal)) → Passed (neighbour_tests b ts) → Passed ts
@@ -162,6 +166,23 @@ moved_plain from to w t =
 moved_axes : (from to : Station) (w : Simulated) (a : Axis) → axis_at (moved from to w) a ≡ axis_at w a
 unfolding moved
 moved_axes from to w a = refl
+
+-- and all axes of the robot rest
+pub grips_still : (l : BookLimits) (J : List Entry) (x : Arm) (k : ℕ) (s : Station) → Good J
+    → first_of l J (Gripped x k s) ≡ None → (b : Axis) → machine_of_axis b ≡ machine.Robot → going_of J b ≡ None
+grips_still l J x k s g h b e =
+    let ok : allowed l J (Gripped x k s) ≡ true = ap (λ (o : Option Refusal). is_none o) h in
+    let tests = neighbours (grips_at x s) (handing_tests (situation_in (after J)) x s s (station_of_arm x) k)
+    (good_passed l J (Gripped x k s) g ok).1.1 in
+    rest_where_out J x g tests.1.1.0 b e
+
+pub drops_still : (l : BookLimits) (J : List Entry) (x : Arm) (k : ℕ) (s : Station) → Good J
+    → first_of l J (Dropped x k s) ≡ None → (b : Axis) → machine_of_axis b ≡ machine.Robot → going_of J b ≡ None
+drops_still l J x k s g h b e =
+    let ok : allowed l J (Dropped x k s) ≡ true = ap (λ (o : Option Refusal). is_none o) h in
+    let tests = neighbours (drops_at x s) (handing_tests (situation_in (after J)) x s (station_of_arm x) s k)
+    (good_passed l J (Dropped x k s) g ok).1.1 in
+    rest_where_out J x g tests.1.1.0 b e
 
 moved_counts : (from to : Station) (w : Simulated) → (moved from to w).collisions ≡ w.collisions
 unfolding moved

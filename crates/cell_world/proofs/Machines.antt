@@ -190,7 +190,7 @@ back axis.PressTwo pose.Top s h = refl
 back axis.PressTwo pose.Bottom s h = refl
 back axis.PressTwo p s h = cc h
 
-elsewhere : (a : Axis) (p q : Pose) → is_belt a ≡ false → is_pose_of a p ≡ true → is_pose_of a q ≡ true → p ≢ q
+pub elsewhere : (a : Axis) (p q : Pose) → is_belt a ≡ false → is_pose_of a p ≡ true → is_pose_of a q ≡ true → p ≢ q
     → (place_in_axis p == place_in_axis q) ≡ false
 elsewhere a p q s h k n =
     not_true (place_in_axis p == place_in_axis q) (λ e. n (sym (back a p s h)

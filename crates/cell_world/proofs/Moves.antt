@@ -244,11 +244,11 @@ turned T H m rest s t on turn c =
 
 -- WHAT THE OPERATOR DOES
 
-record IsHanded (o : Option Act) (c d : SimCell) : Type 0 where
-  faults : d.faults ≡ c.faults
-  world : d.world ≡ done_by o c.world
+pub record IsHanded (o : Option Act) (c d : SimCell) : Type 0 where
+  pub faults : d.faults ≡ c.faults
+  pub world : d.world ≡ done_by o c.world
 
-hands_done : (o : Option Act) (c d : SimCell) → Hands AnswersSo o c d → IsHanded o c d
+pub hands_done : (o : Option Act) (c d : SimCell) → Hands AnswersSo o c d → IsHanded o c d
 hands_done None c d h =
     record { faults = ap (λ (x : SimCell). x.faults) h; world = ap (λ (x : SimCell). x.world) h }
 hands_done (Some a) c d h = record { faults = h.0; world = h.1.1 }

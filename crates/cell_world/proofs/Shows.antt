@@ -94,7 +94,7 @@ there_plates a s t (Some q) w n h =
     (record (with_plate s (Some (forged_plate q)) w) { forged = counted w.forged }) (plate_at w t) refl
     (put_forged s t q w n h)
 
-forges_plates : (a : Axis) (t : Station) (w : Simulated) → length w.plates ≡ 9
+pub forges_plates : (a : Axis) (t : Station) (w : Simulated) → length w.plates ≡ 9
     → plate_at (forges a w) t ≡ plate_at w t
 unfolding forges
 forges_plates axis.PressOne t w n =
@@ -124,7 +124,7 @@ leaves_plates J p m f w b (inr t) s =
     ∙ went_plates a at t.to t.given s w t.goes.plain.stations)
 
 -- and counts no collision
-broke_counts : (r : SafetyRule) (c : Option Command) (w : Simulated) → (broke r c w).collisions ≡ w.collisions
+pub broke_counts : (r : SafetyRule) (c : Option Command) (w : Simulated) → (broke r c w).collisions ≡ w.collisions
 unfolding broke
 broke_counts r c w = refl
 

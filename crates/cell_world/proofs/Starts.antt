@@ -82,7 +82,7 @@ unfolding set_out
 out_watch a to None w = refl
 out_watch a to (Some p) w = refl
 
-unlooked_start : (a : Axis) (to : Pose) (w : Simulated) → w.watch.is_on ≡ false → start_looked a to w ≡ w
+pub unlooked_start : (a : Axis) (to : Pose) (w : Simulated) → w.watch.is_on ≡ false → start_looked a to w ≡ w
 unfolding start_looked
 unlooked_start a to w u = rw u refl
 

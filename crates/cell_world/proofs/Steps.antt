@@ -149,7 +149,7 @@ pub broke_on : (rule : SafetyRule) (c : Option Command) (w : Simulated) → (bro
 unfolding broke
 broke_on rule c w = either (λ (t : Watch). t.is_on) w.watch.is_on _ w.watch w.watch.is_on refl refl
 
-on_left : IsLeft (λ (w : Simulated). w.watch.is_on)
+pub on_left : IsLeft (λ (w : Simulated). w.watch.is_on)
 on_left = record { broken = broke_on; plates = λ s o n w. refl }
 
 made_on : (a : Axis) (at to : Pose) (g : Given) (w : Simulated) → (made a at to g w).watch.is_on ≡ w.watch.is_on
@@ -172,7 +172,7 @@ goes_on a w at to (more n (suc k)) u h = rw h refl
 goes_on a w at to (more n zero) u h =
     let e = unlooked (Some (On a to)) (went a at to (more n 0) w) (went_watch a at to (more n 0) w ∙ u) in rw h e
 
-rest_moves : (p : Pose) (m : Option Moving) → RestsBy p m → moves m ≡ false
+pub rest_moves : (p : Pose) (m : Option Moving) → RestsBy p m → moves m ≡ false
 rest_moves p None r = refl
 rest_moves p (Some m) r = rw r.2 refl
 
@@ -242,7 +242,7 @@ seen_of at to (one n) = Some no_bits
 seen_of at to (more n zero) = Some (only to)
 seen_of at to (more n (suc k)) = Some no_bits
 
-same_as : (m : Motion) → same_motion m m ≡ true
+pub same_as : (m : Motion) → same_motion m m ≡ true
 same_as m = let a = same_axes m.axis in let b = same_poses m.from in let c = same_poses m.to in rw (a, b, c) refl
 
 pub followed_as : (m : Motion) (g : Given) → followed (noted_of m g) (Some m) ≡ Some

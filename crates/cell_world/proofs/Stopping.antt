@@ -1,11 +1,11 @@
 -- The whole cell, where the operator stops and repairs machines without a belt
 use Rattle.std.proofs.Common.{◌≡◌, ◌≢◌, inl, inr, Bool, true, false, Option, Some, None, List, [], ◌∷◌, ◌++◌, refl}
-use Rattle.std.proofs.Common.{sym}
-use Rattle.std.proofs.Common.{ap, ◌∙◌, subst, IfSome}
+use Rattle.std.proofs.Common.{sym, ap, ◌∙◌, subst, IfSome}
 use Rattle.std.proofs.lemmas.List.{append-nil}
 use Rattle.std.specs.Option.{option_map}
 use Rattle.std.specs.Prelude.{◌&&◌, ◌||◌, if◌then◌else◌, is_none, option_to_list, unwrap_or}
 use Rattle.cell_types.specs.declared.words.Axis.{Axis}
+use Rattle.cell_types.specs.declared.words.Cause.{Cause}
 use Rattle.cell_types.specs.declared.words.Cause.TheVariants as cause
 use Rattle.cell_types.specs.declared.words.Entry.{Entry}
 use Rattle.cell_types.specs.declared.words.Entry.TheVariants.{Declared, Repaired, StopAsked}
@@ -77,8 +77,7 @@ use Rattle.cell_world.proofs.Rounds.{round_ends, round_fair, round_spares, round
 use Rattle.cell_world.proofs.Shows.{leaves_collisions, leaves_plates}
 use Rattle.cell_world.proofs.Spared.{rest_spared, spared_stays}
 use Rattle.cell_world.proofs.Steps.{each_axis, not_true, rest_silent}
-use Rattle.cell_world.proofs.Turns.{and_false, proposed_does}
-use Rattle.cell_world.proofs.Turns.{good_then, plates_as, tied_plain, turn_does, when_no}
+use Rattle.cell_world.proofs.Turns.{and_false, good_then, plates_as, proposed_does, tied_plain, turn_does, when_no}
 use Rattle.cell_world.proofs.Wanted.{wanted_kept, wanted_more}
 use Rattle.cell_world.proofs.Whole.{ends_stay, other_kind, other_stay, stations_kept, world_before}
 
@@ -168,12 +167,12 @@ obeyed_after J p m s r e h = ap (λ (x : Bool). is_none e && x) h ∙ and_false 
 
 -- WHAT A TURN OF A MACHINE WITH SWITCHES LEAVES
 
-record SwitchTurn (J : List Entry) (p : Plan) (m : Machine) (s : Mind) (w : Simulated) (e : Option Entry) : Type 0
+pub record SwitchTurn (J : List Entry) (p : Plan) (m : Machine) (s : Mind) (w : Simulated) (e : Option Entry) : Type 0
   where
-    member : WorksOrStopped (J ++ option_to_list e) p m (mind_after J m p s (shown w m) e) (after_turn w m e)
-    before : WorldAsBefore J (J ++ option_to_list e) w (after_turn w m e)
-    spares : SparesEnds J w (after_turn w m e)
-    collisions : (after_turn w m e).collisions ≡ w.collisions
+    pub member : WorksOrStopped (J ++ option_to_list e) p m (mind_after J m p s (shown w m) e) (after_turn w m e)
+    pub before : WorldAsBefore J (J ++ option_to_list e) w (after_turn w m e)
+    pub spares : SparesEnds J w (after_turn w m e)
+    pub collisions : (after_turn w m e).collisions ≡ w.collisions
 
 -- of one that isn't asked to stop
 working_turn : (l : BookLimits) (J : List Entry) (p : Plan) (m : Machine) (s : Mind) (w : Simulated)
@@ -190,11 +189,11 @@ working_turn l J p m s w e b t d free =
     }
 
 -- of one that is
-record Seen (J : List Entry) (w : Simulated) (a : Axis) : Type 0 where
-  stands : StandsAs J a (axis_at w a).pose
-  read : is_silent_in (axis_at w a).motion ≡ false
+pub record Seen (J : List Entry) (w : Simulated) (a : Axis) : Type 0 where
+  pub stands : StandsAs J a (axis_at w a).pose
+  pub read : is_silent_in (axis_at w a).motion ≡ false
 
-rest_seen : (J : List Entry) (w : Simulated) (a : Axis) → IsAtRest J w a → Seen J w a
+pub rest_seen : (J : List Entry) (w : Simulated) (a : Axis) → IsAtRest J w a → Seen J w a
 rest_seen J w a t =
     record { stands = inl t.rests.pose; read = rest_silent (at_of J a) (axis_at w a).motion t.rests.motion }
 
@@ -221,23 +220,23 @@ went_plain : (J : List Entry) (p : Plan) (m : Machine) (f : Option Following) (w
 went_plain J p m f w (inl (i, t)) = tied_plain J p m f w t
 went_plain J p m f w (inr c) = c.came.plain
 
-stands_more : (J : List Entry) (m : Machine) (a : Axis) (q : Pose) → StandsAs J a q
-    → StandsAs (one_more J (Declared m cause.OperatorStop)) a q
-stands_more J m a q (inl h) = inl (h ∙ sym (at_before J (Declared m cause.OperatorStop) a refl))
-stands_more J m a q (inr g) = inr (going_before J (Declared m cause.OperatorStop) a refl ∙ g)
+stands_more : (J : List Entry) (m : Machine) (why : Cause) (a : Axis) (q : Pose) → StandsAs J a q
+    → StandsAs (one_more J (Declared m why)) a q
+stands_more J m why a q (inl h) = inl (h ∙ sym (at_before J (Declared m why) a refl))
+stands_more J m why a q (inr g) = inr (going_before J (Declared m why) a refl ∙ g)
 
-pub declared_failed : (J : List Entry) (m : Machine) → is_failed (one_more J (Declared m cause.OperatorStop)) m ≡ true
-declared_failed J m =
-    view_snoc (fails m) false J (Declared m cause.OperatorStop)
+pub declared_failed : (J : List Entry) (m : Machine) (why : Cause) → is_failed (one_more J (Declared m why)) m ≡ true
+declared_failed J m why =
+    view_snoc (fails m) false J (Declared m why)
     ∙ ap (λ (b : Bool). unwrap_or (when b true) (is_failed J m)) (same_machines m)
 
 -- what a reading leaves of a machine that is to stop
-record ReadsSo (J : List Entry) (m : Machine) (w : Simulated) : Type 0 where
-  plain : IsPlain (after_reading w m)
-  seen : (a : Axis) → machine_of_axis a ≡ m → Seen J (after_reading w m) a
-  spares : SparesEnds J w (after_reading w m)
-  plates : (u : Station) → plate_at (after_reading w m) u ≡ plate_at w u
-  collisions : (after_reading w m).collisions ≡ w.collisions
+pub record ReadsSo (J : List Entry) (m : Machine) (w : Simulated) : Type 0 where
+  pub plain : IsPlain (after_reading w m)
+  pub seen : (a : Axis) → machine_of_axis a ≡ m → Seen J (after_reading w m) a
+  pub spares : SparesEnds J w (after_reading w m)
+  pub plates : (u : Station) → plate_at (after_reading w m) u ≡ plate_at w u
+  pub collisions : (after_reading w m).collisions ≡ w.collisions
 
 works_reads : (J : List Entry) (p : Plan) (m : Machine) (f : Option Following) (w : Simulated) → has_belt m ≡ false
     → IsTied J p m f w → ReadsSo J m w
@@ -263,12 +262,23 @@ repaired_reads J m s w b t =
       collisions = ap (λ (v : Simulated). v.collisions) so;
     }
 
-stopping_turn : (l : BookLimits) (J : List Entry) (p : Plan) (m : Machine) (s : Mind) (w : Simulated)
-    → has_belt m ≡ false → legal l J ≡ true → s.memory.command_failed ≡ false → ReadsSo J m w
-    → first_of l J (Declared m cause.OperatorStop) ≡ None
-    → SwitchTurn J p m s w (Some (Declared m cause.OperatorStop))
-stopping_turn l J p m s w b law obeyed t free =
-    let x = Declared m cause.OperatorStop in let K = one_more J x in
+-- and what is left where it is declared failed
+pub record StopTurn (J : List Entry) (p : Plan) (m : Machine) (s : Mind) (w : Simulated) (x : Entry) : Type 0 where
+  pub stopped : HasStopped (one_more J x) m (mind_after J m p s (shown w m) (Some x)) (after_turn w m (Some x))
+  pub before : WorldAsBefore J (one_more J x) w (after_turn w m (Some x))
+  pub spares : SparesEnds J w (after_turn w m (Some x))
+  pub collisions : (after_turn w m (Some x)).collisions ≡ w.collisions
+
+obeyed_then : (J : List Entry) (p : Plan) (m : Machine) (s : Mind) (r : Option Reading) (x : Entry)
+    → (mind_after J m p s r (Some x)).memory.command_failed ≡ false
+unfolding mind_after
+obeyed_then J p m s r x = refl
+
+pub stopping_turn : (l : BookLimits) (J : List Entry) (p : Plan) (m : Machine) (s : Mind) (w : Simulated) (why : Cause)
+    → has_belt m ≡ false → legal l J ≡ true → ReadsSo J m w → first_of l J (Declared m why) ≡ None
+    → StopTurn J p m s w (Declared m why)
+stopping_turn l J p m s w why b law t free =
+    let x = Declared m why in let K = one_more J x in
     let r = after_reading w m in let u = in_turn axis_stopped (axes_of m) r in
     let s' = mind_after J m p s (shown w m) (Some x) in
     let so : after_entry r x ≡ u = stop_does m r b t.plain in
@@ -281,14 +291,14 @@ stopping_turn l J p m s w b law obeyed t free =
     } in
     let spares = spares_then J w r u t.spares still in
     let halted : HasStopped K m s' u = record {
-      failed = declared_failed J m;
-      was_failed = failed_after J p m s (shown w m) (Some x) ∙ declared_failed J m;
-      was_obeyed = obeyed_after J p m s (shown w m) (Some x) obeyed;
+      failed = declared_failed J m why;
+      was_failed = failed_after J p m s (shown w m) (Some x) ∙ declared_failed J m why;
+      was_obeyed = obeyed_then J p m s (shown w m) x;
       plain = stopped_plain (axes_of m) r t.plain;
       halted = λ a e. let seen = t.seen a e in let next = all_as_still (axes_of m) a r t.plain in
           record {
             stands = subst (λ (q : Pose). StandsAs K a q) (sym next.pose)
-                (stands_more J m a (axis_at r a).pose seen.stands);
+                (stands_more J m why a (axis_at r a).pose seen.stands);
             still = all_still m a r t.plain e;
             read = next.read ∙ seen.read;
           };
@@ -303,14 +313,14 @@ stopping_turn l J p m s w b law obeyed t free =
     } in
     let counts = stopped_part (λ (v : Simulated). v.collisions) (λ a y v. refl) (axes_of m) r ∙ t.collisions in
     record {
-      member = inr (inl (subst (λ (v : Simulated). HasStopped K m s' v) (sym so) halted));
+      stopped = subst (λ (v : Simulated). HasStopped K m s' v) (sym so) halted;
       before = subst (λ (v : Simulated). WorldAsBefore J K w v) (sym so) before;
       spares = subst (λ (v : Simulated). SparesEnds J w v) (sym so) spares;
       collisions = ap (λ (v : Simulated). v.collisions) so ∙ counts;
     }
 
 -- of one that has stopped
-stopped_turn : (J : List Entry) (p : Plan) (m : Machine) (s : Mind) (w : Simulated) → has_belt m ≡ false
+pub stopped_turn : (J : List Entry) (p : Plan) (m : Machine) (s : Mind) (w : Simulated) → has_belt m ≡ false
     → HasStopped J m s w → SwitchTurn J p m s w None
 stopped_turn J p m s w b t =
     let so = read_still m w b (λ a e. ((t.halted a e).still, (t.halted a e).read)) in
@@ -405,9 +415,10 @@ stops_by : (l : BookLimits) (J : List Entry) (p : Plan) (m : Machine) (s : Mind)
 stops_by l J p m s w e b law healthy obeyed h t d free =
     let is : e ≡ Some (Declared m cause.OperatorStop) =
     subst (λ (k : Ruling). IsRuled l J m p.plates k e) (ruled_stop J p m s (shown w m) healthy obeyed h) d in
+    let y = stopping_turn l J p m s w cause.OperatorStop b law t
+    (subst (λ (o : Option Entry). IfSome o (λ x. first_of l J x ≡ None)) is free) in
     subst (λ (o : Option Entry). SwitchTurn J p m s w o) (sym is)
-    (stopping_turn l J p m s w b law obeyed t
-    (subst (λ (o : Option Entry). IfSome o (λ x. first_of l J x ≡ None)) is free))
+    (record { member = inr (inl y.stopped); before = y.before; spares = y.spares; collisions = y.collisions })
 
 works_turn : (l : BookLimits) (J : List Entry) (p : Plan) (m : Machine) (s : Mind) (w : Simulated) (e : Option Entry)
     (a : Bool) → is_asked J m ≡ a → has_belt m ≡ false → Works J m s (IsTied J p m s.axis w) → Begins l J p m w
@@ -463,12 +474,12 @@ robot_of : (l : BookLimits) (J : List Entry) (p : Plan) (minds : Machine → Min
 robot_of l J p minds w t = member_stands J p machine.Robot (minds machine.Robot) w (t.switches machine.Robot refl)
 
 -- what is left of a machine whose axes are as before, in the book and in the world
-stands_spared : (J K : List Entry) (a : Axis) (p q : Pose) → at_of K a ≡ at_of J a → going_of K a ≡ going_of J a
+pub stands_spared : (J K : List Entry) (a : Axis) (p q : Pose) → at_of K a ≡ at_of J a → going_of K a ≡ going_of J a
     → q ≡ p → StandsAs J a p → StandsAs K a q
 stands_spared J K a p q h k i (inl x) = inl (i ∙ (x ∙ sym h))
 stands_spared J K a p q h k i (inr x) = inr (k ∙ (x ∙ ap (λ (y : Pose). Some y) (sym i)))
 
-stopped_spared : (J K : List Entry) (n : Machine) (i : Mind) (w v : Simulated) → is_failed K n ≡ is_failed J n
+pub stopped_spared : (J K : List Entry) (n : Machine) (i : Mind) (w v : Simulated) → is_failed K n ≡ is_failed J n
     → IsSpared n J K w v → HasStopped J n i w → HasStopped K n i v
 stopped_spared J K n i w v h s t =
     record {
@@ -647,7 +658,7 @@ repairs_failed l J m g free =
     let test = (good_passed l J (Repaired m) g ok).1.0 in
     g.agrees.failed m ∙ not_false ((after J).failed m) test
 
-stopped_only : (J : List Entry) (p : Plan) (m : Machine) (s : Mind) (w : Simulated) → is_failed J m ≡ true
+pub stopped_only : (J : List Entry) (p : Plan) (m : Machine) (s : Mind) (w : Simulated) → is_failed J m ≡ true
     → WorksOrStopped J p m s w → HasStopped J m s w
 stopped_only J p m s w h (inl t) = let x : true ≡ false = sym h ∙ t.healthy in cc x
 stopped_only J p m s w h (inr (inl t)) = t

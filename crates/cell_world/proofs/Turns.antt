@@ -107,7 +107,7 @@ by_end g k ha hb hc hd hv hq he = rw (ha, hb, hc, hd, hv, hq, he) refl
 pub when_no : {A : Type 0} (b : Bool) (x : A) → b ≡ false → when b x ≡ None
 when_no b x h = rw h refl
 
-end_pending : (J : List Entry) (o : Option Motion) (v : Verdict) → v ≡ Pending → end_found J o v ≡ None
+pub end_pending : (J : List Entry) (o : Option Motion) (v : Verdict) → v ≡ Pending → end_found J o v ≡ None
 end_pending J None v h = refl
 end_pending J (Some n) v h = rw h refl
 
@@ -128,7 +128,7 @@ no_sign J machine.Feed r b = cc b
 no_sign J machine.Deposit r b = cc b
 no_sign J m r b = refl
 
-unsigned : (J : List Entry) (m : Machine) (s : Mind) (r : Option Reading) → has_belt m ≡ false
+pub unsigned : (J : List Entry) (m : Machine) (s : Mind) (r : Option Reading) → has_belt m ≡ false
     → (s.memory.sign && shows_sign J m r) ≡ false
 unsigned J m s r b = ap (λ (x : Bool). s.memory.sign && x) (no_sign J m r b) ∙ and_false s.memory.sign
 
@@ -180,7 +180,7 @@ ruled_end J p m s r n t h v q =
 
 -- WHAT A MACHINE WITH SWITCHES WANTS
 
-abbrev Kind : Machine → Entry → Type 0
+abbrev pub Kind : Machine → Entry → Type 0
 Kind m (Started a to) = machine_of_axis a ≡ m
 Kind m (Claimed n z) = Unit {0}
 Kind m (Yielded n z) = Unit {0}
@@ -188,7 +188,7 @@ Kind m (Gripped x k s) = m ≡ machine.Robot
 Kind m (Dropped x k s) = m ≡ machine.Robot
 Kind m _ = ⊥
 
-kind_of : (l : BookLimits) (c : Situation) (plan : ℕ) (m : Machine) (e : Entry) → has_belt m ≡ false
+pub kind_of : (l : BookLimits) (c : Situation) (plan : ℕ) (m : Machine) (e : Entry) → has_belt m ≡ false
     → wants l c plan m e ≡ true → Kind m e
 kind_of l c plan machine.Feed e b h = let x : false ≡ true = sym b in cc x
 kind_of l c plan machine.Deposit e b h = let x : false ≡ true = sym b in cc x
@@ -314,7 +314,7 @@ pub tied_plain : (J : List Entry) (p : Plan) (m : Machine) (f : Option Following
 tied_plain J p m f w (inl t) = t.plain
 tied_plain J p m f w (inr t) = t.goes.plain
 
-rests_then : (J : List Entry) (p : Plan) (m : Machine) (f : Option Following) (w : Simulated) → IsTied J p m f w
+pub rests_then : (J : List Entry) (p : Plan) (m : Machine) (f : Option Following) (w : Simulated) → IsTied J p m f w
     → ((a : Axis) → machine_of_axis a ≡ m → going_of J a ≡ None) → MachineRests J m f w
 rests_then J p m f w (inl t) h = t
 rests_then J p m f w (inr t) h =

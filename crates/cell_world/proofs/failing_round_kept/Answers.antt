@@ -1,0 +1,5 @@
+use Rattle.cell_world.proofs.FailCell.{failing_round_kept as it}
+use Rattle.cell_world.proofs.failing_round_kept.Goals as goal
+
+pub returns : goal.returns
+returns c = it
