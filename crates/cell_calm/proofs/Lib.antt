@@ -20,3 +20,4 @@ pub mod Quickens
 pub mod Paces
 pub mod Counted
 pub mod Finishing
+pub mod Pressed

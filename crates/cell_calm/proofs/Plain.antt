@@ -31,7 +31,7 @@ pub may_snoc : (es : List Entry) (e : Entry) (may : Machine → Bool)
 may_snoc [] e may = refl
 may_snoc (x ∷ es) e may = may_snoc es e (may_after x may)
 
-neither : (a b : Bool) → (a || b) ≡ false → (a ≡ false) × (b ≡ false)
+pub neither : (a b : Bool) → (a || b) ≡ false → (a ≡ false) × (b ≡ false)
 neither false b h = (refl, h)
 neither true b h = cc
 

@@ -144,22 +144,18 @@ stands_healthy T ds k t fair leads =
 
 -- THE END
 
-ends_calm : (T : Terms) (s : Stand SimCell Unkept) (h : Halt) (new : SimCell) (j : Unkept) (J : List Entry)
-    → ((t : Stand SimCell Unkept) → Leads AnswersSo AllKept T s t → is_calm t.now.journal ≡ true)
-    → Halts AnswersSo AllKept T s h new j J → is_calm J ≡ true
-ends_calm T s h new j J c (breaks t leads here has) =
-    subst (λ (K : List Entry). is_calm K ≡ true) has.2 (c t leads)
-ends_calm T s h new j J c (lacks t leads is unbooked has) =
-    subst (λ (K : List Entry). is_calm K ≡ true) has.2 (c t leads)
-ends_calm T s h new j J c (fills t leads is away has) =
-    subst (λ (K : List Entry). is_calm K ≡ true) has.2 (c t leads)
-ends_calm T s h new j J c (rests t e leads is rest has) =
-    subst (λ (K : List Entry). is_calm K ≡ true) has.2 (c t leads)
-ends_calm T s h new j J c (tires t leads is here rounds has) =
-    subst (λ (K : List Entry). is_calm K ≡ true) has.2 (c t leads)
+-- what holds of the journal at each stand holds of the one at the end
+pub ends_hold : (P : List Entry → Type 0) (T : Terms) (s : Stand SimCell Unkept) (h : Halt) (new : SimCell) (j : Unkept)
+    (J : List Entry) → ((t : Stand SimCell Unkept) → Leads AnswersSo AllKept T s t → P t.now.journal)
+    → Halts AnswersSo AllKept T s h new j J → P J
+ends_hold P T s h new j J c (breaks t leads here has) = subst P has.2 (c t leads)
+ends_hold P T s h new j J c (lacks t leads is unbooked has) = subst P has.2 (c t leads)
+ends_hold P T s h new j J c (fills t leads is away has) = subst P has.2 (c t leads)
+ends_hold P T s h new j J c (rests t e leads is rest has) = subst P has.2 (c t leads)
+ends_hold P T s h new j J c (tires t leads is here rounds has) = subst P has.2 (c t leads)
 
 pub none_declared : NoneDeclared
 none_declared l p ds new J e fair (h, k, j, is, halts) =
     let T = terms_of l p false in
-    ends_calm T (start (opened p ds) k [] [] None) h new j J
+    ends_hold (λ (K : List Entry). is_calm K ≡ true) T (start (opened p ds) k [] [] None) h new j J
     (λ t leads. (stands_healthy T ds k t fair leads).holds.1) halts

@@ -1,2 +1,3 @@
 pub mod Calm
 pub mod Healthy
+pub mod Failing

@@ -18,6 +18,7 @@ ghost use Rattle.cell_useful.specs.Moves.{is_finished};
 ghost use Rattle.cell_progress.specs.Orders.{IsOnePress, IsPossible, cell_of};
 ghost use Rattle.cell_progress.specs.Rank.{most_failures};
 ghost use Rattle.cell_calm.specs.Calm.{HasRoom, HasRoomFor, HasRoomToFail, fails_only, is_calm, plain};
+ghost use Rattle.cell_calm.specs.Failing.{FailingRunsDeliver};
 ghost use Rattle.cell_calm.specs.Healthy.{AllForged, HealthyRunsFinish, NoneDeclared, WrittenRunsFinish};
 
 /// The journal of a calm run, whatever the machines' turns and whatever the readings and the operator, is an order of
@@ -117,4 +118,11 @@ pub fn healthy_runs_finish()
 /// operator.
 pub fn written_runs_finish()
     ensures { WrittenRunsFinish }
+{}
+
+/// A run of the simulated cell in which one press may fail, at any of its motions, by faults that last, ends finished
+/// with all plates admitted, forged and delivered, or stalled with all delivered but one, unless its rounds run out or
+/// memory is refused, if the limits have room and let each motion be as long as it is.
+pub fn failing_runs_deliver()
+    ensures { FailingRunsDeliver }
 {}

@@ -1,0 +1,33 @@
+-- Runs of the simulated cell, without an operator, in which a press may fail
+use Rattle.std.specs.Prelude.{ℕ, ◌≡◌, ◌≢◌, ◌+◌, List, []}
+use Rattle.cell_types.specs.declared.words.Entry.{Entry}
+use Rattle.cell_rules.specs.Views.{count_of}
+use Rattle.cell_rules.specs.declared.limits.BookLimits.{BookLimits}
+use Rattle.cell_measures.specs.declared.durations.Durations.{Durations}
+use Rattle.cell_ports.specs.declared.plan.Plan.{Plan}
+use Rattle.cell_progress.specs.Orders.{IsOnePress}
+use Rattle.cell_workers.specs.declared.ends.End.{End}
+use Rattle.cell_workers.specs.declared.ends.End.TheVariants as end
+use Rattle.cell_sim.specs.declared.fault.PlannedFault.{PlannedFault}
+use Rattle.sim_plant.specs.Answers.{SimCell}
+use Rattle.cell_runs.specs.Cells.{IsSimulated}
+use Rattle.cell_world.specs.FailCell.{AllLast, has_fault}
+use Rattle.cell_world.specs.FailRuns.{opened_with}
+use Rattle.cell_world.specs.Running.{Allows}
+use Rattle.cell_calm.specs.Calm.{HasRoomToFail}
+use Rattle.cell_calm.specs.Healthy.{AllForged}
+
+-- how a run may end: never full; finished with all plates of the plan forged and delivered; or stalled with all
+-- delivered but one
+pub record DeliversAllButOne (plates : ℕ) (J : List Entry) (e : End) : Type 0 where
+  pub room : e ≢ end.Full
+  pub finished : e ≡ end.Finished → AllForged plates J
+  pub stalled : e ≡ end.Stalled → (count_of J).delivered + 1 ≡ plates
+
+-- so do those of which all planned faults are one press's, and last, at whichever of its motions they are: if the
+-- plan's limits let each motion be as long as it is, and the book's have room
+abbrev pub FailingRunsDeliver : Type 0
+FailingRunsDeliver =
+    (l : BookLimits) (p : Plan) (ds : Durations) (faults : List PlannedFault) (new : SimCell) (J : List Entry) (e : End)
+    → AllLast faults → IsOnePress (has_fault faults) → Allows p ds → HasRoomToFail l p.plates
+    → IsSimulated l p (opened_with p ds faults) [] [] new J e → DeliversAllButOne p.plates J e
