@@ -24,8 +24,8 @@ use Rattle.cell_runs.specs.Cells.{AllKept, IsSimulated, Ran}
 use Rattle.cell_runs.specs.Runs.{Kept, Simulates, kept, limits_of as limits_in, opening_of}
 use Rattle.cell_runs.specs.declared.inputs.Inputs.{Inputs}
 use Rattle.cell_runs.specs.Rounds.{IsRun}
+use Rattle.cell_world.specs.FailRuns.{opened_with}
 use Rattle.cell_world.specs.Running.{Allows, opened}
-use Rattle.cell_world.specs.Whole.{opening_for}
 use Rattle.cell_world.proofs.Fair.{one_long, settings_are_fair}
 use Rattle.cell_world.proofs.OneRun.{not_ordinary}
 use Rattle.cell_world.proofs.Simulating.{IsFaultless, faultless, written}
@@ -98,19 +98,22 @@ healthy_runs_finish l p ds most new J e fair room time sim memory = go e refl
 
 -- THE RUN THAT IS WRITTEN
 
-simulated_so : (i : Inputs) (ds : Durations) (J : List Entry) (e : End) (left : SimCell) → IsFaultless i ds []
+-- a run by these durations and faults without a script
+pub simulated_so : (i : Inputs) (ds : Durations) (faults : List PlannedFault) (J : List Entry) (e : End)
+    (left : SimCell) → i.durations ≡ ds → i.faults ≡ faults → i.script ≡ []
     → IsSimulated (limits_in i.plan) i.plan (sim_cell (opening_of i) i.faults) [] i.script left J e
-    → IsSimulated (limits_in i.plan) i.plan (opened i.plan ds) [] [] left J e
-simulated_so i ds J e left t sim =
+    → IsSimulated (limits_in i.plan) i.plan (opened_with i.plan ds faults) [] [] left J e
+simulated_so i ds faults J e left long same quiet sim =
     let p = i.plan in let l = limits_in p in
-    subst (λ (ls : List Line). IsSimulated l p (opened p ds) [] ls left J e) t.script
-    (subst (λ (fs : List PlannedFault). IsSimulated l p (sim_cell (opening_for p ds) fs) [] i.script left J e) t.faults
-    (subst (λ (d : Durations). IsSimulated l p (sim_cell (opening_for p d) i.faults) [] i.script left J e) t.long sim))
+    subst (λ (ls : List Line). IsSimulated l p (opened_with p ds faults) [] ls left J e) quiet
+    (subst (λ (fs : List PlannedFault). IsSimulated l p (opened_with p ds fs) [] i.script left J e) same
+    (subst (λ (d : Durations). IsSimulated l p (opened_with p d i.faults) [] i.script left J e) long sim))
 
 finishes_so : (i : Inputs) (J : List Entry) (e : End) → IsFaultless i one_each [] → Allows i.plan one_each
     → Simulates i (opening_of i) [] J e → (is_calm J ≡ true) × Finishes (kept J e i.plan)
 finishes_so i J e t fair (left, sim) =
-    let p = i.plan in let l = limits_in p in let so = simulated_so i one_each J e left t sim in (
+    let p = i.plan in let l = limits_in p in
+    let so = simulated_so i one_each [] J e left t.long t.faults t.script sim in (
       none_declared l p one_each left J e fair so.ran,
       λ room time memory. healthy_runs_finish l p one_each 3 left J e fair
           (record { entries = room; plates = omega arith })

@@ -1,6 +1,6 @@
 -- Runs of the simulated cell in which a press may fail deliver all plates but one
-use Rattle.std.proofs.Common.{◌≡◌, ◌⊎◌, inl, inr, ◌++◌, ◌∷◌, [], Bool, true, false, ◌||◌, Option, Some, None, List}
-use Rattle.std.proofs.Common.{IfSome, refl, sym, ap, ◌∙◌, subst, append-nil}
+use Rattle.std.proofs.Common.{◌≡◌, ℕ, ◌++◌, ◌∷◌, [], true, false, ◌||◌, Option, Some, None, List}
+use Rattle.std.proofs.Common.{IfSome, arith, Ok, Err, refl, sym, ◌∙◌, subst, append-nil}
 use Rattle.std.specs.Prelude.{option_to_list}
 use Rattle.std.specs.List.{list_any}
 use Rattle.std.proofs.lemmas.List.Folds.{list_any-append}
@@ -10,7 +10,6 @@ use Rattle.cell_types.specs.declared.words.Machine.{Machine}
 use Rattle.cell_types.specs.Entries.{machine_of_entry}
 use Rattle.cell_rules.specs.Legal.{legal}
 use Rattle.cell_measures.specs.declared.durations.Durations.{Durations}
-use Rattle.cell_progress.specs.Orders.{IsOnePress}
 use Rattle.cell_turns.specs.Six.{at}
 use Rattle.operator_desk.specs.Next.{next_of}
 use Rattle.operator_desk.specs.declared.line.Line.{Line}
@@ -22,19 +21,25 @@ use Rattle.cell_rounds.specs.Moves.Leads.{goes, stays}
 use Rattle.cell_rounds.specs.Stands.{Answering, Between, Closing, Noted, Noting, Over, Point, Serving, Stand, Turning}
 use Rattle.cell_rounds.specs.Stands.{Wanted, start}
 use Rattle.cell_sim.specs.Readings.{shown}
+use Rattle.cell_sim.specs.Simulated.{one_each}
 use Rattle.cell_sim.specs.declared.fault.PlannedFault.{PlannedFault}
 use Rattle.sim_plant.specs.Answers.{AnswersSo, SimCell}
 use Rattle.cell_runs.specs.Cells.{AllKept, Ran}
+use Rattle.cell_runs.specs.Inputs.{AreFaults, AreLines}
 use Rattle.cell_runs.specs.Rounds.{IsRun}
+use Rattle.cell_runs.specs.Runs.{Kept, limits_of}
 use Rattle.cell_world.specs.FailCell.{AllLast, has_fault}
 use Rattle.cell_world.specs.FailRuns.{IsCalmBeside, disturbs_other, opened_with}
 use Rattle.cell_world.specs.OneRun.{Moment, moment_of, next_at, served}
 use Rattle.cell_world.specs.Running.{Allows}
 use Rattle.cell_world.proofs.FailRuns.{run_with_failing}
+use Rattle.cell_world.proofs.Fair.{settings_are_fair}
 use Rattle.cell_world.proofs.OneRun.{IsOrdinary, MayGoOn, decided_is, is_ordinary, move_follows, starts_ordinary}
 use Rattle.cell_world.proofs.Owned.{decided_owned}
+use Rattle.cell_world.proofs.Simulating.{written}
 use Rattle.cell_calm.specs.Calm.{disturbs_but, fails_only}
-use Rattle.cell_calm.specs.Failing.{FailingRunsDeliver}
+use Rattle.cell_calm.specs.Failing.{FailingRunsDeliver, KeepsAllButOne, WrittenFailingRunsDeliver}
+use Rattle.cell_calm.proofs.Finishing.{simulated_so}
 use Rattle.cell_calm.proofs.Plain.{neither, none_disturbs}
 use Rattle.cell_calm.proofs.Runs.{failing_finished, failing_never_full, failing_stalled}
 use Rattle.cell_calm.proofs.Undeclared.{ends_hold}
@@ -146,3 +151,24 @@ failing_runs_deliver l p ds faults new J e last one fair room sim =
         ends_hold (λ (K : List Entry). fails_only (has_fault faults) K ≡ true) T
         (start (opened_with p ds faults) k [] [] None) h new j J
         (λ t leads. (stands_tame T ds faults k last fair t leads).1.1) halts
+
+-- THE RUN THAT IS WRITTEN
+
+same_faults : (text : List ℕ) (xs ys : List PlannedFault) → AreFaults text xs → AreFaults text ys → xs ≡ ys
+same_faults text xs ys h k = cc
+
+same_lines : (text : List ℕ) (xs ys : List Line) → AreLines text xs → AreLines text ys → xs ≡ ys
+same_lines text xs ys h k = cc
+
+pub written_failing_runs_deliver : WrittenFailingRunsDeliver
+written_failing_runs_deliver planned settings faults operator journal old new status run last one these quiet
+    (Ok i, read, writes) =
+    written KeepsAllButOne i journal old new status run
+    (λ J e leads room. failing_runs_deliver (limits_of i.plan) i.plan one_each planned leads.0 J e last one
+    (settings_are_fair settings i.plan read.0.0) (record { entries = room; plates = omega arith })
+    (simulated_so i one_each planned J e leads.0 read.1
+    (same_faults faults i.faults planned read.0.1 these) (same_lines operator i.script [] read.0.2 quiet)
+    leads.1)) writes
+written_failing_runs_deliver planned settings faults operator journal old new status run last one these quiet
+    (Err e, read, writes) =
+    subst (λ (r : Option Kept). IfSome r KeepsAllButOne) (sym writes.1) tt

@@ -1,5 +1,5 @@
 -- Runs of the simulated cell, without an operator, in which a press may fail
-use Rattle.std.specs.Prelude.{ℕ, ◌≡◌, ◌≢◌, ◌+◌, List, []}
+use Rattle.std.specs.Prelude.{ℕ, ◌≡◌, ◌≢◌, ◌+◌, ◌*◌, ◌<◌, Bool, Option, List, [], IfSome}
 use Rattle.cell_types.specs.declared.words.Entry.{Entry}
 use Rattle.cell_rules.specs.Views.{count_of}
 use Rattle.cell_rules.specs.declared.limits.BookLimits.{BookLimits}
@@ -9,8 +9,12 @@ use Rattle.cell_progress.specs.Orders.{IsOnePress}
 use Rattle.cell_workers.specs.declared.ends.End.{End}
 use Rattle.cell_workers.specs.declared.ends.End.TheVariants as end
 use Rattle.cell_sim.specs.declared.fault.PlannedFault.{PlannedFault}
+use Rattle.cell_sim.specs.Simulated.{one_each}
 use Rattle.sim_plant.specs.Answers.{SimCell}
 use Rattle.cell_runs.specs.Cells.{IsSimulated}
+use Rattle.cell_runs.specs.Inputs.{AreFaults, AreLines}
+use Rattle.cell_runs.specs.Runs.{KeepsRun, Kept}
+use Rattle.cell_runs.specs.declared.texts.Mode.TheVariants as mode
 use Rattle.cell_world.specs.FailCell.{AllLast, has_fault}
 use Rattle.cell_world.specs.FailRuns.{opened_with}
 use Rattle.cell_world.specs.Running.{Allows}
@@ -31,3 +35,17 @@ FailingRunsDeliver =
     (l : BookLimits) (p : Plan) (ds : Durations) (faults : List PlannedFault) (new : SimCell) (J : List Entry) (e : End)
     → AllLast faults → IsOnePress (has_fault faults) → Allows p ds → HasRoomToFail l p.plates
     → IsSimulated l p (opened_with p ds faults) [] [] new J e → DeliversAllButOne p.plates J e
+
+-- with room for its entries a run that is kept ends so
+abbrev pub KeepsAllButOne : Kept → Type 0
+KeepsAllButOne run =
+    76 * run.plan.plates + 10 < run.plan.journal_limit → DeliversAllButOne run.plan.plates run.entries run.end
+
+-- and so do those that `run_texts` writes in rounds, with such a script of faults and an empty one of the operator
+abbrev pub WrittenFailingRunsDeliver : Type 0
+WrittenFailingRunsDeliver =
+    (planned : List PlannedFault) (settings faults operator : List ℕ) (journal : Bool) (old new : Option (List ℕ))
+    (status : ℕ) (run : Option Kept)
+    → AllLast planned → IsOnePress (has_fault planned) → AreFaults faults planned → AreLines operator []
+    → KeepsRun one_each settings faults operator mode.Rounds journal old new status run
+    → IfSome run KeepsAllButOne

@@ -18,7 +18,7 @@ ghost use Rattle.cell_useful.specs.Moves.{is_finished};
 ghost use Rattle.cell_progress.specs.Orders.{IsOnePress, IsPossible, cell_of};
 ghost use Rattle.cell_progress.specs.Rank.{most_failures};
 ghost use Rattle.cell_calm.specs.Calm.{HasRoom, HasRoomFor, HasRoomToFail, fails_only, is_calm, plain};
-ghost use Rattle.cell_calm.specs.Failing.{FailingRunsDeliver};
+ghost use Rattle.cell_calm.specs.Failing.{FailingRunsDeliver, WrittenFailingRunsDeliver};
 ghost use Rattle.cell_calm.specs.Healthy.{AllForged, HealthyRunsFinish, NoneDeclared, WrittenRunsFinish};
 
 /// The journal of a calm run, whatever the machines' turns and whatever the readings and the operator, is an order of
@@ -125,4 +125,10 @@ pub fn written_runs_finish()
 /// memory is refused, if the limits have room and let each motion be as long as it is.
 pub fn failing_runs_deliver()
     ensures { FailingRunsDeliver }
+{}
+
+/// The same of a run that `run_texts` writes, in rounds, if the operator's script is empty and the faults' names no
+/// other machine.
+pub fn written_failing_runs_deliver()
+    ensures { WrittenFailingRunsDeliver }
 {}
