@@ -3,11 +3,14 @@ use Rattle.std.specs.Prelude.{ℕ, zero, suc, ◌≡◌, ◌≢◌, ◌≤◌, �
 use Rattle.std.specs.Prelude.{Some, None, List, [], ◌∷◌, length, if◌then◌else◌}
 use Rattle.std.specs.List.{list_any}
 use Rattle.cell_types.specs.declared.words.Axis.{Axis}
+use Rattle.cell_types.specs.declared.words.Cause.{Cause}
 use Rattle.cell_types.specs.declared.words.Command.TheVariants.{On}
 use Rattle.cell_types.specs.Cell.{is_pose_of, machine_of_axis}
 use Rattle.cell_types.specs.Same.{axis_number}
 use Rattle.cell_diagnosis.specs.declared.motion.Motion.{Motion}
+use Rattle.cell_diagnosis.specs.declared.verdict.Verdict.TheVariants.{Fault as Finds}
 use Rattle.cell_diagnosis.specs.AxisFacts.{shows_alone}
+use Rattle.cell_diagnosis.specs.AxisRules.{verdict}
 use Rattle.cell_diagnosis.specs.Readings.{Seen, place_in_axis, seen}
 use Rattle.cell_sim.specs.declared.fault.Fault.{Fault}
 use Rattle.cell_sim.specs.declared.fault.Fault.TheVariants as fault
@@ -144,3 +147,11 @@ PlannedHidesEnd =
     (k : ℕ) (faults : List PlannedFault) (m : Motion) (f : Fault) (w : Simulated) → IsToFail faults m f w
     → IsWithin k (kept_by f (further_in w m.axis m.to))
     → list_any (shows_alone m.to) (seen_next k m (after_command faults w (On m.axis m.to))) ≡ false
+
+-- so the watch finds the fault by the reading that the motion's limit names, if it keeps the axis from its end so long
+abbrev pub PlannedIsFound : Type 0
+PlannedIsFound =
+    (faults : List PlannedFault) (m : Motion) (f : Fault) (w : Simulated) → IsToFail faults m f w
+    → 1 ≤ m.limits.limit → IsWithin m.limits.limit (kept_by f (further_in w m.axis m.to))
+    → (why : Cause)
+    × (verdict m (seen_next m.limits.limit m (after_command faults w (On m.axis m.to))) ≡ Finds why)
