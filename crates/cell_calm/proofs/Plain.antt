@@ -48,6 +48,16 @@ tame_front may J e h =
     ∙ none_disturbs (list_any (disturbs_but may) (J ++ e ∷ [])) h) in
     (ap not both.0, (neither (disturbs_but may e) false both.1).0)
 
+-- and one entry more that doesn't disturb leaves it such
+pub tame_more : (may : Machine → Bool) (J : List Entry) (e : Entry) → fails_only may J ≡ true
+    → disturbs_but may e ≡ false → fails_only may (J ++ e ∷ []) ≡ true
+tame_more may J e h d =
+    let before = none_disturbs (list_any (disturbs_but may) J) h in
+    let both : list_any (disturbs_but may) (J ++ e ∷ [])
+    ≡ (list_any (disturbs_but may) J || (disturbs_but may e || false)) =
+    list_any-append (disturbs_but may) J (e ∷ []) in
+    rw (both, before, d) refl
+
 undeclared : (e : Entry) → disturbs e ≡ false → plain_entry e ≡ e
 undeclared (Declared m why) h = cc
 undeclared _ h = refl

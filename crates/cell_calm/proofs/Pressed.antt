@@ -40,7 +40,7 @@ use Rattle.cell_world.proofs.Simulating.{written}
 use Rattle.cell_calm.specs.Calm.{disturbs_but, fails_only}
 use Rattle.cell_calm.specs.Failing.{FailingRunsDeliver, KeepsAllButOne, WrittenFailingRunsDeliver}
 use Rattle.cell_calm.proofs.Finishing.{simulated_so}
-use Rattle.cell_calm.proofs.Plain.{neither, none_disturbs}
+use Rattle.cell_calm.proofs.Plain.{neither, tame_more}
 use Rattle.cell_calm.proofs.Runs.{failing_finished, failing_never_full, failing_stalled}
 use Rattle.cell_calm.proofs.Undeclared.{ends_hold}
 
@@ -54,15 +54,6 @@ owned_tame faults (StopAsked n) m own h = cc
 owned_tame faults (Quarantined k src) m own h = cc
 owned_tame faults (Repaired n) m own h = cc
 owned_tame faults x m own h = refl
-
-tame_more : (faults : List PlannedFault) (J : List Entry) (x : Entry) → fails_only (has_fault faults) J ≡ true
-    → disturbs_but (has_fault faults) x ≡ false → fails_only (has_fault faults) (J ++ x ∷ []) ≡ true
-tame_more faults J x h d =
-    let before = none_disturbs (list_any (disturbs_but (has_fault faults)) J) h in
-    let both : list_any (disturbs_but (has_fault faults)) (J ++ x ∷ [])
-    ≡ (list_any (disturbs_but (has_fault faults)) J || (disturbs_but (has_fault faults) x || false)) =
-    list_any-append (disturbs_but (has_fault faults)) J (x ∷ []) in
-    rw (both, before, d) refl
 
 last_calm : (faults : List PlannedFault) (J : List Entry) (x : Entry) → IsCalmBeside faults (J ++ x ∷ [])
     → disturbs_other faults x ≡ false
@@ -79,7 +70,7 @@ tame_then : (faults : List PlannedFault) (J : List Entry) (m : Machine) (e : Opt
     → fails_only (has_fault faults) (J ++ option_to_list e) ≡ true
 tame_then faults J m None own calm h = rw append-nil h
 tame_then faults J m (Some x) own calm h =
-    tame_more faults J x h (owned_tame faults x m own (last_calm faults J x calm))
+    tame_more (has_fault faults) J x h (owned_tame faults x m own (last_calm faults J x calm))
 
 -- THE MOMENTS
 

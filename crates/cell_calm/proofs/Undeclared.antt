@@ -1,9 +1,7 @@
 -- In a run of the simulated cell without a fault and without an operator no machine is declared failed
-use Rattle.std.proofs.Common.{◌≡◌, ◌++◌, ◌∷◌, [], Bool, true, false, ◌||◌, Option, Some, None, List}
+use Rattle.std.proofs.Common.{◌≡◌, ◌++◌, ◌∷◌, [], Bool, true, false, Option, Some, None, List}
 use Rattle.std.proofs.Common.{refl, sym, ap, ◌∙◌, subst, append-nil}
 use Rattle.std.specs.Prelude.{option_to_list}
-use Rattle.std.specs.List.{list_any}
-use Rattle.std.proofs.lemmas.List.Folds.{list_any-append}
 use Rattle.cell_types.specs.declared.words.Cause.{Cause}
 use Rattle.cell_types.specs.declared.words.Entry.{Entry}
 use Rattle.cell_types.specs.declared.words.Entry.TheVariants.{Declared, StopAsked}
@@ -39,7 +37,7 @@ use Rattle.cell_world.proofs.Running.{Undisturbed, holds_on, none_next}
 use Rattle.cell_world.proofs.Whole.{cell_opening}
 use Rattle.cell_calm.specs.Calm.{disturbs, is_calm, none_may}
 use Rattle.cell_calm.specs.Healthy.{NoneDeclared}
-use Rattle.cell_calm.proofs.Plain.{none_disturbs}
+use Rattle.cell_calm.proofs.Plain.{tame_more}
 use Rattle.cell_calm.proofs.Possible.{tame_turn}
 use Rattle.cell_calm.proofs.Tame.{Calm, tame_start}
 
@@ -85,19 +83,12 @@ healthy_by : (l : BookLimits) (J : List Entry) (p : Plan) (minds : Machine → M
 healthy_by l J p minds w m false b t = let c = t.switches m b in (c.healthy, c.unasked)
 healthy_by l J p minds w m true b t = let c = t.belts m b in (c.healthy, c.unasked)
 
-calm_next : (J : List Entry) (x : Entry) → is_calm J ≡ true → disturbs x ≡ false → is_calm (J ++ x ∷ []) ≡ true
-calm_next J x h d =
-    let none = none_disturbs (list_any disturbs J) h in
-    let both : list_any disturbs (J ++ x ∷ []) ≡ (list_any disturbs J || (disturbs x || false)) =
-    list_any-append disturbs J (x ∷ []) in
-    rw (both, none, d) refl
-
 -- a journal of a cell that is as booked is calm after an entry as before it
 calm_then : (l : BookLimits) (J : List Entry) (p : Plan) (minds : Machine → Mind) (w : Simulated) (e : Option Entry)
     → is_calm J ≡ true → CellAsBooked l (J ++ option_to_list e) p minds w → is_calm (J ++ option_to_list e) ≡ true
 calm_then l J p minds w None h t = rw append-nil h
 calm_then l J p minds w (Some x) h t =
-    calm_next J x h
+    tame_more none_may J x h
     (undisturbing l J x t.legal (λ m. (healthy_by l (J ++ x ∷ []) p minds w m (has_belt m) refl t).0)
     (λ m. (healthy_by l (J ++ x ∷ []) p minds w m (has_belt m) refl t).1))
 

@@ -43,8 +43,8 @@ use Rattle.cell_sim.specs.declared.fault.PlannedFault.{PlannedFault}
 use Rattle.cell_sim.specs.Readings.{after_reading, shown}
 use Rattle.cell_sim.specs.Simulated.{Simulated, one_each}
 use Rattle.cell_sim.specs.Script.{next_fault}
-use Rattle.sim_plant.specs.Answers.{AnswersSo, SimCell, sim_cell}
-use Rattle.cell_runs.specs.Cells.{AllKept, Ran}
+use Rattle.sim_plant.specs.Answers.{AnswersSo, SimCell}
+use Rattle.cell_runs.specs.Cells.{AllKept}
 use Rattle.cell_runs.specs.Runs.{Kept, Simulates, kept, limits_of, opening_of}
 use Rattle.cell_runs.specs.declared.inputs.Inputs.{Inputs}
 use Rattle.cell_world.specs.Agreeing.{has_belt}
@@ -75,7 +75,7 @@ use Rattle.cell_world.proofs.Halts.{read_still}
 use Rattle.cell_world.proofs.Hand.{hand_counts}
 use Rattle.cell_world.proofs.Machines.{no_belt}
 use Rattle.cell_world.proofs.Shows.{leaves_collisions}
-use Rattle.cell_world.proofs.Simulating.{written}
+use Rattle.cell_world.proofs.Simulating.{ran_so, written}
 
 -- WHAT THE JOURNAL DECLARES
 
@@ -339,21 +339,12 @@ none_collides_beside l p ds faults new J e are fair (h, k, j, is, halts) =
 
 -- THE TEXTS
 
-ran_so : (i : Inputs) (ds : Durations) (faults : List PlannedFault) (J : List Entry) (e : End) (left : SimCell)
-    → i.durations ≡ ds → i.faults ≡ faults → i.script ≡ []
-    → Ran AnswersSo (limits_of i.plan) i.plan (sim_cell (opening_of i) i.faults) [] i.script left J e
-    → Ran AnswersSo (limits_of i.plan) i.plan (opened_with i.plan ds faults) [] [] left J e
-ran_so i ds faults J e left long same quiet ran =
-    let p = i.plan in let l = limits_of p in
-    subst (λ (ls : List Line). Ran AnswersSo l p (opened_with p ds faults) [] ls left J e) quiet
-    (subst (λ (fs : List PlannedFault). Ran AnswersSo l p (opened_with p ds fs) [] i.script left J e) same
-    (subst (λ (d : Durations). Ran AnswersSo l p (opened_with p d i.faults) [] i.script left J e) long ran))
-
 simulated : (i : Inputs) (ds : Durations) (faults : List PlannedFault) (J : List Entry) (e : End)
     → i.durations ≡ ds → i.faults ≡ faults → i.script ≡ [] → AllLast faults
     → Allows i.plan ds → Simulates i (opening_of i) [] J e → LeavesBeside ds faults (kept J e i.plan)
 simulated i ds faults J e long same quiet are fair (left, sim) =
-    let p = i.plan in let l = limits_of p in let ran = ran_so i ds faults J e left long same quiet sim.ran in
+    let p = i.plan in let l = limits_of p in
+    let ran = ran_so i ds faults [] J e left long same quiet sim.ran in
     let clear = none_collides_beside l p ds faults left J e are fair ran in
     record {
       left = left;

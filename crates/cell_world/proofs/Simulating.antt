@@ -14,7 +14,7 @@ use Rattle.sim_plant.specs.Answers.{AnswersSo, SimCell, sim_cell}
 use Rattle.cell_runs.specs.Cells.{Ran}
 use Rattle.cell_runs.specs.Runs.{Kept, Simulates, WritesRounds, kept, limits_of, opening_of}
 use Rattle.cell_runs.specs.declared.inputs.Inputs.{Inputs}
-use Rattle.cell_world.specs.Running.{Allows, opened}
+use Rattle.cell_world.specs.Running.{Allows}
 use Rattle.cell_world.specs.Simulating.{LeavesBooked, LeavesServed, OpensSo, ServedRunIsWorld, ServedTextIsWorld}
 use Rattle.cell_world.specs.Simulating.{TextIsWorld}
 use Rattle.cell_world.specs.Simulating.{TimedTextIsWorld}
@@ -33,22 +33,22 @@ pub record IsFaultless (i : Inputs) (ds : Durations) (lines : List Line) : Type 
   pub faults : i.faults ≡ []
   pub script : i.script ≡ lines
 
-ran_so : (i : Inputs) (ds : Durations) (lines : List Line) (J : List Entry) (e : End) (left : SimCell)
-    → IsFaultless i ds lines
+-- a run by these durations, faults and lines
+pub ran_so : (i : Inputs) (ds : Durations) (faults : List PlannedFault) (lines : List Line) (J : List Entry) (e : End)
+    (left : SimCell) → i.durations ≡ ds → i.faults ≡ faults → i.script ≡ lines
     → Ran AnswersSo (limits_of i.plan) i.plan (sim_cell (opening_of i) i.faults) [] i.script left J e
-    → Ran AnswersSo (limits_of i.plan) i.plan (opened i.plan ds) [] lines left J e
-ran_so i ds lines J e left t ran =
+    → Ran AnswersSo (limits_of i.plan) i.plan (sim_cell (opening_for i.plan ds) faults) [] lines left J e
+ran_so i ds faults lines J e left long same script ran =
     let p = i.plan in let l = limits_of p in
-    subst (λ (ls : List Line). Ran AnswersSo l p (opened p ds) [] ls left J e) t.script
-    (subst (λ (fs : List PlannedFault). Ran AnswersSo l p (sim_cell (opening_for p ds) fs) [] i.script left J e)
-    t.faults
-    (subst (λ (d : Durations). Ran AnswersSo l p (sim_cell (opening_for p d) i.faults) [] i.script left J e) t.long
-    ran))
+    subst (λ (ls : List Line). Ran AnswersSo l p (sim_cell (opening_for p ds) faults) [] ls left J e) script
+    (subst (λ (fs : List PlannedFault). Ran AnswersSo l p (sim_cell (opening_for p ds) fs) [] i.script left J e) same
+    (subst (λ (d : Durations). Ran AnswersSo l p (sim_cell (opening_for p d) i.faults) [] i.script left J e) long ran))
 
 simulated : (i : Inputs) (ds : Durations) (J : List Entry) (e : End) → IsFaultless i ds [] → Allows i.plan ds
     → Simulates i (opening_of i) [] J e → LeavesBooked ds (kept J e i.plan)
 simulated i ds J e t fair (left, sim) =
-    let p = i.plan in let l = limits_of p in let ran = ran_so i ds [] J e left t sim.ran in
+    let p = i.plan in let l = limits_of p in
+    let ran = ran_so i ds [] [] J e left t.long t.faults t.script sim.ran in
     record {
       left = left;
       ran = ran;
@@ -60,7 +60,8 @@ served : (i : Inputs) (ds : Durations) (lines : List Line) (J : List Entry) (e :
     → AreServices lines → Allows i.plan ds → Simulates i (opening_of i) [] J e
     → LeavesServed ds lines (kept J e i.plan)
 served i ds lines J e t are fair (left, sim) =
-    let p = i.plan in let l = limits_of p in let ran = ran_so i ds lines J e left t sim.ran in
+    let p = i.plan in let l = limits_of p in
+    let ran = ran_so i ds [] lines J e left t.long t.faults t.script sim.ran in
     record {
       left = left;
       ran = ran;
