@@ -29,6 +29,9 @@ import tempfile
 import threading
 import time
 
+sys.dont_write_bytecode = True
+from parts import run_parts  # noqa: E402
+
 HERE = pathlib.Path(__file__).resolve().parent.parent
 CELLCTL = os.environ.get("CELLCTL", str(HERE / "crates/cellctl/out/cellctl"))
 SWEEPER = os.environ.get("SWEEPER", CELLCTL)
@@ -612,15 +615,7 @@ def main():
              "liars": lambda: liars(is_long, jobs), "garbled": lambda: garbled(is_long, jobs), "files": files, "desk": desk, "plants": plants}
     with tempfile.TemporaryDirectory() as folder:
         work = pathlib.Path(folder)
-        for name, part in parts.items():
-            if names and name not in names:
-                continue
-            start = time.time()
-            before, seen = len(failed), looked
-            said = part()
-            took = time.time() - start
-            print(f"control: {name}: {said}: {looked - seen} looks, {len(failed) - before} otherwise, {took:.1f} s", flush=True)
-    return 1 if failed else 0
+        return run_parts("control", parts, names, failed, lambda: looked)
 
 
 if __name__ == "__main__":

@@ -30,6 +30,8 @@ import urllib.error
 import urllib.request
 
 sys.dont_write_bytecode = True
+from parts import run_parts  # noqa: E402
+
 HERE = pathlib.Path(__file__).resolve().parent.parent
 PROGRAM = os.environ.get("CELLCTL", str(HERE / "cellctl"))
 KINDS = ["no_motion", "keeps_old", "both", "slow", "lose_plate", "silent", "refuse_command"]
@@ -387,14 +389,7 @@ def main():
              "start": start, "browser": browser}
     if set(names) - set(parts):
         sys.exit(__doc__)
-    for name, part in parts.items():
-        if names and name not in names:
-            continue
-        begun, before, seen = time.time(), len(failed), looked
-        said = part()
-        took = time.time() - begun
-        print(f"live: {name}: {said}: {looked - seen} looks, {len(failed) - before} otherwise, {took:.1f} s", flush=True)
-    return 1 if failed else 0
+    return run_parts("live", parts, names, failed, lambda: looked)
 
 
 if __name__ == "__main__":
