@@ -385,6 +385,8 @@ def start():
         look("a second start", [again.returncode, f"port {port} is taken" in again.stderr], [2, True])
         again = subprocess.run([HERE / "examples/live.sh", "0", "none"], capture_output=True, encoding="utf-8", env=given)
         look("plates that are no number", again.returncode, 2)
+        again = subprocess.run([HERE / "examples/live.sh", "0"], capture_output=True, encoding="utf-8", env={**given, "TAKE": "x=1"})
+        look("a motion of no axis", [again.returncode, "'x' is no axis" in again.stderr], [2, True])
         there = pathlib.Path(folder) / "there"
         there.write_text("profile,2,,\n", encoding="utf-8")
         again = subprocess.run([HERE / "examples/live.sh", "0"], capture_output=True, encoding="utf-8",

@@ -4,8 +4,8 @@
 # Usage: examples/live.sh [--method COMMAND] [PORT [PLATES]]     or PORT and PLATES in the environment; 8891 and 12 without.
 # Ctrl-C ends all. With --method COMMAND is in the controller's place: a method by commands, as of `cellctl drive --raw`, as
 # examples/live.sh --method examples/methods/hasty.py; nothing is booked then, and nobody refuses what it commands.
-# PACE is how many times as fast as real time the cell is, 1 without; JOURNAL a new file for the journal, which is thrown away
-# without; CELLCTL another program.
+# PACE is how many times as fast as real time the cell is, 1 without; TAKE has how many seconds motions take, as
+# TAKE="press_two=3 arm_one=1"; JOURNAL is a new file for the journal, which is thrown away without; CELLCTL another program.
 set -u
 method=
 if [ "${1-}" = --method ] && [ -n "${2-}" ]; then
@@ -14,7 +14,7 @@ if [ "${1-}" = --method ] && [ -n "${2-}" ]; then
 fi
 case ${1-} in
     -*)
-        sed -n '4,8s/^# //p' "$0" >&2
+        sed -n '4,9s/^# //p' "$0" >&2
         exit 2
         ;;
 esac
@@ -45,8 +45,9 @@ if [ -e "$journal" ]; then
     echo "live: $journal is there already: the journal has to be a new file" >&2
     exit 2
 fi
-# As many turns and entries as there may be, since a run that waits for the desk takes turns too.
+# As many turns and entries as there may be, since a run that waits for the desk takes turns too. A long motion is waited for.
 printf '%s\n' "plates = $plates" "turns = 10000000" "journal_limit = 1000000" > "$work/cell.toml"
+printf '%s\n' ${TAKE-} | awk -F= '$2 > 1.7 { printf "[watch.%s]\nlimit = %d\n", $1, $2 * 10 + 3 }' >> "$work/cell.toml"
 if ! "$cellctl" explain --settings "$work/cell.toml" > "$work/said" 2>&1; then
     cat "$work/said" >&2
     exit 2
@@ -60,6 +61,7 @@ rest=(--wait --explain "$work/cell.toml" /dev/null)
 resume="$(printf '%q ' "${run[@]}" --resume "${rest[@]}")< $(printf %q "$work/lines") > $(printf %q "$work/commands")"
 other=(--journal "$journal" --resume "$resume")
 [ -z "$method" ] || other=("--method=$method")
+for motion in ${TAKE-}; do other+=(--take "$motion"); done
 "$here/examples/plants/live.py" "$plates" --port "$port" --program "$cellctl" --pace "${PACE:-1}" \
     --address "$work/address" --told "$work/told" "${other[@]}" < "$work/commands" > "$work/lines" 3<&- 4<&- &
 plant=$!

@@ -618,6 +618,8 @@ def read_options():
         axis, _, seconds = text.partition("=")
         if axis not in SECONDS:
             parser.error(f"{axis!r} is no axis: {', '.join(SECONDS)}")
+        if not seconds.replace(".", "", 1).isdecimal():
+            parser.error(f"{text!r} doesn't end in a number of seconds")
         options.seconds[axis] = float(seconds)
     return options
 
