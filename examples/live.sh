@@ -1,7 +1,7 @@
 #!/bin/bash
 # A cell that people may touch: the controller controls examples/plants/live.py, which shows itself on a page of this machine, where
 # one breaks parts by a click, takes plates out and stands at the operator's desk. It needs python3 and a browser.
-# Usage: examples/live.sh [--method COMMAND] [PORT [PLATES]]     or PORT and PLATES in the environment; 8891 and 12 without.
+# Usage: examples/live.sh [--method COMMAND] [PORT [PLATES]]     or PORT and PLATES in the environment; 8891 and 60 without.
 # Ctrl-C ends all. With --method COMMAND is in the controller's place: a method by commands, as of `cellctl drive --raw`, as
 # examples/live.sh --method examples/methods/hasty.py; nothing is booked then, and nobody refuses what it commands.
 # PACE is how many times as fast as real time the cell is, 1 without; TAKE has how many seconds motions take, as
@@ -21,7 +21,7 @@ esac
 here=$(cd "$(dirname "$0")/.." && pwd) || exit 1
 cellctl=${CELLCTL:-$here/cellctl}
 port=${1:-${PORT:-8891}}
-plates=${2:-${PLATES:-12}}
+plates=${2:-${PLATES:-60}}
 if [ "$cellctl" = "$here/cellctl" ] && "$cellctl" --which | grep -q '^none'; then
     echo "live: $("$cellctl" --which); ./cellctl --prove proves and builds it" >&2
     exit 3
@@ -94,7 +94,7 @@ fi
 "${run[@]}" "${rest[@]}" < "$work/lines" > "$work/commands" 2> "$work/told" 3<&- 4<&- &
 controller=$!
 echo "Its controller is process $controller: after \"kill -9 $controller\" the page says how it goes on. Ctrl-C here ends all."
-wait "$controller"
+wait "$controller" 2> /dev/null
 status=$?
 controller=
 if [ "$status" -gt 128 ]; then
