@@ -77,7 +77,7 @@ class Cell:
         except urllib.error.HTTPError as error:
             return error.code, json.load(error)
 
-    def wait(self, what, holds, seconds=60):
+    def wait(self, what, holds, seconds=300):
         """The first state in which something is so; the last one that was asked if that doesn't come."""
         end = time.monotonic() + seconds
         while True:
@@ -185,8 +185,8 @@ def press():
         look("all machines are booked healthy", state["book"][5], "000000")
         look("rules broken in the plant", state["broken"], {})
         look("the plate is in quarantine", len(state["quarantine"]), 1)
-        state = started.wait("what the controller says", lambda told: told["told"][0])
-        look("what the controller says", state["told"][0], "finished")
+        state = started.wait("what the controller says", lambda told: any(told["told"]))
+        look("what the controller says", state["told"][:1], ["finished"])
         audit("press 2 broken", started, [6, 5, 1, 5])
         return f"forging went on to five of six in {done['round']} rounds, and one is in quarantine"
 

@@ -43,11 +43,15 @@ class Book:
         self.quarantine = {}                         # by plate: the station from which it was cleared
 
     def ask(self, words, text=None):
-        return subprocess.run([self.program, *words], input=text, capture_output=True, encoding="utf-8", timeout=20)
+        """What the program prints; nothing where it isn't ready in half a minute."""
+        try:
+            return subprocess.run([self.program, *words], input=text, capture_output=True, encoding="utf-8", timeout=30).stdout
+        except subprocess.TimeoutExpired:
+            return ""
 
     def page(self, *words):
         """The data of the program's page, and the page."""
-        text = self.ask(["show", "--html", *words], "profile,2,,\n").stdout
+        text = self.ask(["show", "--html", *words], "profile,2,,\n")
         if '<script type="application/json" id="journal">' not in text:
             return None, text
         return json.loads(text.split('<script type="application/json" id="journal">')[1].split("</script>")[0]), text
@@ -87,7 +91,7 @@ class Book:
     def refusal(self, record, size):
         """Why the book refuses a record after so many bytes of the journal, in the program's words; blank if it doesn't."""
         text = pathlib.Path(self.journal).read_bytes()[:size].decode() + record + "\n"
-        said = self.ask(["explain"], text).stdout.strip()
+        said = self.ask(["explain"], text).strip()
         return said.split(f": {record}: ", 1)[1].partition(": ")[2] if f": {record}: " in said else ""
 
 
