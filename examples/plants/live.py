@@ -107,7 +107,8 @@ class Live:
         self.desk = []                # what was asked at the desk, and how it was answered
         self.to_send, self.sent = [], []
         self.heard, self.waiting = time.monotonic(), False
-        self.begun = self.ended = self.was_gone = False
+        self.begun = self.ended = False
+        self.why = ""                 # why the run has ended
         self.back = None              # when a controller that was gone spoke again
         self.since = {}               # by difference: when it was seen first, by round, time and readings of the journal
         self.version = 0
@@ -402,10 +403,11 @@ class Live:
         try:
             say("drive", 1, self.world.planned)
             self.world.show()
-            self.say_end(self.run() or "quit")
+            self.why = self.run() or "quit"
+            self.say_end(self.why)
             sys.stdout.flush()
         except BrokenPipeError:
-            pass  # what is at the other end is gone
+            self.why = self.why or "quit"  # what is at the other end is gone
         with self.lock:
             self.ended = True
             self.change()
@@ -452,7 +454,7 @@ class Driven(Live):
     def __init__(self, options):
         super().__init__(options)
         self.commands = collections.deque(maxlen=40)  # of each: its number, the answer and the line
-        self.count, self.in_round, self.stays, self.why = 0, 0, False, ""
+        self.count, self.in_round, self.stays = 0, 0, False
 
     def ending(self):
         self.in_round = 0
@@ -472,7 +474,7 @@ class Driven(Live):
 
     def say_end(self, why):
         """The lines that `cellctl drive` writes at the end, but for those of a book and of times. Then the method sees their end."""
-        self.why, counts, broken = why, self.world.counts, self.world.broken
+        counts, broken = self.world.counts, self.world.broken
         say("end", why)
         for word, number in (("admitted", counts["laid"]), ("forged", counts["forged"]), ("quarantined", counts["cleared"]),
                              ("delivered", counts["delivered"]), ("rounds", self.world.round), ("commands", self.count),
