@@ -9,10 +9,11 @@ Usage: checks/live.py [--long] [PART..]
   hands    a plate is taken out, a part is mended, the desk's stop, clear, repair and expect, and its refusals
   readers  two readers of the events, of which one leaves; requests from elsewhere, and ones that can't be read
   resume   the controller is killed and resumed
+  method   methods by commands in place of the controller: a careful one, one that breaks a rule, one by entries, and ones that end
   start    a port that is taken, a journal that is there, wrong settings, and the end
   browser  the same by clicks and keys, where node and chromium are there
 
-CELLCTL names another program than ./cellctl.
+CELLCTL names another program than the one that was built, or where none was than ./cellctl.
 """
 import contextlib
 import json
@@ -33,7 +34,8 @@ sys.dont_write_bytecode = True
 from parts import run_parts  # noqa: E402
 
 HERE = pathlib.Path(__file__).resolve().parent.parent
-PROGRAM = os.environ.get("CELLCTL", str(HERE / "cellctl"))
+BUILT = HERE / "crates/cellctl/out/cellctl"
+PROGRAM = os.environ.get("CELLCTL", str(BUILT if BUILT.exists() else HERE / "cellctl"))
 KINDS = ["no_motion", "keeps_old", "both", "slow", "lose_plate", "silent", "refuse_command"]
 AXES = ["feed_belt", "table_lift", "table_turn", "robot_turn", "arm_one", "arm_two", "press_one", "press_two", "deposit_belt"]
 failed = []
@@ -51,13 +53,13 @@ def look(what, found, wanted):
 class Cell:
     """A cell that examples/live.sh started."""
 
-    def __init__(self, folder, pace=200, plates=6, port=0):
+    def __init__(self, folder, pace=200, plates=6, port=0, method=""):
         self.journal = pathlib.Path(folder) / "run.journal"
         given = {**os.environ, "PACE": str(pace), "JOURNAL": str(self.journal), "CELLCTL": PROGRAM}
-        self.process = subprocess.Popen([HERE / "examples/live.sh", str(port), str(plates)], stdout=subprocess.PIPE,
-                                        stderr=subprocess.STDOUT, encoding="utf-8", env=given)
+        command = [HERE / "examples/live.sh", *(["--method", method] if method else []), str(port), str(plates)]
+        self.process = subprocess.Popen(command, stdout=subprocess.PIPE, stderr=subprocess.STDOUT, encoding="utf-8", env=given)
         self.address = self.process.stdout.readline().split()[-1]
-        self.controller = int(self.process.stdout.readline().split("kill -9 ")[1].split('"')[0])
+        self.controller = int(re.search(r"process ([0-9]+)", self.process.stdout.readline())[1])
 
     def ask(self, path="state"):
         with urllib.request.urlopen(self.address + path, timeout=20) as answer:
@@ -75,7 +77,7 @@ class Cell:
         except urllib.error.HTTPError as error:
             return error.code, json.load(error)
 
-    def wait(self, what, holds, seconds=60):
+    def wait(self, what, holds, seconds=300):
         """The first state in which something is so; the last one that was asked if that doesn't come."""
         end = time.monotonic() + seconds
         while True:
@@ -160,7 +162,7 @@ def audit(what, started, wanted=None):
 
 
 def press():
-    with cell(pace=4) as started:
+    with cell(pace=1) as started:
         look("a click breaks press 2", started.do(do="break", axis="press_two", kind="no_motion", when="next")[0], 200)
         started.do(do="pace", pace=200)
         done = started.wait("five are delivered", lambda state: state["book"] and state["book"][10][4] == 5)
@@ -169,9 +171,10 @@ def press():
         look("in press 2 by book and world", [bool(state["book"][0][6]), bool(state["world"]["plates"][6])], [True, True])
         look("the book has press 2 failed alone", state["book"][5], "000010")
         look("the world forged and delivered", [state["counts"]["forged"], state["counts"]["delivered"]], [5, 5])
+        state = started.wait("what differs is told, and the controller runs on",
+                             lambda told: told["differs"] and told["controller"] == "running")
         look("what differs", [one[:1] + one[2:] for one in state["differs"]],
              [["axis-7", "stopped on the way to the top", "at rest at the middle"]])
-        look("the controller runs on", state["controller"], "running")
         look("clearing before the desk may", [state["offers"]["clear,press2"], state["offers"]["repair,press2"]],
              ["", "a plate is booked there: clear it first"])
         look("clearing and repairing it", started.do(do="serve", machine="press2")[0], 200)
@@ -182,8 +185,8 @@ def press():
         look("all machines are booked healthy", state["book"][5], "000000")
         look("rules broken in the plant", state["broken"], {})
         look("the plate is in quarantine", len(state["quarantine"]), 1)
-        time.sleep(0.3)
-        look("what the controller says", started.ask()["told"][0], "finished")
+        state = started.wait("what the controller says", lambda told: any(told["told"]))
+        look("what the controller says", state["told"][:1], ["finished"])
         audit("press 2 broken", started, [6, 5, 1, 5])
         return f"forging went on to five of six in {done['round']} rounds, and one is in quarantine"
 
@@ -345,6 +348,35 @@ def resume():
     return f"killed after {stood} entries, and it went on to {state['entries']}"
 
 
+def driven(method, plates=6):
+    """The last state of a cell under a method, and what it said at its end."""
+    with cell(method=method, plates=plates) as started:
+        state = started.wait(f"the end of {method}", lambda told: told["controller"] == "ended" and any(told["told"]))
+        look(f"{method}: nothing is booked", [state["book"], state["offers"]], [None, {}])
+        look(f"{method}: the desk", started.do(do="operator", action="stop", argument="table")[0], 400)
+        look(f"{method}: the end", started.end()[0], 0)
+        return state
+
+
+def method():
+    methods = HERE / "examples/methods"
+    state = driven(f"{methods}/careful.py")
+    look("careful.py", [state["why"], state["counts"]["delivered"], state["broken"]], ["finished", 6, {}])
+    look("what it was told", state["told"][:2], ["end,finished,,", "admitted 6"])
+    state = driven(f"{methods}/hasty.py")
+    first = state["accidents"][0]
+    look("hasty.py", [state["why"], state["counts"]["delivered"], state["counts"]["lost"], state["broken"]],
+         ["finished", 0, 6, {"ArmInPress": 12}])
+    look("what it did first", [first["words"], first["command"]], ["press 1 moves while arm 1 is in it", "on,press_one,top,"])
+    look("what it was told", state["told"][-5:], ["commands 280", "broken 12", "broken ArmInPress 12", "lost 6", ""])
+    state = driven("echo dance; echo on,robot_turn,low; head -n 9 >&2; exit 3")
+    look("lines that are no commands", [line[1:] for line in state["lines"]],
+         [["unreadable", "dance,,,"], ["unreadable", "on,robot_turn,low,"]])
+    look("a pose that isn't there", [state["why"], state["broken"]], ["quit", {"NoSuchPose": 1}])
+    look("one that says too much", driven("echo I talk >&2; yes magnet_on,arm1")["why"], "too many lines")
+    return "careful.py delivered all, and hasty.py broke ArmInPress 12 times and lost all"
+
+
 def start():
     with cell() as started, tempfile.TemporaryDirectory() as folder:
         port = started.address.split(":")[2].strip("/")
@@ -353,6 +385,8 @@ def start():
         look("a second start", [again.returncode, f"port {port} is taken" in again.stderr], [2, True])
         again = subprocess.run([HERE / "examples/live.sh", "0", "none"], capture_output=True, encoding="utf-8", env=given)
         look("plates that are no number", again.returncode, 2)
+        again = subprocess.run([HERE / "examples/live.sh", "0"], capture_output=True, encoding="utf-8", env={**given, "TAKE": "x=1"})
+        look("a motion of no axis", [again.returncode, "'x' is no axis" in again.stderr], [2, True])
         there = pathlib.Path(folder) / "there"
         there.write_text("profile,2,,\n", encoding="utf-8")
         again = subprocess.run([HERE / "examples/live.sh", "0"], capture_output=True, encoding="utf-8",
@@ -386,7 +420,7 @@ def browser():
 def main():
     names = [word for word in sys.argv[1:] if not word.startswith("--")]
     parts = {"press": press, "kinds": lambda: kinds("--long" in sys.argv), "hands": hands, "readers": readers, "resume": resume,
-             "start": start, "browser": browser}
+             "method": method, "start": start, "browser": browser}
     if set(names) - set(parts):
         sys.exit(__doc__)
     return run_parts("live", parts, names, failed, lambda: looked)

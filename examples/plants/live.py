@@ -28,6 +28,7 @@ RECORDS = {"stop": "stop_asked,{},,", "repair": "repaired,{},,", "expect": "expe
 OTHER_REFUSALS = {"Failed": "the act at the cell didn't succeed", "Unreadable": "the controller can't read that",
                   "TooMany": "too much was asked at once"}
 LASTS = 6       # so many rounds, and so many tenths of a second, book and world have to differ before that is shown
+LINES = 10000   # so many lines in a round end the run of a method
 SILENCE = 1.5   # after so many seconds without a line the controller is taken for gone
 
 
@@ -42,11 +43,15 @@ class Book:
         self.quarantine = {}                         # by plate: the station from which it was cleared
 
     def ask(self, words, text=None):
-        return subprocess.run([self.program, *words], input=text, capture_output=True, encoding="utf-8", timeout=20)
+        """What the program prints; nothing where it isn't ready in half a minute."""
+        try:
+            return subprocess.run([self.program, *words], input=text, capture_output=True, encoding="utf-8", timeout=30).stdout
+        except subprocess.TimeoutExpired:
+            return ""
 
     def page(self, *words):
         """The data of the program's page, and the page."""
-        text = self.ask(["show", "--html", *words], "profile,2,,\n").stdout
+        text = self.ask(["show", "--html", *words], "profile,2,,\n")
         if '<script type="application/json" id="journal">' not in text:
             return None, text
         return json.loads(text.split('<script type="application/json" id="journal">')[1].split("</script>")[0]), text
@@ -86,7 +91,7 @@ class Book:
     def refusal(self, record, size):
         """Why the book refuses a record after so many bytes of the journal, in the program's words; blank if it doesn't."""
         text = pathlib.Path(self.journal).read_bytes()[:size].decode() + record + "\n"
-        said = self.ask(["explain"], text).stdout.strip()
+        said = self.ask(["explain"], text).strip()
         return said.split(f": {record}: ", 1)[1].partition(": ")[2] if f": {record}: " in said else ""
 
 
@@ -102,7 +107,8 @@ class Live:
         self.desk = []                # what was asked at the desk, and how it was answered
         self.to_send, self.sent = [], []
         self.heard, self.waiting = time.monotonic(), False
-        self.begun = self.ended = self.was_gone = False
+        self.begun = self.ended = False
+        self.why = ""                 # why the run has ended
         self.back = None              # when a controller that was gone spoke again
         self.since = {}               # by difference: when it was seen first, by round, time and readings of the journal
         self.version = 0
@@ -249,7 +255,8 @@ class Live:
             "broken": dict(+world.broken), "book": book.row, "entries": book.entries,
             "lines": list(book.lines)[-40:], "waits": book.waits,
             "quarantine": {str(plate): self.station(place) for plate, place in book.quarantine.items()},
-            "differs": self.lasting(), "offers": self.offers(), "told": self.told(),
+            "differs": self.lasting(), "offers": self.offers(), "told": self.told(), "method": "",
+            "accidents": world.accidents if len(world.accidents) <= 4 else world.accidents[:1] + world.accidents[-3:],
             "desk": [{key: item[key] for key in ("id", "action", "argument", "answer", "words")} for item in self.desk[-30:]],
         }
 
@@ -339,12 +346,19 @@ class Live:
                 self.lock.wait(None if self.paused else left)
 
     def next_round(self):
+        """The next round, unless the run is over: then why it is."""
         with self.lock:
             self.world.move()
             self.world.watch()
-            self.send_desk()
-            self.world.show()
-            self.change()
+            why = self.ending()
+            if not why:
+                self.send_desk()
+                self.world.show()
+                self.change()
+        return why
+
+    def ending(self):
+        return ""  # the controller ends its runs
 
     def obey(self, word, first, second):
         with self.lock:
@@ -357,6 +371,7 @@ class Live:
             elif word:
                 say(self.world.command(word, first, second))
                 self.world.watch()
+        return ""
 
     def forget_unanswered(self):
         """What the controller that is gone left without an answer, nobody answers any more."""
@@ -385,21 +400,34 @@ class Live:
 
     def speak(self):
         """The cell's half of the protocol, to its end."""
-        say("drive", 1, self.world.planned)
+        try:
+            say("drive", 1, self.world.planned)
+            self.world.show()
+            self.why = self.run() or "quit"
+            self.say_end(self.why)
+            sys.stdout.flush()
+        except BrokenPipeError:
+            self.why = self.why or "quit"  # what is at the other end is gone
+        with self.lock:
+            self.ended = True
+            self.change()
+
+    def run(self):
+        """Obeys until the lines end, or until the run is over: then why it is."""
         began = time.monotonic()
-        self.world.show()
         for word, first, second in self.lines():
             if word == "done":
                 self.let_time_go_by(began)
                 began = time.monotonic()
-                self.next_round()
+                why = self.next_round()
             else:
-                self.obey(word, first, second)
-        say("end", "quit")
-        sys.stdout.flush()
-        with self.lock:
-            self.ended = True
-            self.change()
+                why = self.obey(word, first, second)
+            if why:
+                return why
+        return ""
+
+    def say_end(self, why):
+        say("end", why)
 
     def keep_book(self):
         """Reads the journal on whenever it is longer, looks whether the controller is gone, and ends when who started this has."""
@@ -417,6 +445,53 @@ class Live:
                     self.change()
             self.explain_refusals()
         os._exit(1)
+
+
+class Driven(Live):
+    """The cell under a control method of someone else, which sends bare commands as with `cellctl drive --raw`. Nothing is booked,
+    and nobody refuses a command that breaks a rule."""
+
+    def __init__(self, options):
+        super().__init__(options)
+        self.commands = collections.deque(maxlen=40)  # of each: its number, the answer and the line
+        self.count, self.in_round, self.stays = 0, 0, False
+
+    def ending(self):
+        self.in_round = 0
+        return "finished" if self.world.is_done() and not self.stays else ""
+
+    def obey(self, word, first, second):
+        if word in ("", "sync", "booked", "refused"):
+            return super().obey(word, first, second)
+        with self.lock:
+            answer = "ok" if word == "stay" else self.world.command(word, first, second)
+            self.stays = self.stays or word == "stay"
+            self.world.watch()
+            say(answer)
+            self.count, self.in_round = self.count + 1, self.in_round + 1
+            self.commands.append([self.count, answer, f"{word},{first},{second},"[:80]])
+        return "too many lines" if self.in_round >= LINES else ""
+
+    def say_end(self, why):
+        """The lines that `cellctl drive` writes at the end, but for those of a book and of times. Then the method sees their end."""
+        counts, broken = self.world.counts, self.world.broken
+        say("end", why)
+        for word, number in (("admitted", counts["laid"]), ("forged", counts["forged"]), ("quarantined", counts["cleared"]),
+                             ("delivered", counts["delivered"]), ("rounds", self.world.round), ("commands", self.count),
+                             ("broken", sum(broken.values())), *((f"broken {rule}", broken[rule]) for rule in broken),
+                             ("lost", counts["lost"])):
+            print(word, number)
+        sys.stdout.flush()
+        os.dup2(os.open(os.devnull, os.O_WRONLY), sys.stdout.fileno())
+
+    def snapshot(self):
+        return {**super().snapshot(), "method": self.options.method, "why": self.why, "entries": self.count,
+                "lines": list(self.commands)}
+
+    def do_operator(self, _):
+        return "there is no desk, since nothing is booked here"
+
+    do_serve = do_operator
 
 
 def cut(text, begin, end):
@@ -535,7 +610,8 @@ def read_options():
     parser = argparse.ArgumentParser(description="A cell that people may touch on a page at 127.0.0.1. examples/live.sh starts it.")
     parser.add_argument("plates", type=int, help="how many plates are laid in")
     parser.add_argument("--port", type=int, default=8891, help="the page's port; 0 takes a free one")
-    parser.add_argument("--journal", required=True, help="the file that `cellctl control --journal` writes")
+    parser.add_argument("--journal", default="", help="the file that `cellctl control --journal` writes")
+    parser.add_argument("--method", default="", help="the name of a method by commands that is at the other end, as with `drive --raw`")
     parser.add_argument("--program", default=str(HERE.parent.parent / "cellctl"), help="the program cellctl")
     parser.add_argument("--pace", type=float, default=1, help="how many times as fast as real time")
     parser.add_argument("--take", action="append", default=[], metavar="AXIS=SECONDS", help="how long an axis's motion takes")
@@ -548,6 +624,8 @@ def read_options():
         axis, _, seconds = text.partition("=")
         if axis not in SECONDS:
             parser.error(f"{axis!r} is no axis: {', '.join(SECONDS)}")
+        if not seconds.replace(".", "", 1).isdecimal():
+            parser.error(f"{text!r} doesn't end in a number of seconds")
         options.seconds[axis] = float(seconds)
     return options
 
@@ -559,7 +637,8 @@ def main():
     except OSError as error:
         print(f"live: port {options.port} is taken, or can't be used: {error.strerror}", file=sys.stderr)
         sys.exit(2)
-    Handler.live = live = Live(options)
+    sys.stdin.reconfigure(errors="replace")
+    Handler.live = live = (Driven if options.method else Live)(options)
     address = f"http://127.0.0.1:{server.server_port}/"
     if options.address:
         pathlib.Path(options.address).write_text(address + "\n", encoding="utf-8")

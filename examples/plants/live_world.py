@@ -22,6 +22,19 @@ NEXT = {"middle": "top", "top": "bottom", "bottom": "middle"}
 KINDS = {"no_motion": "doesn't move", "keeps_old": "old switch stays on", "both": "all switches on", "slow": "slow",
          "lose_plate": "loses its plate", "silent": "silent", "refuse_command": "refuses commands"}
 COUNTED = ("slow", "silent")
+# The rules of docs/SAFETY.md that can be seen in the cell, and what is said when one is broken there.
+RULES = {"ArmInPress": "{arm} is in {machine}, which isn't where that arm serves it",
+         "ArmOverTable": "the table moves while {arm} is over it",
+         "ArmOverBelt": "the deposit belt moves while {arm} is over it",
+         "TurnWithArmOut": "the robot turns while {arm} is out",
+         "TableNotReady": "the feed belt goes to the table, which isn't ready for a plate",
+         "PlateOnPlate": "{arm} lets go of its plate over a station that has one",
+         "PlateDropped": "{arm} lets go of its plate over no station",
+         "FullEnd": "the {machine} belt is sent to its end, which has a plate",
+         "PressOrder": "{machine} is sent on in a wrong order, or before it rests",
+         "NoSuchPose": "an axis of the {machine} is sent to a pose that it hasn't",
+         "LaidOntoFullBelt": "the feed light turns green over a plate on the belt",
+         "ForgedTwice": "{machine} forges a forged plate"}
 
 
 class Fault:
@@ -93,9 +106,18 @@ class World:
         self.planned = planned
         self.counts = {"laid": 0, "forged": 0, "delivered": 0, "cleared": 0, "taken": 0, "lost": 0}
         self.returning = []                      # plates that someone lays in next, by the desk's word
-        self.broken = collections.Counter()      # rules of docs/SAFETY.md that were broken, by name
+        self.broken = collections.Counter()      # how often each rule was broken, by name
+        self.accidents = []                      # each time with its round, machine, words and the command that did it, if one did
         self.standing = set()
+        self.doing = ""                          # the command that is carried out
         self.round = 1
+
+    def breaks(self, rule, machine, arm=""):
+        self.broken[rule] += 1
+        moves = rule == "ArmInPress" and self.axes[PRESSES[machine]].goal
+        words = "{machine} moves while {arm} is in it" if moves else RULES[rule]
+        told = words.format(machine=machine.replace("press", "press "), arm=arm.replace("arm", "arm "))
+        self.accidents.append({"rule": rule, "round": self.round, "machine": machine, "words": told, "command": self.doing})
 
     # What one does to it by hand.
 
@@ -141,6 +163,7 @@ class World:
 
     def command(self, word, first, second):
         """What a command does, and its answer."""
+        self.doing = f"{word},{first},{second},"
         if word == "on":
             return self.turn_on(first, second)
         if word == "off" and first in self.axes:
@@ -155,7 +178,7 @@ class World:
             self.grip(first, word == "magnet_on")
         elif word == "lamp" and first in self.lights:
             if (first, second) == ("feed", "green") and ("feed_in" in self.plates or "feed_end" in self.plates):
-                self.broken["LaidOntoFullBelt"] += 1
+                self.breaks("LaidOntoFullBelt", "feed")
             self.lights[first] = second
         elif word == "remove" and first in PLACES:
             self.counts["cleared"] += self.plates.pop(first, None) is not None
@@ -169,7 +192,8 @@ class World:
 
     def turn_on(self, name, pose):
         if name not in self.axes or (pose not in POSES[name] and (name, pose) not in BELTS):
-            self.broken["NoSuchPose"] += name in self.axes
+            if name in self.axes:
+                self.breaks("NoSuchPose", MACHINE_OF[name])
             return "unreadable"
         axis = self.axes[name]
         if axis.armed:
@@ -181,9 +205,9 @@ class World:
         if axis.has("refuse_command"):
             return "failed"
         if name in PRESSES.values() and (axis.goal or (axis.pose() and NEXT[axis.pose()] != pose)):
-            self.broken["PressOrder"] += 1
+            self.breaks("PressOrder", MACHINE_OF[name])
         if (name, pose) in BELTS and BELTS[name, pose][1] in self.plates:
-            self.broken["FullEnd" if pose == "to_end" else "TableNotReady"] += 1
+            self.breaks("FullEnd" if pose == "to_end" else "TableNotReady", MACHINE_OF[name])
         if not axis.has("no_motion"):
             axis.set_out(pose)
             if fresh:
@@ -195,11 +219,11 @@ class World:
         out = self.axes[ARMS[arm]].pose() == "out"
         here = FACED.get((arm, self.axes["robot_turn"].pose())) if out else None
         if not is_on and arm in self.plates and here is None:
-            self.broken["PlateDropped"] += 1
+            self.breaks("PlateDropped", "robot", arm)
             self.plates.pop(arm)
             self.counts["lost"] += 1
         elif not is_on and arm in self.plates and here in self.plates:
-            self.broken["PlateOnPlate"] += 1
+            self.breaks("PlateOnPlate", "robot", arm)
             self.plates.pop(arm)
             self.counts["lost"] += 1
         source, target = (here, arm) if is_on else (arm, here)
@@ -211,6 +235,7 @@ class World:
     def move(self):
         """A round goes by: a tenth of a second of the cell's own time."""
         self.round += 1
+        self.doing = ""
         for axis in self.axes.values():
             if axis.fault:
                 axis.fault.age += 1
@@ -241,7 +266,7 @@ class World:
         plate = self.plates.get(HOLDS[axis.name][0])
         if axis.name in PRESSES.values() and axis.pose() == "top" and plate:
             if plate in self.forged:
-                self.broken["ForgedTwice"] += 1
+                self.breaks("ForgedTwice", MACHINE_OF[axis.name])
             self.forged.add(plate)
             self.counts["forged"] += 1
 
@@ -252,8 +277,14 @@ class World:
             self.counts["laid"] += 1
             self.plates["feed_in"] = self.counts["laid"]
 
+    def is_done(self):
+        """Whether all plates were laid in, none is in the cell, and nothing moves."""
+        is_empty = self.counts["laid"] >= self.planned and not self.returning and not self.plates
+        return is_empty and not any(axis.goal for axis in self.axes.values())
+
     def watch(self):
-        """Counts each safety rule that can be seen in the cell, from when it is broken until it is kept again."""
+        """Counts each safety rule that can be seen in the cell, from when it is broken until it is kept again. What is on an arm that
+        something runs into is lost."""
         turn, found = self.axes["robot_turn"], set()
         table = [self.axes["table_lift"], self.axes["table_turn"]]
         for arm, name in ARMS.items():
@@ -261,17 +292,21 @@ class World:
                 continue
             faced = FACED.get((arm, turn.pose()))
             if turn.goal:
-                found.add(("TurnWithArmOut", arm))
+                found.add(("TurnWithArmOut", "robot", arm))
             if faced in PRESSES and self.axes[PRESSES[faced]].pose() != ("middle" if arm == "arm1" else "bottom"):
-                found.add(("ArmInPress", arm))
+                found.add(("ArmInPress", faced, arm))
             if faced == "table" and any(axis.goal for axis in table):
-                found.add(("ArmOverTable", arm))
+                found.add(("ArmOverTable", "table", arm))
             if faced == "dep_in" and self.axes["deposit_belt"].goal:
-                found.add(("ArmOverBelt", arm))
+                found.add(("ArmOverBelt", "deposit", arm))
+        for arm in {arm for _, _, arm in found if arm in self.plates}:
+            self.plates.pop(arm)
+            self.counts["lost"] += 1
         feed = self.axes["feed_belt"]
         if feed.goal == "to_table" and not feed.brought and [axis.pose() for axis in table] != ["low", "belt"]:
-            found.add(("TableNotReady", "feed"))
-        self.broken.update(rule for rule, _ in found - self.standing)
+            found.add(("TableNotReady", "feed", ""))
+        for rule in sorted(found - self.standing):
+            self.breaks(*rule)
         self.standing = found
 
     # What its switches and sensors show.
