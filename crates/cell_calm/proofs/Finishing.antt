@@ -1,7 +1,7 @@
 -- A cell in which machines may fail by faults that last doesn't run out of rounds; and a healthy one that has room and
 -- time finishes, with all plates forged and delivered
-use Rattle.std.proofs.Common.{◌≡◌, ◌≢◌, ◌≤◌, ◌<◌, ◌+◌, ◌*◌, ◌⊎◌, inl, inr, ℕ, true, false, Option, None, Ok, Err, List, []}
-use Rattle.std.proofs.Common.{IfSome, length, refl, sym, ap, ◌∙◌, subst, arith}
+use Rattle.std.proofs.Common.{◌≡◌, ◌≢◌, ◌≤◌, ◌<◌, ◌+◌, ◌*◌, ◌⊎◌, inl, inr, ℕ, true, false, Option, None, Ok, Err}
+use Rattle.std.proofs.Common.{List, [], IfSome, length, refl, sym, ap, ◌∙◌, subst, arith}
 use Rattle.std.proofs.Math.Nat.{mul-le-mul_left}
 use Rattle.cell_types.specs.declared.words.Axis.TheVariants as axis
 use Rattle.cell_types.specs.declared.words.Entry.{Entry}
@@ -122,8 +122,8 @@ healthy_runs_finish l p ds most new J e fair room time sim memory = go e refl
       where
         tired : Ran AnswersSo l p (opened p ds) [] [] new J e → ⊥
         tired (h, k, j, ends, halts) =
-            never_tired l p ds [] tt (most + 1) (76 * p.plates) (λ a planned. cc planned) (three_at_least p ds most time)
-            time.rounds k
+            never_tired l p ds [] tt (most + 1) (76 * p.plates) (λ a planned. cc planned)
+            (three_at_least p ds most time) time.rounds k
             (λ t leads. healthy_known l p ds most k t fair room time leads) h new j J
             (calm_length l p room J (run_calm l p room [] J calm e sim.run)) halts (sym ends ∙ is)
 

@@ -1,5 +1,5 @@
--- Runs of the simulated cell in which machines may fail by faults that last come to rest, and where it is a press, deliver
--- all plates but one
+-- Runs of the simulated cell in which machines may fail by faults that last come to rest, and where it is a press,
+-- deliver all plates but one
 use Rattle.std.proofs.Common.{◌≡◌, ◌≤◌, ◌+◌, ◌*◌, ◌⊎◌, inl, inr, ℕ, Bool, true, false, List, [], length, IfSome}
 use Rattle.std.proofs.Common.{Option, None, Ok, Err, refl, sym, ◌∙◌, subst, arith}
 use Rattle.std.specs.Prelude.{nat_le}

@@ -276,8 +276,8 @@ module _ (may : Machine → Bool) (l : BookLimits) (J : List Entry) (p : Plan) (
       let told = told_when_legal l J c.legal in
       let a = after J in
       let lamp : a.lamp belt.Feed ≡ colour.Green = sym (ap (λ (x : Situation). x.lamp belt.Feed) told.cell) ∙ green in
-      let free = feed_wanted p.plates a (sym (ap (λ (x : Situation). x.failed machine.Feed) told.cell) ∙ t.healthy) lamp (none_useful may l p J c machine.Feed s
-      (shown w machine.Feed) (Lamp belt.Feed colour.Red) room decided) in
+      let free = feed_wanted p.plates a (sym (ap (λ (x : Situation). x.failed machine.Feed) told.cell) ∙ t.healthy)
+      lamp (none_useful may l p J c machine.Feed s (shown w machine.Feed) (Lamp belt.Feed colour.Red) room decided) in
       let few : admitted_in J < p.plates =
       less_of (admitted_in J) p.plates
       (ap (λ (x : Situation). nat_lt x.admitted p.plates) told.cell
@@ -303,8 +303,10 @@ module _ (may : Machine → Bool) (l : BookLimits) (J : List Entry) (p : Plan) (
       let a = after J in
       let lamp : a.lamp belt.Deposit ≡ colour.Green =
       sym (ap (λ (x : Situation). x.lamp belt.Deposit) told.cell) ∙ green in
-      let full = deposit_wanted p.plates a (sym (ap (λ (x : Situation). x.failed machine.Deposit) told.cell) ∙ t.healthy) lamp (none_useful may l p J c machine.Deposit s
-      (shown w machine.Deposit) (Lamp belt.Deposit colour.Red) room decided) in
+      let full = deposit_wanted p.plates a
+      (sym (ap (λ (x : Situation). x.failed machine.Deposit) told.cell) ∙ t.healthy) lamp
+      (none_useful may l p J c machine.Deposit s (shown w machine.Deposit) (Lamp belt.Deposit colour.Red) room
+      decided) in
       let none = deposit_taken J w rests.plain (st.taking.light ∙ green) (has_plate w station.DepEnd) refl in
       let still = (rests_by_hand J to_deposit_end s.axis w rests).still in
       let now = ap (λ (r : Option Reading). shows_sign J machine.Deposit r) (shown_still to_deposit_end w still)

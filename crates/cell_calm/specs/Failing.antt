@@ -59,8 +59,8 @@ pub record HasTimeFor (p : Plan) (most entries : ℕ) : Type 0 where
   pub limits : (a : Axis) → (limits_of p a).limit ≤ most
   pub rounds : most * entries < p.turns
 
--- whichever machines without a belt the faults are of, such a run comes to rest before its rounds run out, unless memory
--- was refused, if there are room and rounds enough: finished with all plates forged and delivered, or stalled
+-- whichever machines without a belt the faults are of, such a run comes to rest before its rounds run out, unless
+-- memory was refused, if there are room and rounds enough: finished with all plates forged and delivered, or stalled
 abbrev pub FailingRunsEnd : Type 0
 FailingRunsEnd =
     (l : BookLimits) (p : Plan) (ds : Durations) (faults : List PlannedFault) (most : ℕ) (new : SimCell)
