@@ -83,13 +83,13 @@ module _ (l : BookLimits) (p : Plan) (ds : Durations) (faults : List PlannedFaul
 -- WHERE NO FAULT IS PLANNED
 
 -- a motion takes three readings at least
-three_at_least : (p : Plan) (ds : Durations) (most : ℕ) → HasTime p ds most → 3 ≤ most + 1
+three_at_least : (p : Plan) (ds : Durations) (most : ℕ) → HasTime p ds most → 3 ≤ most
 three_at_least p ds most time = let few = time.readings axis.FeedBelt pose.ToEnd in omega (arith, few)
 
 healthy_known : (l : BookLimits) (p : Plan) (ds : Durations) (most : ℕ) (k : Unkept) (t : Stand SimCell Unkept)
     → Allows p ds → HasRoom l p.plates → HasTime p ds most
     → Leads AnswersSo AllKept (terms_of l p false) (start (opened p ds) k [] [] None) t
-    → IsKnownAt (terms_of l p false) [] (most + 1) (moment_of t)
+    → IsKnownAt (terms_of l p false) [] most (moment_of t)
 healthy_known l p ds most k t fair room time leads =
     let T = terms_of l p false in
     let was = (stands_tame T ds [] k tt fair t leads).1 in
@@ -99,8 +99,8 @@ healthy_known l p ds most k t fair room time leads =
       booked = (run_with_failing T ds [] t tt fair (k, leads)).cell;
       tame = was.1.1;
       room = calm_room l p room t.now.journal was.1.1;
-      short = λ b to. let few = subst (λ (n : ℕ). n + 3 ≤ most)
-          (sym (further_then (opening_for p ds) t.cell.world b to long)) (time.readings b to) in omega (arith, few);
+      short = λ b to. subst (λ (n : ℕ). n + 3 ≤ most)
+          (sym (further_then (opening_for p ds) t.cell.world b to long)) (time.readings b to);
     }
 
 pub healthy_runs_finish : HealthyRunsFinish
@@ -122,7 +122,7 @@ healthy_runs_finish l p ds most new J e fair room time sim memory = go e refl
       where
         tired : Ran AnswersSo l p (opened p ds) [] [] new J e → ⊥
         tired (h, k, j, ends, halts) =
-            never_tired l p ds [] tt (most + 1) (76 * p.plates) (λ a planned. cc planned)
+            never_tired l p ds [] tt most (76 * p.plates) (λ a planned. cc planned)
             (three_at_least p ds most time) time.rounds k
             (λ t leads. healthy_known l p ds most k t fair room time leads) h new j J
             (calm_length l p room J (run_calm l p room [] J calm e sim.run)) halts (sym ends ∙ is)
