@@ -1,6 +1,7 @@
--- A healthy cell that has room and time finishes, with all plates forged and delivered
-use Rattle.std.proofs.Common.{◌≡◌, ◌≢◌, ◌≤◌, ◌+◌, ◌*◌, ◌⊎◌, inl, inr, ℕ, true, false, Option, None, Ok, Err, List, []}
-use Rattle.std.proofs.Common.{IfSome, length, refl, sym, ap, ◌∙◌, subst, arith}
+-- A cell in which machines may fail by faults that last doesn't run out of rounds; and a healthy one that has room and
+-- time finishes, with all plates forged and delivered
+use Rattle.std.proofs.Common.{◌≡◌, ◌≢◌, ◌≤◌, ◌<◌, ◌+◌, ◌*◌, ◌⊎◌, inl, inr, ℕ, true, false, Option, None, Ok, Err}
+use Rattle.std.proofs.Common.{List, [], IfSome, length, refl, sym, ap, ◌∙◌, subst, arith}
 use Rattle.std.proofs.Math.Nat.{mul-le-mul_left}
 use Rattle.cell_types.specs.declared.words.Axis.TheVariants as axis
 use Rattle.cell_types.specs.declared.words.Entry.{Entry}
@@ -11,10 +12,10 @@ use Rattle.cell_ports.specs.declared.plan.Plan.{Plan}
 use Rattle.cell_plant.specs.declared.keeper.Unkept.{Unkept}
 use Rattle.cell_workers.specs.declared.ends.End.{End}
 use Rattle.cell_workers.specs.declared.ends.End.TheVariants as end
-use Rattle.cell_rounds.specs.Moves.{terms_of}
+use Rattle.cell_rounds.specs.Moves.{Leads, terms_of}
 use Rattle.cell_rounds.specs.Runs.{Halts, end_of}
 use Rattle.cell_rounds.specs.Runs.Halts.{breaks, fills, lacks, rests, tires}
-use Rattle.cell_rounds.specs.Stands.{Over, Point, start}
+use Rattle.cell_rounds.specs.Stands.{Over, Point, Stand, start}
 use Rattle.cell_rounds.specs.declared.progress.Halt.{Halt}
 use Rattle.operator_desk.specs.declared.line.Line.{Line}
 use Rattle.cell_sim.specs.Simulated.{one_each}
@@ -24,55 +25,83 @@ use Rattle.cell_runs.specs.Cells.{AllKept, IsSimulated, Ran}
 use Rattle.cell_runs.specs.Runs.{Kept, Simulates, kept, limits_of as limits_in, opening_of}
 use Rattle.cell_runs.specs.declared.inputs.Inputs.{Inputs}
 use Rattle.cell_runs.specs.Rounds.{IsRun}
+use Rattle.cell_world.specs.FailCell.{AllLast}
 use Rattle.cell_world.specs.FailRuns.{opened_with}
+use Rattle.cell_world.specs.OneRun.{moment_of}
 use Rattle.cell_world.specs.Running.{Allows, opened}
+use Rattle.cell_world.specs.Whole.{opening_for}
+use Rattle.cell_world.proofs.FailRuns.{run_with_failing}
 use Rattle.cell_world.proofs.Fair.{one_long, settings_are_fair}
+use Rattle.cell_world.proofs.Long.{further_then}
 use Rattle.cell_world.proofs.OneRun.{not_ordinary}
 use Rattle.cell_world.proofs.Simulating.{IsFaultless, faultless, written}
 use Rattle.cell_calm.specs.Calm.{HasRoom, is_calm}
 use Rattle.cell_calm.specs.Healthy.{HealthyRunsFinish, AllForged, HasTime, Finishes, WrittenRunsFinish}
-use Rattle.cell_calm.proofs.Paces.{PacedAt, paces}
-use Rattle.cell_calm.proofs.Refused.{calm_length}
+use Rattle.cell_calm.proofs.Paces.{IsKnownAt, PacedAt, paces}
+use Rattle.cell_calm.proofs.Quickens.{AreBrief}
+use Rattle.cell_calm.proofs.Refused.{calm_length, calm_room}
 use Rattle.cell_calm.proofs.Runs.{finished_whole, never_full, never_stalled, run_calm}
-use Rattle.cell_calm.proofs.Undeclared.{none_declared}
-
--- a motion takes three readings at least
-three : (p : Plan) (ds : Durations) (most : ℕ) → HasTime p ds most → 2 ≤ most
-three p ds most time = let few = time.readings axis.FeedBelt pose.ToEnd in omega (arith, few)
+use Rattle.cell_calm.proofs.Undeclared.{none_declared, stands_long, stands_tame}
 
 other_end : (h : Halt) (x : End) → end_of h ≡ end.TurnLimit → end_of h ≡ x → x ≢ end.TurnLimit → ⊥
 other_end h x is that none = none (sym that ∙ is)
 
--- its turns don't run out
-never_tired : (l : BookLimits) (p : Plan) (ds : Durations) (most : ℕ) (k j : Unkept) (h : Halt) (new : SimCell)
-    (J : List Entry) → Allows p ds → HasRoom l p.plates → HasTime p ds most → length J ≤ 76 * p.plates
-    → Halts AnswersSo AllKept (terms_of l p false) (start (opened p ds) k [] [] None) h new j J
-    → end_of h ≡ end.TurnLimit → ⊥
-never_tired l p ds most k j h new J fair room time few (breaks t leads here has) is =
+-- its rounds don't run out where as many are left as its entries take
+module _ (l : BookLimits) (p : Plan) (ds : Durations) (faults : List PlannedFault) (are : AllLast faults) (most n : ℕ)
+    (few : AreBrief faults p most) (three : 3 ≤ most) (time : most * n < p.turns) (k : Unkept)
+    (known : (t : Stand SimCell Unkept)
+    → Leads AnswersSo AllKept (terms_of l p false) (start (opened_with p ds faults) k [] [] None) t
+    → IsKnownAt (terms_of l p false) faults most (moment_of t)) where
+  pub never_tired : (h : Halt) (new : SimCell) (j : Unkept) (J : List Entry) → length J ≤ n
+      → Halts AnswersSo AllKept (terms_of l p false) (start (opened_with p ds faults) k [] [] None) h new j J
+      → end_of h ≡ end.TurnLimit → ⊥
+  never_tired h new j J long (breaks t leads here has) is =
+      let T = terms_of l p false in
+      not_ordinary t.place.point (Over h) here (paces T faults are most few three refl ds k known t leads).0.point refl
+  never_tired h new j J long (lacks t leads ends unbooked has) is =
+      other_end h end.Memory is (ap end_of ends) (λ x. cc x)
+  never_tired h new j J long (fills t leads ends away has) is =
+      other_end h end.Full is (ap end_of ends) (λ x. cc x)
+  never_tired h new j J long (rests t e leads ends rest has) is =
+      at_rest rest.rest.either
+    where
+      at_rest : (e ≡ end.Finished) ⊎ ((e ≡ end.Stalled) × (false ≡ false)) → ⊥
+      at_rest (inl x) =
+          other_end h e is (ap end_of ends) (λ y. let z : end.Finished ≡ end.TurnLimit = sym x ∙ y in cc z)
+      at_rest (inr x) =
+          other_end h e is (ap end_of ends) (λ y. let z : end.Stalled ≡ end.TurnLimit = sym x.0 ∙ y in cc z)
+  never_tired h new j J long (tires t leads ends here rounds has) is =
+      let T = terms_of l p false in
+      let paced = (paces T faults are most few three refl ds k known t leads).1 in
+      let steady = subst (λ (x : Point). PacedAt most p x t.place.rounds t.place.begun t.now.journal t.now.minds) here
+      paced in
+      let enough = steady.enough in
+      let short : length t.now.journal ≤ n = subst (λ (K : List Entry). length K ≤ n) (sym has.2) long in
+      let less = mul-le-mul_left most short in
+      omega (arith, enough, less, time, rounds)
+
+-- WHERE NO FAULT IS PLANNED
+
+-- a motion takes three readings at least
+three_at_least : (p : Plan) (ds : Durations) (most : ℕ) → HasTime p ds most → 3 ≤ most
+three_at_least p ds most time = let few = time.readings axis.FeedBelt pose.ToEnd in omega (arith, few)
+
+healthy_known : (l : BookLimits) (p : Plan) (ds : Durations) (most : ℕ) (k : Unkept) (t : Stand SimCell Unkept)
+    → Allows p ds → HasRoom l p.plates → HasTime p ds most
+    → Leads AnswersSo AllKept (terms_of l p false) (start (opened p ds) k [] [] None) t
+    → IsKnownAt (terms_of l p false) [] most (moment_of t)
+healthy_known l p ds most k t fair room time leads =
     let T = terms_of l p false in
-    not_ordinary t.place.point (Over h) here
-    (paces T ds most time.readings (three p ds most time) refl k t fair room leads).0.point refl
-never_tired l p ds most k j h new J fair room time few (lacks t leads ends unbooked has) is =
-    other_end h end.Memory is (ap end_of ends) (λ x. cc x)
-never_tired l p ds most k j h new J fair room time few (fills t leads ends away has) is =
-    other_end h end.Full is (ap end_of ends) (λ x. cc x)
-never_tired l p ds most k j h new J fair room time few (rests t e leads ends rest has) is =
-    at_rest rest.rest.either
-  where
-    at_rest : (e ≡ end.Finished) ⊎ ((e ≡ end.Stalled) × (false ≡ false)) → ⊥
-    at_rest (inl x) = other_end h e is (ap end_of ends) (λ y. let z : end.Finished ≡ end.TurnLimit = sym x ∙ y in cc z)
-    at_rest (inr x) = other_end h e is (ap end_of ends) (λ y. let z : end.Stalled ≡ end.TurnLimit = sym x.0 ∙ y in cc z)
-never_tired l p ds most k j h new J fair room time few (tires t leads ends here rounds has) is =
-    let T = terms_of l p false in
-    let paced = (paces T ds most time.readings (three p ds most time) refl k t fair room leads).1 in
-    let steady = subst (λ (x : Point). PacedAt most p x t.place.rounds t.place.begun t.now.journal t.now.minds) here
-    paced in
-    let enough = steady.enough in
-    let short : length t.now.journal ≤ 76 * p.plates =
-    subst (λ (K : List Entry). length K ≤ 76 * p.plates) (sym has.2) few in
-    let less = mul-le-mul_left (most + 1) short in
-    let more = time.rounds in
-    omega (arith, enough, less, more, rounds)
+    let was = (stands_tame T ds [] k tt fair t leads).1 in
+    let long = stands_long T ds k t fair leads in
+    record {
+      lines = was.0;
+      booked = (run_with_failing T ds [] t tt fair (k, leads)).cell;
+      tame = was.1.1;
+      room = calm_room l p room t.now.journal was.1.1;
+      short = λ b to. subst (λ (n : ℕ). n + 3 ≤ most)
+          (sym (further_then (opening_for p ds) t.cell.world b to long)) (time.readings b to);
+    }
 
 pub healthy_runs_finish : HealthyRunsFinish
 healthy_runs_finish l p ds most new J e fair room time sim memory = go e refl
@@ -93,7 +122,9 @@ healthy_runs_finish l p ds most new J e fair room time sim memory = go e refl
       where
         tired : Ran AnswersSo l p (opened p ds) [] [] new J e → ⊥
         tired (h, k, j, ends, halts) =
-            never_tired l p ds most k j h new J fair room time
+            never_tired l p ds [] tt most (76 * p.plates) (λ a planned. cc planned)
+            (three_at_least p ds most time) time.rounds k
+            (λ t leads. healthy_known l p ds most k t fair room time leads) h new j J
             (calm_length l p room J (run_calm l p room [] J calm e sim.run)) halts (sym ends ∙ is)
 
 -- THE RUN THAT IS WRITTEN

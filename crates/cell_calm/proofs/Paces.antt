@@ -1,4 +1,4 @@
--- A run of a healthy cell books something as often as its motions let it
+-- A run in which machines may fail by faults that last books something as often as its motions let it
 use Rattle.std.proofs.Common.{◌≡◌, ◌≤◌, ◌+◌, ◌*◌, ◌⊎◌, inl, inr, ℕ, suc, Bool, true, false, ◌&&◌, Option}
 use Rattle.std.proofs.Common.{Some, None, List, [], ◌∷◌, ◌++◌, length, refl, sym, ap, ◌∙◌, subst, append-nil, arith}
 use Rattle.std.proofs.Common.{length-append}
@@ -29,23 +29,19 @@ use Rattle.cell_rounds.specs.Rest.{KeepsOn, are_idle}
 use Rattle.cell_rounds.specs.Stands.{Answering, Between, Closing, Noted, Noting, Over, Point, Serving, Turning}
 use Rattle.cell_rounds.specs.Stands.{Stand, Wanted, start}
 use Rattle.cell_sim.specs.Readings.{shown}
+use Rattle.cell_sim.specs.declared.fault.PlannedFault.{PlannedFault}
 use Rattle.sim_plant.specs.Answers.{AnswersSo, SimCell}
 use Rattle.cell_runs.specs.Cells.{AllKept}
 use Rattle.cell_world.specs.OneRun.{Moment, moment_of, next_at, served, turned}
-use Rattle.cell_world.specs.Running.{Allows, opened}
+use Rattle.cell_world.specs.FailCell.{AllLast, CellWithFailing, has_fault}
+use Rattle.cell_world.specs.FailRuns.{opened_with}
 use Rattle.cell_world.specs.Starting.{further_in}
 use Rattle.cell_world.specs.Switched.{with_mind}
-use Rattle.cell_world.specs.Whole.{CellAsBooked, opening_for}
-use Rattle.cell_world.proofs.Long.{further_then}
 use Rattle.cell_world.proofs.Moves.{each_at, mind_put}
 use Rattle.cell_world.proofs.OneRun.{IsOrdinary, MayGoOn, decided_is, is_ordinary, move_follows, starts_ordinary}
 use Rattle.cell_calm.proofs.Noting.{Quickens, due, due_within}
-use Rattle.cell_calm.proofs.Tame.{Calm}
-use Rattle.cell_calm.proofs.Quickens.{quickens, with_same}
-use Rattle.cell_calm.proofs.Refused.{calm_room}
-use Rattle.cell_calm.proofs.Undeclared.{stands_healthy}
-use Rattle.cell_calm.specs.Calm.{HasRoom}
-use Rattle.cell_calm.specs.Healthy.{readings_of}
+use Rattle.cell_calm.proofs.Quickens.{AreBrief, quickens, with_same}
+use Rattle.cell_calm.proofs.Tame.{Tame}
 
 abbrev pub is_among : Machine → List Machine → Bool
 is_among m rest = list_any (λ n. same_machine n m) rest
@@ -53,7 +49,7 @@ is_among m rest = list_any (λ n. same_machine n m) rest
 module _ (most : ℕ) (p : Plan) where
   -- so many rounds a journal may take
   abbrev pub span : List Entry → ℕ
-  span J = (most + 1) * length J
+  span J = most * length J
 
   abbrev pub left : List Entry → Six Mind → Machine → ℕ
   left J minds m = due most J p m (at minds m)
@@ -76,7 +72,7 @@ module _ (most : ℕ) (p : Plan) where
 
   -- or something was, and whatever is due, there are rounds enough
   abbrev pub Paced : List Machine → ℕ → List Entry → List Entry → Six Mind → Type 0
-  Paced rest rounds begun J minds = (rounds + 1 + most ≤ span J) ⊎ Waits rest rounds begun J minds
+  Paced rest rounds begun J minds = (rounds + most ≤ span J) ⊎ Waits rest rounds begun J minds
 
   abbrev pub PacedAt : Point → ℕ → List Entry → List Entry → Six Mind → Type 0
   PacedAt Between rounds begun J minds = Steady rounds J minds
@@ -94,11 +90,11 @@ module _ (most : ℕ) (p : Plan) where
 longer : (J : List Entry) (x : Entry) → length (J ++ x ∷ []) ≡ suc (length J)
 longer J x = let h = length-append J (x ∷ []) in omega (arith, h)
 
-span_more : (most : ℕ) (p : Plan) (J : List Entry) (x : Entry) → span most p (J ++ x ∷ []) ≡ span most p J + (most + 1)
+span_more : (most : ℕ) (p : Plan) (J : List Entry) (x : Entry) → span most p (J ++ x ∷ []) ≡ span most p J + most
 span_more most p J x =
-    ap (λ (n : ℕ). (most + 1) * n) (longer J x) ∙ mul-suc (most + 1) (length J)
+    ap (λ (n : ℕ). most * n) (longer J x) ∙ mul-suc most (length J)
 
--- an entry gives as many rounds as may be due, and one
+-- an entry gives more rounds than may be due
 booked_paced : (most : ℕ) (p : Plan) (rest after : List Machine) (rounds : ℕ) (begun J : List Entry) (x : Entry)
     (minds minds' : Six Mind) → Paced most p rest rounds begun J minds
     → Paced most p after rounds begun (J ++ x ∷ []) minds'
@@ -194,28 +190,29 @@ next_ahead : (most : ℕ) (p : Plan) (rounds : ℕ) (J : List Entry) (minds : Si
 next_ahead most p rounds J minds m few (inl x) = let none = x.1 in omega (arith, none, few)
 next_ahead most p rounds J minds m few (inr x) = x
 
-closed_paced : (most : ℕ) (p : Plan) (rounds : ℕ) (begun J : List Entry) (minds : Six Mind) → 2 ≤ most
+closed_paced : (most : ℕ) (p : Plan) (rounds : ℕ) (begun J : List Entry) (minds : Six Mind) → 3 ≤ most
     → (J ≡ begun → KeepsOn p false J minds) → Paced most p [] rounds begun J minds
     → Steady most p (rounds + 1) J minds
-closed_paced most p rounds begun J minds two on (inl h) =
+closed_paced most p rounds begun J minds three on (inl h) =
     record {
-      enough = omega (arith, h);
-      ahead = λ m. let few = due_within most J p m (at minds m) two in omega (arith, h, few);
+      enough = omega (arith, h, three);
+      ahead = λ m. let few = due_within most J p m (at minds m) three in omega (arith, h, few);
     }
-closed_paced most p rounds begun J minds two on (inr h) =
+closed_paced most p rounds begun J minds three on (inr h) =
     let waking = not_idle (are_idle J p minds) _ (on h.same) (λ x. let no : false ≡ true = x.0 in cc no) in
     let few = busy most p rounds J minds (λ m. h.passed m refl) waking in
     record { enough = few; ahead = λ m. next_ahead most p rounds J minds m few (h.passed m refl) }
 
 -- EACH MOMENT
 
--- what is known of a moment of a healthy cell: no line of a script is left, and it is as booked
-pub record IsHealthyAt (T : Terms) (ds : Durations) (a : Moment) : Type 0 where
+-- what is known of a moment: no line of a script is left; the cell is as booked, but for the machines that fail; the
+-- book has room; and no motion takes more than so many readings
+pub record IsKnownAt (T : Terms) (faults : List PlannedFault) (most : ℕ) (a : Moment) : Type 0 where
   pub lines : a.desk.lines ≡ []
-  pub booked : CellAsBooked T.limits a.now.journal T.plan (at a.now.minds) a.world
-  pub calm : Calm T.limits T.plan.plates a.now.journal
+  pub booked : CellWithFailing faults T.limits a.now.journal T.plan (at a.now.minds) a.world
+  pub tame : Tame (has_fault faults) T.limits T.plan.plates a.now.journal
   pub room : nat_le T.limits.entries (length a.now.journal) ≡ false
-  pub long : a.world.durations ≡ ds
+  pub short : (b : Axis) (to : Pose) → further_in a.world b to + 3 ≤ most
 
 all_among : (m : Machine) → is_among m all_machine ≡ true
 all_among machine.Feed = refl
@@ -228,31 +225,24 @@ all_among machine.Deposit = refl
 differ : true ≡ false → ⊥
 differ h = cc h
 
-module _ (T : Terms) (ds : Durations) (most : ℕ)
-    (within : (a : Axis) (to : Pose) → readings_of T.plan ds a to ≤ most)
-    (two : 2 ≤ most)
-    (brief : T.waits ≡ false) where
-  in_time : (a : Moment) → a.world.durations ≡ ds → (b : Axis) (to : Pose) → further_in a.world b to + 3 ≤ most
-  in_time a long b to =
-      subst (λ (n : ℕ). n + 3 ≤ most) (sym (further_then (opening_for T.plan ds) a.world b to long)) (within b to)
-
-  turn_by : (a : Moment) (m : Machine) (rest : List Machine) (e : Option Entry) → IsHealthyAt T ds a
+module _ (T : Terms) (faults : List PlannedFault) (are : AllLast faults) (most : ℕ)
+    (few : AreBrief faults T.plan most) (three : 3 ≤ most) (brief : T.waits ≡ false) where
+  turn_by : (a : Moment) (m : Machine) (rest : List Machine) (e : Option Entry) → IsKnownAt T faults most a
       → IsDecided T.limits a.now.journal m T.plan (at a.now.minds m) (shown a.world m) e
       → Paced most T.plan (m ∷ rest) a.place.rounds a.place.begun a.now.journal a.now.minds
-      → IsPaced most T.plan (turned T [] m rest (shown a.world m) e a)
+      → IsPaced most T.plan (turned T faults m rest (shown a.world m) e a)
   turn_by a m rest None g decides h =
       let J = a.now.journal in let minds = a.now.minds in let s = at minds m in
       rw append-nil
       (turn_paced most T.plan m rest a.place.rounds a.place.begun J minds
       (mind_after J m T.plan s (shown a.world m) None)
-      (quickens T.limits J T.plan (at minds) a.world m most (in_time a g.long) g.booked g.calm g.room
-      decides) h)
+      (quickens faults T.limits J T.plan (at minds) a.world m most are few g.short g.booked decides g.tame g.room) h)
   turn_by a m rest (Some x) g decides h =
       booked_paced most T.plan (m ∷ rest) rest a.place.rounds a.place.begun a.now.journal x a.now.minds _ h
 
-  paced_next : (a : Moment) (x : Point) → is_ordinary x ≡ true → IsHealthyAt T ds a → MayGoOn T x a
+  paced_next : (a : Moment) (x : Point) → is_ordinary x ≡ true → IsKnownAt T faults most a → MayGoOn T x a
       → PacedAt most T.plan x a.place.rounds a.place.begun a.now.journal a.now.minds
-      → IsPaced most T.plan (next_at T [] x a)
+      → IsPaced most T.plan (next_at T faults x a)
   paced_next a Between o g may h = (refl, h)
   paced_next a (Noting n) o g may h =
       inr (record { same = h.0; steady = h.1; passed = λ m out. absurd (differ (sym (all_among m) ∙ out)) })
@@ -260,11 +250,11 @@ module _ (T : Terms) (ds : Durations) (most : ℕ)
       subst (λ (ls : List Line). IsPaced most T.plan
       (served a (next_of ls (record { limits = T.limits; entries = a.now.journal })))) (sym g.lines) h
   paced_next a (Turning (m ∷ rest)) o g (e, decides, allowed) h =
-      subst (λ (o : Option Entry). IsPaced most T.plan (turned T [] m rest (shown a.world m) o a))
+      subst (λ (o : Option Entry). IsPaced most T.plan (turned T faults m rest (shown a.world m) o a))
       (decided_is T.limits T.plan m (shown a.world m) a.now e decides) (turn_by a m rest e g decides h)
   paced_next a (Serving n) o g may h = h
   paced_next a Closing o g may h =
-      closed_paced most T.plan a.place.rounds a.place.begun a.now.journal a.now.minds two
+      closed_paced most T.plan a.place.rounds a.place.begun a.now.journal a.now.minds three
       (λ same. subst (λ (b : Bool). KeepsOn T.plan b a.now.journal a.now.minds) brief (may same)) h
   paced_next a (Noted n task) o g may h = cc o
   paced_next a (Wanted n wish) o g may h = cc o
@@ -290,22 +280,16 @@ module _ (T : Terms) (ds : Durations) (most : ℕ)
             omega (arith, none, same);
       }
 
-  pub paces : (k : Unkept) (t : Stand SimCell Unkept) → Allows T.plan ds
-      → HasRoom T.limits T.plan.plates → Leads AnswersSo AllKept T (start (opened T.plan ds) k [] [] None) t
-      → IsOrdinary [] t × IsPaced most T.plan (moment_of t)
-  paces k _ fair room stays = (starts_ordinary (opened T.plan ds) k [] [], starts_paced)
-  paces k u fair room (goes {t = t} before move) =
-      let was = paces k t fair room before in
-      let g = (stands_healthy T ds k t fair before).holds in
-      let f = move_follows T [] t u was.0 move in
-      let healthy : IsHealthyAt T ds (moment_of t) = record {
-        lines = g.0.0;
-        booked = g.0.1.0;
-        calm = g.2;
-        room = calm_room T.limits T.plan room t.now.journal g.2;
-        long = g.3;
-      } in (
+  pub paces : (ds : Durations) (k : Unkept)
+      → ((u : Stand SimCell Unkept) → Leads AnswersSo AllKept T (start (opened_with T.plan ds faults) k [] [] None) u
+      → IsKnownAt T faults most (moment_of u))
+      → (t : Stand SimCell Unkept) → Leads AnswersSo AllKept T (start (opened_with T.plan ds faults) k [] [] None) t
+      → IsOrdinary faults t × IsPaced most T.plan (moment_of t)
+  paces ds k known _ stays = (starts_ordinary (opened_with T.plan ds faults) k [] [], starts_paced)
+  paces ds k known u (goes {t = t} before move) =
+      let was = paces ds k known t before in
+      let f = move_follows T faults t u was.0 move in (
         f.ordinary,
         subst (IsPaced most T.plan) (sym f.is)
-            (paced_next (moment_of t) t.place.point was.0.point healthy f.may was.1),
+            (paced_next (moment_of t) t.place.point was.0.point (known t before) f.may was.1),
       )

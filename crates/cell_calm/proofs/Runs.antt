@@ -72,7 +72,7 @@ module _ (may : Machine → Bool) (l : BookLimits) (p : Plan)
       let h = run_leads l p script J e r in
       tame_led may l p (start script).now h.0 h.1 h.2 (now J h.3) refl h.4 tame
 
-  full_never : IsRun l p script J end.Full → ⊥
+  pub full_never : IsRun l p script J end.Full → ⊥
   full_never r =
       let last = r.ended.last in
       let a = rounds_led l p (start script) last r.ended.rounds r.ended.led in
@@ -101,6 +101,15 @@ module _ (may : Machine → Bool) (l : BookLimits) (p : Plan)
       within : (a b d e : ℕ) → a ≤ b → b ≡ d → d ≡ e → a ≤ e
       within a b d e h i j = omega arith
 
+  pub done_forged : IsRun l p script J end.Finished → AllForged p.plates J
+  done_forged r =
+      let c = run_tame end.Finished r in let done = r.ended.ends.1 in
+      record {
+        admitted = done.admitted;
+        forged = all_forged may l p.plates J c done;
+        delivered = (told_when_legal l J c.legal).delivered ∙ done_delivered may l p.plates J c done;
+      }
+
   -- where one press may fail at most
   module _ (one : IsOnePress may) where
     comes_to_end : (s : Place) → Tame may l p.plates J → ComesToRest l p s J
@@ -109,15 +118,7 @@ module _ (may : Machine → Bool) (l : BookLimits) (p : Plan)
 
     ends_done : IsRun l p script J end.Finished
         → (is_finished p.plates false (cell_of (after J)) ≡ true) × AllForged p.plates J
-    ends_done r =
-        let c = run_tame end.Finished r in let done = r.ended.ends.1 in (
-          comes_to_end r.ended.last c r.ended.ends.0,
-          record {
-            admitted = done.admitted;
-            forged = all_forged may l p.plates J c done;
-            delivered = (told_when_legal l J c.legal).delivered ∙ done_delivered may l p.plates J c done;
-          },
-        )
+    ends_done r = (comes_to_end r.ended.last (run_tame end.Finished r) r.ended.ends.0, done_forged r)
 
 module _ (l : BookLimits) (p : Plan) (room : HasRoom l p.plates)
     (script : List Line) (J : List Entry) (calm : is_calm J ≡ true) where

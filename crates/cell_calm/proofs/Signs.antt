@@ -1,4 +1,4 @@
--- Under its green light a belt's machine of a healthy cell that books nothing sees the first of a sign's two readings
+-- Under its green light a belt's machine that books nothing sees the first of a sign's two readings
 use Rattle.std.proofs.Common.{◌≡◌, ◌≤◌, ◌<◌, ◌+◌, ◌⊎◌, inl, inr, ℕ, Bool, true, false, ◌&&◌, ◌||◌, not, Option, Some}
 use Rattle.std.proofs.Common.{None, List, length, refl, sym, ap, ◌∙◌, subst, arith}
 use Rattle.std.specs.Prelude.{is_some, nat_le, nat_lt, min, ◌^◌, ◌-◌, if◌then◌else◌}
@@ -56,10 +56,8 @@ use Rattle.cell_world.proofs.Laying.{less_of}
 use Rattle.cell_world.proofs.Plates.{here_now, number_of}
 use Rattle.cell_world.proofs.Steps.{unless}
 use Rattle.cell_world.proofs.Turns.{Agreed, and_false, ruled_signed}
-use Rattle.cell_calm.specs.Calm.{none_may}
 use Rattle.cell_calm.proofs.Decided.{none_useful}
-use Rattle.cell_calm.proofs.Still.{Still}
-use Rattle.cell_calm.proofs.Tame.{Calm}
+use Rattle.cell_calm.proofs.Tame.{Tame}
 
 pub record IsShown (J : List Entry) (m : Machine) (s : Mind) (r : Option Reading) : Type 0 where
   pub before : s.memory.sign ≡ false
@@ -96,27 +94,27 @@ last : (a b c : Bool) → (a && (b && c)) ≡ true → c ≡ true
 last a b c h = grind arith
 
 -- the feed machine's: its belt is empty
-feed_wanted : (plan : ℕ) (s : Snapshot) → Still none_may plan s → s.lamp belt.Feed ≡ colour.Green
+feed_wanted : (plan : ℕ) (s : Snapshot) → s.failed machine.Feed ≡ false → s.lamp belt.Feed ≡ colour.Green
     → is_useful_now ample (cell_of s) plan machine.Feed (Lamp belt.Feed colour.Red) ≡ false
     → (s.plate station.FeedIn ≡ None) × (s.plate station.FeedEnd ≡ None)
 unfolding is_useful_now feed_light
-feed_wanted plan s still green h =
+feed_wanted plan s healthy green h =
     let c = cell_of s in
     let wanted = green_if _ (still_green (feed_light c plan) (is_bookable ample c (Lamp belt.Feed colour.Red))
-    (red_bookable s belt.Feed (still.healthy machine.Feed refl) green) h) in
+    (red_bookable s belt.Feed healthy green) h) in
     let both = third _ _ (not (is_some (s.plate station.FeedIn))) (not (is_some (s.plate station.FeedEnd))) _ wanted in
     (none_if (s.plate station.FeedIn) both.0, none_if (s.plate station.FeedEnd) both.1)
 
 -- the deposit machine's: a plate is at the end
-deposit_wanted : (plan : ℕ) (s : Snapshot) → Still none_may plan s → s.lamp belt.Deposit ≡ colour.Green
+deposit_wanted : (plan : ℕ) (s : Snapshot) → s.failed machine.Deposit ≡ false → s.lamp belt.Deposit ≡ colour.Green
     → is_useful_now ample (cell_of s) plan machine.Deposit (Lamp belt.Deposit colour.Red) ≡ false
     → is_some (s.plate station.DepEnd) ≡ true
 unfolding is_useful_now deposit_light
-deposit_wanted plan s still green h =
+deposit_wanted plan s healthy green h =
     let c = cell_of s in
     last _ _ (is_some (s.plate station.DepEnd))
     (green_if _ (still_green (deposit_light c) (is_bookable ample c (Lamp belt.Deposit colour.Red))
-    (red_bookable s belt.Deposit (still.healthy machine.Deposit refl) green) h))
+    (red_bookable s belt.Deposit healthy green) h))
 
 -- WHAT THE HANDS DO THEN
 
@@ -254,8 +252,8 @@ first_sign : (s : Mind) (b : Bool) → s.memory.sign ≡ b → (s.memory.sign �
 first_sign s true h none = absurd (none h)
 first_sign s false h none = h
 
-module _ (l : BookLimits) (J : List Entry) (p : Plan) (s : Mind) (w : Simulated) (c : Calm l p.plates J)
-    (st : StationsAsBooked J p w) (room : nat_le l.entries (length J) ≡ false) where
+module _ (may : Machine → Bool) (l : BookLimits) (J : List Entry) (p : Plan) (s : Mind) (w : Simulated)
+    (c : Tame may l p.plates J) (st : StationsAsBooked J p w) (room : nat_le l.entries (length J) ≡ false) where
   ruled_by : (m : Machine) → BeltAsBooked J p m s w → BeltRests J (way_of m) s.axis w → has_belt m ≡ true
       → Agreed J m s (shown w m) → IsDecided l J m p s (shown w m) None → shows_sign J m (shown w m) ≡ true
       → s.memory.sign ≡ true → IsRuled l J m p.plates (signed J m) None
@@ -278,8 +276,8 @@ module _ (l : BookLimits) (J : List Entry) (p : Plan) (s : Mind) (w : Simulated)
       let told = told_when_legal l J c.legal in
       let a = after J in
       let lamp : a.lamp belt.Feed ≡ colour.Green = sym (ap (λ (x : Situation). x.lamp belt.Feed) told.cell) ∙ green in
-      let free = feed_wanted p.plates a c.still lamp (none_useful none_may l p J c machine.Feed s
-      (shown w machine.Feed) (Lamp belt.Feed colour.Red) room decided) in
+      let free = feed_wanted p.plates a (sym (ap (λ (x : Situation). x.failed machine.Feed) told.cell) ∙ t.healthy)
+      lamp (none_useful may l p J c machine.Feed s (shown w machine.Feed) (Lamp belt.Feed colour.Red) room decided) in
       let few : admitted_in J < p.plates =
       less_of (admitted_in J) p.plates
       (ap (λ (x : Situation). nat_lt x.admitted p.plates) told.cell
@@ -305,8 +303,10 @@ module _ (l : BookLimits) (J : List Entry) (p : Plan) (s : Mind) (w : Simulated)
       let a = after J in
       let lamp : a.lamp belt.Deposit ≡ colour.Green =
       sym (ap (λ (x : Situation). x.lamp belt.Deposit) told.cell) ∙ green in
-      let full = deposit_wanted p.plates a c.still lamp (none_useful none_may l p J c machine.Deposit s
-      (shown w machine.Deposit) (Lamp belt.Deposit colour.Red) room decided) in
+      let full = deposit_wanted p.plates a
+      (sym (ap (λ (x : Situation). x.failed machine.Deposit) told.cell) ∙ t.healthy) lamp
+      (none_useful may l p J c machine.Deposit s (shown w machine.Deposit) (Lamp belt.Deposit colour.Red) room
+      decided) in
       let none = deposit_taken J w rests.plain (st.taking.light ∙ green) (has_plate w station.DepEnd) refl in
       let still = (rests_by_hand J to_deposit_end s.axis w rests).still in
       let now = ap (λ (r : Option Reading). shows_sign J machine.Deposit r) (shown_still to_deposit_end w still)

@@ -32,11 +32,11 @@ NoneDeclared =
 abbrev pub readings_of : Plan → Durations → Axis → Pose → ℕ
 readings_of p ds a to = further_in (opening_for p ds) a to + 3
 
--- the plan has rounds enough, where no motion takes more than so many readings: for each plate more than 76 times one
--- more than that
+-- the plan has rounds enough, where no motion takes more than so many readings: for each plate more than 76 times as
+-- many
 pub record HasTime (p : Plan) (ds : Durations) (most : ℕ) : Type 0 where
   pub readings : (a : Axis) (to : Pose) → readings_of p ds a to ≤ most
-  pub rounds : (most + 1) * (76 * p.plates) < p.turns
+  pub rounds : most * (76 * p.plates) < p.turns
 
 -- all plates of the plan are admitted, forged and delivered
 pub record AllForged (plates : ℕ) (J : List Entry) : Type 0 where
@@ -52,10 +52,10 @@ HealthyRunsFinish =
     → (e ≡ end.Finished) × AllForged p.plates J
 
 -- so it is with a run that is kept, whose motions take three readings each, where the journal has room for more than 76
--- entries a plate, and the plan has more than 304 rounds a plate
+-- entries a plate, and the plan has more than 228 rounds a plate
 abbrev pub Finishes : Kept → Type 0
 Finishes run =
-    76 * run.plan.plates < run.plan.journal_limit → 304 * run.plan.plates < run.plan.turns → run.end ≢ end.Memory
+    76 * run.plan.plates < run.plan.journal_limit → 228 * run.plan.plates < run.plan.turns → run.end ≢ end.Memory
     → (run.end ≡ end.Finished) × AllForged run.plan.plates run.entries
 
 -- and with the one of which `run_texts` writes in rounds, for texts with no fault and no line of the operator

@@ -18,7 +18,8 @@ ghost use Rattle.cell_useful.specs.Moves.{is_finished};
 ghost use Rattle.cell_progress.specs.Orders.{IsOnePress, IsPossible, cell_of};
 ghost use Rattle.cell_progress.specs.Rank.{most_failures};
 ghost use Rattle.cell_calm.specs.Calm.{HasRoom, HasRoomFor, HasRoomToFail, fails_only, is_calm, plain};
-ghost use Rattle.cell_calm.specs.Failing.{FailingRunsDeliver, WrittenFailingRunsDeliver};
+ghost use Rattle.cell_calm.specs.Failing.{FailingRunsDeliver, FailingRunsEnd, OnePressRunsEnd};
+ghost use Rattle.cell_calm.specs.Failing.{WrittenFailingRunsDeliver, WrittenFailingRunsEnd};
 ghost use Rattle.cell_calm.specs.Healthy.{AllForged, HealthyRunsFinish, NoneDeclared, WrittenRunsFinish};
 
 /// The journal of a calm run, whatever the machines' turns and whatever the readings and the operator, is an order of
@@ -131,4 +132,17 @@ pub fn failing_runs_deliver()
 /// other machine.
 pub fn written_failing_runs_deliver()
     ensures { WrittenFailingRunsDeliver }
+{}
+
+/// Whichever machines without a belt may fail by faults that last, a run of the simulated cell comes to rest before
+/// its rounds run out, if the limits have room, the plan has rounds enough, and memory isn't refused. Where it is one
+/// press, it ends finished with all plates delivered, or stalled with all delivered but one.
+pub fn failing_runs_end()
+    ensures any { FailingRunsEnd }
+    ensures one_press { OnePressRunsEnd }
+{}
+
+/// The same, for one press, of a run that `run_texts` writes.
+pub fn written_failing_runs_end()
+    ensures { WrittenFailingRunsEnd }
 {}
