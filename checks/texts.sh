@@ -152,6 +152,10 @@ endless_texts() {
     measure 'measures of a named file of bytes 0' 'unreadable 0' 1 8 1 measure /dev/zero
     measure 'measures of a journal without an end' 'refused 1000001 JournalFull' 1 16 10 measure <(cat first; yes $'claimed,robot,z3,\nyielded,robot,z3,')
     measure 'measures by times of bytes 0' 'times TooLong' 1 16 1 measure --times /dev/zero first
+    measure 'events of blank lines before a journal' 'entry,begin,end,actor,kind,axis,pose,zone,plate,station,caus' 0 8 20 events <(bytes $((50 * mega)) '\n'; cat first)
+    measure 'events of a named file of bytes 0' 'unreadable 0' 1 8 1 events /dev/zero
+    measure 'events of a journal without an end' 'refused 1000001 JournalFull' 1 16 10 events <(cat first; yes $'claimed,robot,z3,\nyielded,robot,z3,')
+    measure 'events by times of bytes 0' 'times TooLong' 1 16 1 events --times /dev/zero first
     for command in sim run; do
         measure "$command, settings of bytes 0" 'settings TooLong' 1 16 1 $command /dev/zero none none
         measure "$command, settings of yes" 'settings TooLong' 1 16 1 $command <(yes) none none
@@ -188,7 +192,7 @@ odd_names() {
 small_stack() {
     printf 'profile,1,,\n' > journal
     for words in 'audit' 'migrate' 'show' 'show --svg' 'show --svg --animate journal' 'show --html' 'explain' 'explain --settings good' 'measure journal' \
-        'check good' 'sim --explain good none none' 'run good none none'; do
+        'events journal' 'events --trace journal' 'events --vcd journal' 'check good' 'sim --explain good none none' 'run good none none'; do
         # The words of a command are parted at blanks.
         # shellcheck disable=SC2086
         (ulimit -S -s 512 && exec "$cellctl" $words < journal > said 2> told)
@@ -217,7 +221,8 @@ unwritten() {
 outputs_that_fail() {
     printf 'profile,1,,\n' > journal
     for words in 'audit' 'migrate' 'show' 'show --svg' 'show --html' 'explain' 'explain --settings good' '--help' '--version' 'check good' \
-        'audit journal' 'migrate journal' 'show --file journal' 'show --svg --animate journal' 'explain journal' 'measure journal' 'measure --csv journal' 'sim good none none' 'sim --explain good none none' \
+        'audit journal' 'migrate journal' 'show --file journal' 'show --svg --animate journal' 'explain journal' 'measure journal' 'measure --csv journal' 'events journal' 'events --trace journal' \
+        'events --vcd journal' 'sim good none none' 'sim --explain good none none' \
         'sim --journal good none none' 'sim --measures good none none' 'run good none none' 'run --journal good none none' 'run --measures good none none' \
         'drive good none none' 'drive --raw good none none' 'explore 1' 'explore --journal 1'; do
         # The words of a command are parted at blanks.
@@ -244,7 +249,7 @@ files_that_fail() {
     long=$(printf 'n%.0s' {1..300})
     escape=$'\e[31m\xc2\x9b'
     for words in 'audit' 'migrate' 'show --file' 'show 3 -f' 'show --html --file' 'show --svg --animate' 'explain' 'explain --settings' 'explain --faults' \
-        'explain --operator' 'measure' 'measure none' 'measure none --times' 'check' 'sim good none' 'run good none'; do
+        'explain --operator' 'measure' 'measure none' 'measure none --times' 'events' 'events none --times' 'check' 'sim good none' 'run good none'; do
         while read -r file reason; do
             # The words of a command are parted at blanks.
             # shellcheck disable=SC2086
@@ -331,6 +336,17 @@ lone_options() {
     done
 }
 
+# Flags of events that ask for several forms. Nothing is printed.
+several_forms() {
+    for words in '--csv --trace' '--csv --vcd' '--trace --vcd' '--csv --trace --vcd --times none'; do
+        # The words of a command are parted at blanks.
+        # shellcheck disable=SC2086
+        "$cellctl" events $words legal > said 2> told < /dev/null
+        ended "cellctl events $words" $? 2 'error: of --csv, --trace and --vcd one alone can be given'
+        [ ! -s said ] || differs "cellctl events $words" 'nothing on standard output'
+    done
+}
+
 # Words for the states of a page that ask for none, and why. Nothing is printed.
 wrong_windows() {
     local goes='error: --from and --count go with --html'
@@ -414,6 +430,7 @@ files_that_fail
 named_files
 words_back
 lone_options
+several_forms
 wrong_windows
 wrong_questions
 if [ ${#wrong[@]} = 0 ]; then

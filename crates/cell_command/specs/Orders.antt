@@ -8,6 +8,7 @@ use Rattle.cell_command.specs.declared.order.Controlling.{Controlling}
 use Rattle.cell_command.specs.declared.order.Driving.{Driving}
 use Rattle.cell_command.specs.declared.order.Explaining.{Explaining}
 use Rattle.cell_command.specs.declared.order.Exploring.{Exploring}
+use Rattle.cell_command.specs.declared.order.Listing.{Listing}
 use Rattle.cell_command.specs.declared.order.Measuring.{Measuring}
 use Rattle.cell_command.specs.declared.order.Paths.{Paths}
 use Rattle.cell_command.specs.declared.order.Running.{Running}
@@ -100,6 +101,14 @@ IsMeasured rows m = HasValue rows (codes "times") m.times
     × HasFlag rows (codes "csv") m.csv
     × HasValues rows (codes "journals") m.journals.items
 
+-- the file with the durations of motions, the flags of the three forms, and the journal
+abbrev pub IsListed : List Row → Listing → Type 0
+IsListed rows l = HasValue rows (codes "times") l.times
+    × HasFlag rows (codes "csv") l.csv
+    × HasFlag rows (codes "trace") l.trace
+    × HasFlag rows (codes "vcd") l.vcd
+    × HasPath rows (codes "journal") l.journal.now
+
 -- the kinds, the number of motions, the flags and the two files of a sweep
 abbrev pub IsSwept : List Row → Sweeping → Type 0
 IsSwept rows s = HasValue rows (codes "kinds") s.kinds
@@ -124,6 +133,7 @@ Fits name rows (order.Migrate file) = (name ≡ codes "migrate") × HasValue row
 Fits name rows (order.Show showing) = (name ≡ codes "show") × IsShown rows showing
 Fits name rows (order.Explain explaining) = (name ≡ codes "explain") × IsExplained rows explaining
 Fits name rows (order.Measure measuring) = (name ≡ codes "measure") × IsMeasured rows measuring
+Fits name rows (order.Events listing) = (name ≡ codes "events") × IsListed rows listing
 Fits name rows (order.Check path) = (name ≡ codes "check") × HasPath rows (codes "settings") path.now
 Fits name rows (order.Sim running) = (name ≡ codes "sim") × HasValue rows (codes "from") None
     × HasValue rows (codes "follow") None × HasFlag rows (codes "measures") false × IsRun rows running

@@ -93,6 +93,13 @@ unfoldable pub measure : App
 measure = with_rules (new_app (codes "measure"))
     (times_rule ∷ flag_rule (codes "csv") ∷ several_rule (codes "journals") ∷ [])
 
+-- the command that tells the entries of a journal: the option with the durations of motions, the flags of its three
+-- forms, and the journal
+unfoldable pub events : App
+events = with_rules (new_app (codes "events"))
+    (times_rule ∷ flag_rule (codes "csv") ∷ flag_rule (codes "trace") ∷ flag_rule (codes "vcd")
+    ∷ path_rule (codes "journal") ∷ [])
+
 -- a command with the flags of those that run the cell, and the option for durations
 unfoldable pub flagged : App → App
 flagged a = with_rules a (flag_rule (codes "journal") ∷ flag_rule (codes "explain") ∷ times_rule ∷ [])
@@ -148,7 +155,8 @@ run = filed (with_rule (flagged (new_app (codes "run"))) (flag_rule (codes "meas
 
 -- the program's commands, in the order of its help
 unfoldable pub commands : List App
-commands = audit ∷ migrate ∷ show ∷ explain ∷ measure ∷ check ∷ sim ∷ sweep ∷ explore ∷ drive ∷ control ∷ run ∷ []
+commands = audit ∷ migrate ∷ show ∷ explain ∷ measure ∷ events ∷ check ∷ sim ∷ sweep ∷ explore ∷ drive ∷ control ∷ run
+    ∷ []
 
 -- a program with a command more
 abbrev pub with_command : App → App → App

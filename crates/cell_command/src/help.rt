@@ -486,6 +486,48 @@ arguments, 3 a read or a write failed, 4 out of memory.",
     example: "Example: cellctl measure examples/whole.journal",
 };
 
+pub(crate) const EVENTS: CommandTexts = CommandTexts {
+    about: "Tell a journal's entries with times, for other programs",
+    help: "\
+Tells the entries of a legal journal, each with the times at which it begins
+and ends at the earliest and with its plate, in a form that other programs
+read. Times and durations are those of the command measure.
+
+Prints CSV, the names of the columns and a row for each entry:
+  entry        the entry's number, from 1
+  begin        when the motion started that it ends; else its end
+  end          when it ends at the earliest
+  actor        the machine that books it, or operator
+  kind         the first word of its record
+  axis, pose   of its motion; of an arm that grips or drops, the axis alone; of
+               a light its belt, and the colour
+  zone         the zone that is claimed or yielded
+  plate        the plate of which it tells
+  station      where that is, or the machine that is stopped or repaired
+  cause        why a machine is declared failed
+A field is blank where there is nothing to tell. With --trace it prints a trace
+in JSON, in Chrome's trace event format, and with --vcd a value change dump. Of
+the three flags one alone can be given.
+
+A journal that isn't legal is told as audit tells it, and durations that are
+refused as measure tells them.
+
+Exit status: 0 legal, 1 the journal or the durations are refused, 2 wrong
+arguments, 3 a read or a write failed, 4 out of memory.",
+    example: "Example: cellctl events --trace examples/whole.journal",
+};
+
+pub(crate) const EVENTS_USAGE: &str = "\
+cellctl events [--csv | --trace | --vcd] [--times FILE] <JOURNAL>";
+
+pub(crate) const ROWS_HELP: &str = "Print CSV, as without a flag";
+
+pub(crate) const TRACE_HELP: &str = "Print a trace in JSON, in Chrome's trace event format";
+
+pub(crate) const VCD_HELP: &str = "Print a value change dump, VCD";
+
+pub(crate) const LISTED_HELP: &str = "The file with the journal";
+
 pub(crate) const SWEEP: CommandTexts = CommandTexts {
     about: "Run the simulated cell once for each single fault",
     help: "\

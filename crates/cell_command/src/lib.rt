@@ -14,6 +14,6 @@ pub use count::{Count, read_count};
 pub use escaped::Escaped;
 pub use failure::{Resource, tell_failure};
 pub use order::{
-    Continuing, Controlling, Driving, Explaining, Exploring, Measuring, Order, Paths, Running,
-    Showing, Sweeping, read_words,
+    Continuing, Controlling, Driving, Explaining, Exploring, Listing, Measuring, Order, Paths,
+    Running, Showing, Sweeping, read_words,
 };

@@ -4,8 +4,8 @@ ghost use Rattle.clap.specs.Kinds.{FailsBy, HasKind};
 ghost use Rattle.clap.specs.Words.{fault_of, found_of, rows_of};
 ghost use Rattle.cell_command.specs.Shape.{cellctl};
 ghost use Rattle.cell_command.specs.Orders.{Fits, HasAnyValues, HasFlag, HasPath, HasPaths, HasValue, HasValues};
-ghost use Rattle.cell_command.specs.Orders.{IsControlled, IsDriven, IsExplained, IsExplored, IsMeasured, IsOrdered};
-ghost use Rattle.cell_command.specs.Orders.{IsRun, IsShown, IsSwept};
+ghost use Rattle.cell_command.specs.Orders.{IsControlled, IsDriven, IsExplained, IsExplored, IsListed, IsMeasured};
+ghost use Rattle.cell_command.specs.Orders.{IsOrdered, IsRun, IsShown, IsSwept};
 ghost use Rattle.cell_command.specs.Refusals.{refusals, wants_own_help};
 
 use crate::command::command;
@@ -100,6 +100,17 @@ pub struct Measuring<'a> {
     pub journals: Vec<&'a str>,
 }
 
+/// The journal whose entries are to be told, the file with the durations of motions, and the forms that are asked for:
+/// CSV, a trace, a value change dump. Without one it is CSV.
+#[derive(Clone, Copy, Debug, PartialEq, Eq)]
+pub struct Listing<'a> {
+    pub times: Option<&'a str>,
+    pub csv: bool,
+    pub trace: bool,
+    pub vcd: bool,
+    pub journal: &'a str,
+}
+
 /// What a sweep goes through: the kinds of faults and how many motions, as they are written, whether the operator
 /// serves failed machines, whether its runs are told in CSV, and where its files are.
 #[derive(Clone, Copy, Debug, PartialEq, Eq)]
@@ -137,6 +148,8 @@ pub enum Order<'a> {
     Explain(Explaining<'a>),
     /// Tell how long the entries of journals need at least.
     Measure(Measuring<'a>),
+    /// Tell the entries of a journal with their times and plates.
+    Events(Listing<'a>),
     /// Check the settings in the file of this path.
     Check(&'a str),
     /// Run the simulated cell on one thread.
@@ -299,6 +312,19 @@ fn measure_words<'a>(alloc: Global, matches: &ArgMatches<'a>) -> Option<Measurin
     })
 }
 
+// The journal whose entries are to be told, and in which form.
+fn events_words<'a>(matches: &ArgMatches<'a>) -> Option<Listing<'a>>
+    ensures { IfSome result (IsListed (rows_of (found_of matches.now))) }
+{
+    Some(Listing {
+        times: value(matches, "times"),
+        csv: flag(matches, "csv"),
+        trace: flag(matches, "trace"),
+        vcd: flag(matches, "vcd"),
+        journal: value(matches, "journal")?,
+    })
+}
+
 // The paths of a run.
 fn three_paths<'a>(matches: &ArgMatches<'a>) -> Option<Paths<'a>>
     ensures { IfSome result (HasPaths (rows_of (found_of matches.now))) }
@@ -360,6 +386,7 @@ fn order_of<'a>(alloc: Global, name: &str, matches: &ArgMatches<'a>) -> Option<O
         "show" => Some(Order::Show(show_words(matches))),
         "explain" => Some(Order::Explain(explain_words(matches))),
         "measure" => Some(Order::Measure(measure_words(alloc, matches)?)),
+        "events" => Some(Order::Events(events_words(matches)?)),
         "check" => Some(Order::Check(value(matches, "settings")?)),
         "sim" => sim_words(matches),
         "sweep" => Some(Order::Sweep(sweep_words(matches)?)),

@@ -1,12 +1,12 @@
 //! The program's commands and their arguments, in the order of its help.
 use crate::help::{
     AHEAD_HELP, ANIMATE_HELP, AUDIT, BESIDE_HELP, CHECK, CONTROL, CONTROL_USAGE, COUNT_HELP,
-    CSV_HELP, CommandTexts, DRIVE, ENTRY_HELP, EXPLAIN, EXPLAIN_USAGE, EXPLORE, FAULTS_HELP,
-    FILE_HELP, FOLLOW_HELP, FROM_HELP, HTML_HELP, JOURNAL_HELP, KINDS_HELP, LEAST_HELP, LIMIT_HELP,
-    MEASURE, MEASURES_HELP, MIGRATE, MOTIONS_HELP, OPERATOR_HELP, PLATES_HELP, RAW_HELP,
-    REPAIR_HELP, RESUME_HELP, RUN, RUNS_HELP, SERVICE_HELP, SETTINGS_HELP, SHOW, SHOW_USAGE, SIM,
-    STATES_HELP, SVG_HELP, SWEEP, SYNC_HELP, TIMES_HELP, UNICODE_HELP, WAIT_HELP, WAY_HELP,
-    WHY_HELP,
+    CSV_HELP, CommandTexts, DRIVE, ENTRY_HELP, EVENTS, EVENTS_USAGE, EXPLAIN, EXPLAIN_USAGE,
+    EXPLORE, FAULTS_HELP, FILE_HELP, FOLLOW_HELP, FROM_HELP, HTML_HELP, JOURNAL_HELP, KINDS_HELP,
+    LEAST_HELP, LIMIT_HELP, LISTED_HELP, MEASURE, MEASURES_HELP, MIGRATE, MOTIONS_HELP,
+    OPERATOR_HELP, PLATES_HELP, RAW_HELP, REPAIR_HELP, RESUME_HELP, ROWS_HELP, RUN, RUNS_HELP,
+    SERVICE_HELP, SETTINGS_HELP, SHOW, SHOW_USAGE, SIM, STATES_HELP, SVG_HELP, SWEEP, SYNC_HELP,
+    TIMES_HELP, TRACE_HELP, UNICODE_HELP, VCD_HELP, WAIT_HELP, WAY_HELP, WHY_HELP,
 };
 
 /// An argument of a command: its id, the name of its value, if it takes one, and its help.
@@ -57,7 +57,7 @@ const FAULTS: Argument = Argument::Path("faults", "FAULTS", FAULTS_HELP);
 const OPERATOR: Argument = Argument::Path("operator", "OPERATOR", OPERATOR_HELP);
 
 /// The program's commands, in the order of its help.
-pub(crate) const COMMANDS: [CommandWords; 12] = [
+pub(crate) const COMMANDS: [CommandWords; 13] = [
     CommandWords {
         name: "audit",
         texts: AUDIT,
@@ -103,6 +103,18 @@ pub(crate) const COMMANDS: [CommandWords; 12] = [
         texts: MEASURE,
         usage: None,
         arguments: &[TIMES, Argument::Flag("csv", CSV_HELP), Argument::Journals],
+    },
+    CommandWords {
+        name: "events",
+        texts: EVENTS,
+        usage: Some(EVENTS_USAGE),
+        arguments: &[
+            TIMES,
+            Argument::Flag("csv", ROWS_HELP),
+            Argument::Flag("trace", TRACE_HELP),
+            Argument::Flag("vcd", VCD_HELP),
+            Argument::Path("journal", "JOURNAL", LISTED_HELP),
+        ],
     },
     CommandWords {
         name: "check",

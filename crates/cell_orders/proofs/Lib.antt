@@ -4,3 +4,4 @@ mod Showing
 pub mod Measuring
 pub mod Counted
 pub mod Known
+mod Listing

@@ -2,6 +2,7 @@ pub mod Asked
 pub mod Commands
 pub mod Explains
 pub mod Explores
+pub mod Listed
 pub mod Measured
 pub mod Shows
 pub mod Texts

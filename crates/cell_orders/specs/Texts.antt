@@ -6,6 +6,9 @@ use Rattle.cell_audit.specs.Migrated.{rows_in}
 use Rattle.cell_output.specs.Watched.{WritesPart}
 use Rattle.cell_output.specs.declared.watched.WriteFault.{WriteFault}
 use Rattle.cell_audit.specs.Lines.{TellsAudit, TellsMigration, StopsMigration, TellsPart as PartOfAudit}
+use Rattle.cell_measures.specs.Times.{duration}
+use Rattle.cell_measures.specs.declared.durations.Durations.{Durations}
+use Rattle.cell_measures.specs.declared.motion.Move.{Move}
 use Rattle.cell_settings.specs.Checked.{TellsCheck, TellsPart as PartOfCheck}
 
 -- what holds of the text that is read: that of the file that is named, which may be any, or else that of the input
@@ -22,6 +25,11 @@ IsWrong old new old_errors new_errors status = (status ≡ 2) × (new ≡ old) �
 abbrev pub IsGiven : Option (Bor (List ℕ)) → Type 0
 IsGiven None = ⊥
 IsGiven (Some path) = ⊤
+
+-- where no file is named each motion takes one unit of time
+abbrev pub AreTimes : Option (Bor (List ℕ)) → Durations → Type 0
+AreTimes None durations = (motion : Move) → duration durations motion ≡ 1
+AreTimes (Some path) durations = ⊤
 
 -- why durations are refused is told in a line
 abbrev pub TellsTimes : Option (List ℕ) → Option (List ℕ) → Result ℕ WriteFault → Type 0

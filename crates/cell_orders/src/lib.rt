@@ -1,10 +1,11 @@
 //! What is done for an order of the command line that runs no cell: the audit, the migration, the pictures, the
-//! explanations and the measures of a journal, the check of a run's settings, and the search through every order of
-//! events. Files are read here as far as they decide, and what can't be read is told by the name of its file.
+//! explanations, the measures and the events of a journal, the check of a run's settings, and the search through every
+//! order of events. Files are read here as far as they decide, and what can't be read is told by the name of its file.
 #![tactic(auto)]
 
 mod asked;
 mod error;
+mod events;
 mod explain;
 mod explore;
 mod failure;
@@ -18,6 +19,7 @@ mod times;
 mod windows;
 
 pub use error::CommandError;
+pub use events::events_words;
 pub use explain::{Text, explain_words};
 pub use explore::explore_words;
 pub use failure::Failure;

@@ -1,6 +1,8 @@
 //! The texts of the commands, which are read as far as they decide.
-ghost use Rattle.std.specs.Prelude.{◌≡◌, ◌⊎◌, ℕ, List, Ok, Some, IfErr, IfOk, IfSome};
+ghost use Rattle.std.specs.Prelude.{◌≡◌, ◌⊎◌, ℕ, List, Ok, Some, IfErr, IfOk, IfSome, true};
 ghost use Rattle.cell_explain.specs.Explained.{EndsAsAudit, EndsAsFaults, EndsAsScript};
+ghost use Rattle.cell_rules.specs.Legal.{legal};
+ghost use Rattle.cell_audit.specs.Judged.{audit_limits};
 ghost use Rattle.cell_audit.specs.Reading.{IsBefore, IsSomeReading};
 ghost use Rattle.cell_output.specs.Watched.{bytes_held};
 ghost use Rattle.cell_orders.specs.Commands.{IfTold, NamesFile, outcome_of};
@@ -130,6 +132,7 @@ pub(crate) fn ended_in<'a>(
 // The journal of a reader, in a book as far as it is judged. Where the reader fails or memory was refused, that is an
 // error.
 fn booked<R: TellsFault + Drop>(alloc: Global, reader: R) -> io::Result<Audited>
+    ensures legal { IfOk result (λ read. legal audit_limits read.book.entries ≡ true) }
     ensures some { IfOk result (λ read. IsSomeReading read.answer read.book.entries) }
     ensures before { IfOk result (λ read. IsBefore read.answer read.book.entries) }
 {
@@ -144,7 +147,9 @@ fn booked<R: TellsFault + Drop>(alloc: Global, reader: R) -> io::Result<Audited>
 
 /// The journal in a file, in a book as far as it is judged. No text of it is kept. An error names that file.
 pub fn book_in<'a, R: AllocGlobal + Files>(rt: &R, path: &'a str) -> Result<Audited, Failure<'a>>
-    // There is a text for which the answer is due, and of which these are the first entries.
+    // The entries are those of a legal journal. There is a text for which the answer is due, and of which these are the
+    // first entries.
+    ensures legal { IfOk result (λ read. legal audit_limits read.book.entries ≡ true) }
     ensures some { IfOk result (λ read. IsSomeReading read.answer read.book.entries) }
     ensures before { IfOk result (λ read. IsBefore read.answer read.book.entries) }
     ensures named { IfErr result (λ failure. failure.file ≡ Some path.entry) }

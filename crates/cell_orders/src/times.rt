@@ -1,7 +1,7 @@
 //! The durations of motions in a file.
 ghost use Rattle.std.specs.Prelude.{IfErr, IfOk};
 ghost use Rattle.cell_output.specs.Watched.{bytes_held};
-ghost use Rattle.cell_orders.specs.Texts.{IsGiven, TellsTimes};
+ghost use Rattle.cell_orders.specs.Texts.{AreTimes, IsGiven, TellsTimes};
 
 use crate::failure::Failure;
 use crate::texts::settings_in;
@@ -28,7 +28,8 @@ pub fn durations_in<'a, R: AllocGlobal + Files>(
     rt: &R,
     path: Option<&'a str>,
 ) -> Result<Result<Durations, String>, Failure<'a>>
-    ensures { IfOk result (λ read. IfErr read (λ _. IsGiven path.entry)) }
+    ensures given { IfOk result (λ read. IfErr read (λ _. IsGiven path.entry)) }
+    ensures times { IfOk result (λ read. IfOk read (AreTimes path.entry)) }
 {
     let Some(path) = path else {
         return Ok(Ok(Durations::ONE));

@@ -25,6 +25,7 @@ use Rattle.cell_runs.specs.declared.texts.Mode.{Mode}
 use Rattle.cell_runs.specs.declared.texts.Mode.TheVariants as modes
 use Rattle.cell_runs.specs.RunsFrom.{TellsPartFrom, TellsRunFrom}
 use Rattle.cell_runs.specs.Told.{AreEntries, PartOfRefused, TellsFollowed, TellsPartFollowed, TellsRefused}
+use Rattle.cell_orders.specs.Listed.{ListsWords}
 use Rattle.cell_orders.specs.Measured.{MeasuresJournals}
 use Rattle.cellctl.specs.Swept.{AreKinds, AreMotions, HasNoKind, IsNoCount}
 use Rattle.cell_orders.specs.Texts.{Audits, ChecksSettings, IsGiven, IsWrong, MigratesText, OfText}
@@ -185,6 +186,8 @@ CarriesOut (order.Explain explaining) input old new old_errors new_errors writte
     IfOk written (Explains explaining input old new old_errors new_errors)
 CarriesOut (order.Measure measuring) input old new old_errors new_errors written =
     IfOk written (MeasuresJournals measuring)
+CarriesOut (order.Events listing) input old new old_errors new_errors written =
+    ListsWords listing old new old_errors new_errors written
 CarriesOut (order.Check path) input old new old_errors new_errors written =
     ChecksSettings old new written × (new_errors ≡ old_errors)
 CarriesOut (order.Sim running) input old new old_errors new_errors written =

@@ -17,8 +17,9 @@ use cell_command::{Order, Running};
 use cell_drive::run_measured;
 use cell_measures::Durations;
 use cell_orders::{
-    CommandError, audit_file, book_in, check_file, durations_in, explain_words, explore_words,
-    measure_words, migrate_file, script_in, settings_in, show_words, tell_times, tell_too_long,
+    CommandError, audit_file, book_in, check_file, durations_in, events_words, explain_words,
+    explore_words, measure_words, migrate_file, script_in, settings_in, show_words, tell_times,
+    tell_too_long,
 };
 use cell_output::{WatchedWriter, WriteFault};
 use cell_rows::TellsFault;
@@ -339,6 +340,7 @@ pub(crate) fn carry_out<
         Order::Measure(measuring) => {
             without_ending(measure_words(rt, output, errors, &measuring))
         }
+        Order::Events(listing) => without_ending(events_words(rt, output, errors, listing)),
         Order::Check(path) => without_ending(check_file(rt, output, path)),
         Order::Sim(running) => run_files(rt, output, Mode::Rounds, running),
         Order::SimMeasured(running) => measure_files(rt, output, Mode::Rounds, running),

@@ -1,4 +1,6 @@
-//! The tests of `cell_orders`' reading: what is read of a text, and that this decides as the whole text does.
+//! The tests of `cell_orders`: what is read of a text, that this decides as the whole text does, and what is told of a
+//! journal's entries with times.
+mod events;
 mod journals;
 mod scripts;
 mod settings;

@@ -1,6 +1,6 @@
 //! Journals that are written, audited, migrated, and read for more than their audit.
 use crate::sample::{PLAIN, PROFILE_1, QUOTED, ROOM, check_written, clearing, is_wanted};
-use cell_audit::{AuditError, Audited, MigrateError, WriteError};
+use cell_audit::{AuditError, Audited, MigrateError};
 use cell_output::WatchedWriter;
 use cell_rows::RowReader;
 use cell_types::Totals;
@@ -8,25 +8,7 @@ use plate_book::Book;
 use std::alloc::{AllocError, Global};
 use std::process::Abort;
 use std::test::Fail;
-use test_samples::{begun, call_begins, call_ends, one_plate_text};
-
-#[test]
-fn write_journal(rt: HostRuntime) -> Result<(), Fail> {
-    let alloc = rt.alloc();
-    let book = begun(alloc, 100, 10, 62).expect(&rt, "a book");
-    let due = one_plate_text(alloc, 2)?;
-    let mut written = Vec::with_capacity(alloc, ROOM)?;
-    call_begins(alloc);
-    let answer = cell_audit::write_journal(alloc, book.journal(), &mut written);
-    call_ends(alloc, answer.is_err());
-    let (written, due) = (written.as_slice(), due.as_slice());
-    let is_right = match answer {
-        Ok(()) => written == due,
-        Err(why) => why == WriteError::OutOfMemory && due.starts_with(written),
-    };
-    assert!(rt; is_right);
-    Ok(())
-}
+use test_samples::{begun, call_begins, call_ends};
 
 // Audits the text of a journal with this last record.
 fn check_audit<R: AllocGlobal + Abort>(rt: &R, last: &[u8]) -> Result<(), Fail> {

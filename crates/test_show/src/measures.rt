@@ -1,7 +1,7 @@
 //! The tests of `cell_measures`: measures computed by hand, journals whose independent entries are exchanged, tables,
 //! lines of CSV, and files of times.
 mod one_plate;
-mod samples;
+pub(crate) mod samples;
 mod shuffled;
 mod tables;
 mod times_files;

@@ -17,7 +17,7 @@ const ORDERS: [&str; 7] = [
     "cellctl check settings.toml|Check(\"settings.toml\")",
 ];
 
-const REFUSED: [&str; 44] = [
+const REFUSED: [&str; 47] = [
     "cellctl brew|InvalidSubcommand",
     "cellctl run|MissingRequiredArgument",
     "cellctl sim|MissingRequiredArgument",
@@ -45,6 +45,9 @@ const REFUSED: [&str; 44] = [
     "cellctl measure|MissingRequiredArgument",
     "cellctl measure a --times|InvalidValue",
     "cellctl measure --times a --times b c|ArgumentConflict",
+    "cellctl events|MissingRequiredArgument",
+    "cellctl events a b|UnknownArgument",
+    "cellctl events --vcd --vcd a|ArgumentConflict",
     "cellctl explore|MissingRequiredArgument",
     "cellctl explore 1 2|UnknownArgument",
     "cellctl explore 1 --fail|InvalidValue",
@@ -173,6 +176,16 @@ const MEASURED: [&str; 4] = [
         Measure(Measuring { times: Some(\"c.toml\"), csv: false, journals: [\"--csv\"] })",
 ];
 
+const LISTED: [&str; 4] = [
+    "cellctl events a|Events(Listing { times: None, csv: false, trace: false, vcd: false, journal: \"a\" })",
+    "cellctl events --csv a --times b.toml|\
+        Events(Listing { times: Some(\"b.toml\"), csv: true, trace: false, vcd: false, journal: \"a\" })",
+    "cellctl events --vcd --trace a|\
+        Events(Listing { times: None, csv: false, trace: true, vcd: true, journal: \"a\" })",
+    "cellctl events --times=b.toml --vcd -- --csv|\
+        Events(Listing { times: Some(\"b.toml\"), csv: false, trace: false, vcd: true, journal: \"--csv\" })",
+];
+
 const EXPLORED: [&str; 4] = [
     "cellctl explore 1|Explore(Exploring { failing: [], repairs: false, limit: None, journal: false, plates: \"1\" })",
     "cellctl explore --fail press2 --repair --limit 100 --journal 2 --fail=robot|\
@@ -215,6 +228,7 @@ fn reads_the_words_of_the_command_line(rt: HostRuntime) -> Result<(), Fail> {
         &SHOWN,
         &EXPLAINED,
         &MEASURED,
+        &LISTED,
         &EXPLORED,
     ] {
         for case in cases {
@@ -225,9 +239,9 @@ fn reads_the_words_of_the_command_line(rt: HostRuntime) -> Result<(), Fail> {
 }
 
 // The commands that the help lists.
-const COMMANDS: [&str; 11] = [
-    "audit", "migrate", "show", "explain", "measure", "check", "sim", "sweep", "explore", "drive",
-    "run",
+const COMMANDS: [&str; 13] = [
+    "audit", "migrate", "show", "explain", "measure", "events", "check", "sim", "sweep", "explore",
+    "drive", "control", "run",
 ];
 
 // The first word of a line.

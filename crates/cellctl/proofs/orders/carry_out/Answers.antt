@@ -22,3 +22,6 @@ pub returns-in-Measure : goal.returns-in-Measure
 returns-in-Measure g c =
     rw c.in-Measure.is
     (rw c.without_ending-in-Measure.ensures (told-ok c.measure_words.result _ c.measure_words.ensures))
+
+pub returns-in-Events : goal.returns-in-Events
+returns-in-Events g c = rw c.in-Events.is (rw c.without_ending-in-Events.ensures c.events_words.ensures)

@@ -1,0 +1,4 @@
+pub mod Places
+pub mod Events
+pub mod Pasts
+pub mod Rows
