@@ -189,6 +189,13 @@ impl<R: Run> Hall<R> {
         }
     }
 
+    /// Whether someone is marked as idle whose port isn't lost, and so may wait.
+    pub fn is_anyone_idle(&self) -> bool
+        ensures { result ≡ false → self.now.idle ≡ self.now.lost }
+    {
+        self.idle != self.lost
+    }
+
     /// Books an entry of the operator. Where it is booked, only those are idle whose ports are lost.
     pub fn book(&mut self, shares: &mut Shares<R>, entry: Entry) -> Result<(), Refusal>
         requires { actor_of entry ≡ actors.Operator }

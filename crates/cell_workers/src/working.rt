@@ -78,6 +78,7 @@ fn locked_turn<R: Run, W: Wait>(
         × (worker.new.shares ≡ worker.old.shares) × (worker.new.watch ≡ worker.old.watch)) }
 {
     let mut hall = room.hall.lock(rt);
+    let is_anyone_idle = hall.is_anyone_idle();
     let served = hall.serve(machine, worker, reading, plan);
     match served {
         Ok((None, true)) => {
@@ -89,7 +90,8 @@ fn locked_turn<R: Run, W: Wait>(
         }
         Ok((booked, _)) => {
             drop(hall);
-            if booked.is_some() {
+            // Whoever waits is marked as idle, until an entry is booked.
+            if is_anyone_idle && booked.is_some() {
                 room.moved.notify_all();
             }
             Ok(booked)
