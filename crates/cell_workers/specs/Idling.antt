@@ -1,6 +1,6 @@
 -- Who of the seven workers is idle, and how a run ends once all are
-use Rattle.std.specs.Prelude.{◌≡◌, ℕ, Bool, true, false, Option, Some, None, List, slice_set}
-use Rattle.std.specs.List.{list_all}
+use Rattle.std.specs.Prelude.{◌≡◌, ◌&&◌, ℕ, Bool, true, false, not, Option, Some, None, List, slice_set}
+use Rattle.std.specs.List.{list_all, list_any, zip}
 use Rattle.cell_types.specs.declared.words.Entry.{Entry}
 use Rattle.cell_types.specs.declared.words.Machine.{Machine}
 use Rattle.cell_types.specs.Same.{machine_number}
@@ -13,6 +13,10 @@ use Rattle.cell_workers.specs.Ends.{IsDone}
 -- all are marked as idle
 abbrev pub are_all_idle : List Bool → Bool
 are_all_idle idle = list_all (λ b. b) idle
+
+-- one is marked as idle whose port isn't lost
+abbrev pub is_anyone_idle : List Bool → List Bool → Bool
+is_anyone_idle idle lost = list_any (λ p. p.0 && not p.1) (zip idle lost)
 
 -- the marks after a machine's turn: where it booked an entry only those are idle whose ports are lost, and else its own
 -- mark alone is set anew

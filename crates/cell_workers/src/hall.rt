@@ -11,7 +11,7 @@ ghost use Rattle.cell_ledger.specs.Counts.{plus, count_one};
 ghost use Rattle.cell_ledger.specs.Held.{held};
 ghost use Rattle.cell_turns.specs.Minds.{Mind, FitsMind, machine_of_watch};
 ghost use Rattle.cell_workers.specs.Ends.{is_idle};
-ghost use Rattle.cell_workers.specs.Idling.{are_all_idle, idle_after, EndsWhere, end_by};
+ghost use Rattle.cell_workers.specs.Idling.{are_all_idle, idle_after, is_anyone_idle, EndsWhere, end_by};
 ghost use Rattle.cell_workers.specs.Standing.{all_called_for};
 ghost use Rattle.cell_workers.specs.Working.{Served, Stands, IsFullFor};
 
@@ -191,9 +191,12 @@ impl<R: Run> Hall<R> {
 
     /// Whether someone is marked as idle whose port isn't lost, and so may wait.
     pub fn is_anyone_idle(&self) -> bool
-        ensures { result ≡ false → self.now.idle ≡ self.now.lost }
+        ensures { result ≡ is_anyone_idle self.now.idle self.now.lost }
     {
-        self.idle != self.lost
+        self.idle
+            .iter()
+            .zip(self.lost.iter())
+            .any(|(idle, lost)| *idle && !*lost)
     }
 
     /// Books an entry of the operator. Where it is booked, only those are idle whose ports are lost.
