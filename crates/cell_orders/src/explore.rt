@@ -8,15 +8,15 @@ use crate::error::CommandError;
 use crate::mistaken::wrong;
 use crate::texts::told;
 use cell_command::{Escaped, Exploring};
-use cell_explore::{MOST_PLATES, ProgressLine, Question, explore_lines};
+use cell_explore::{Asked, MOST_PLATES, ProgressLine, Question, explore_lines};
 use cell_output::WatchedWriter;
-use std::alloc::Global;
 use std::io::Write;
+use std::thread::Threads;
 
 /// Looks at every order of events that the words of the command line ask for. With `progress` the errors tell how many
 /// states were looked at.
-pub fn explore_words<'a, W: Write, E: Write>(
-    alloc: Global,
+pub fn explore_words<'a, R: AllocGlobal + Threads + Sync, W: Write, E: Write>(
+    rt: &R,
     output: &mut WatchedWriter<'_, W>,
     errors: &mut E,
     exploring: &Exploring<'a>,
@@ -35,7 +35,7 @@ pub fn explore_words<'a, W: Write, E: Write>(
     let failing = exploring.failing.as_slice();
     if let Some(word) = stranger(failing) {
         let word = Escaped(word);
-        let why = format!(in alloc;
+        let why = format!(in rt.alloc();
             "MACHINE is feed, table, robot, press1, press2 or deposit, and not '{word}'"
         )?;
         return Ok(wrong(errors, why.as_str())?);
@@ -45,13 +45,12 @@ pub fn explore_words<'a, W: Write, E: Write>(
         may_fail: named(failing),
         repairs: exploring.repairs,
     };
-    let mut line = ProgressLine::new(errors, progress);
-    told(explore_lines(
-        alloc,
-        &question,
+    let asked = Asked {
+        question,
         limit,
-        exploring.journal,
-        output,
-        &mut line,
-    ))
+        journal: exploring.journal,
+        threads: 1,
+    };
+    let mut line = ProgressLine::new(errors, progress);
+    told(explore_lines(rt, &asked, output, &mut line))
 }

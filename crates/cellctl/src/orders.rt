@@ -350,7 +350,7 @@ pub(crate) fn carry_out<
             without_ending(sweep_words(rt, output, errors, sweeping, progress))
         }
         Order::Explore(exploring) => {
-            without_ending(explore_words(rt.alloc(), output, errors, &exploring, progress))
+            without_ending(explore_words(rt, output, errors, &exploring, progress))
         }
         Order::Drive(driving) => without_ending(drive_files(rt, input, output, errors, driving)),
         Order::Control(controlling) => {

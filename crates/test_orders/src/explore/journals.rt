@@ -1,9 +1,10 @@
 //! The journals that are told.
 use cell_explore::breadth::{NoProgress, Progress};
-use cell_explore::{ProgressLine, Question, explore_lines, journal_to, nearest_end, search};
+use cell_explore::{Asked, ProgressLine, Question, explore_lines, journal_to, nearest_end, search};
 use cell_output::WatchedWriter;
 use std::alloc::Global;
 use std::process::Abort;
+use std::thread::Threads;
 
 const ONE_PLATE: Question = Question {
     plan: 1,
@@ -19,7 +20,7 @@ const ROBOT_FAILS: Question = Question {
 
 #[test]
 fn tells_a_journal_to_the_end(rt: HostRuntime) {
-    let Ok(found) = search(rt.alloc(), &ONE_PLATE, 10_000, &mut NoProgress) else {
+    let Ok(found) = search(&rt, &ONE_PLATE, 10_000, 1, &mut NoProgress) else {
         panic!(rt; "there is memory");
     };
     let Ok(Some(last)) = nearest_end(rt.alloc(), &ONE_PLATE, &found) else {
@@ -37,7 +38,7 @@ fn tells_a_journal_to_the_end(rt: HostRuntime) {
 
 #[test]
 fn tells_a_journal_to_a_stuck_state(rt: HostRuntime) {
-    let Ok(found) = search(rt.alloc(), &ROBOT_FAILS, 10_000, &mut NoProgress) else {
+    let Ok(found) = search(&rt, &ROBOT_FAILS, 10_000, 1, &mut NoProgress) else {
         panic!(rt; "there is memory");
     };
     let Ok(Some(stuck)) = nearest_end(rt.alloc(), &ROBOT_FAILS, &found) else {
@@ -55,11 +56,15 @@ fn prints_the_counts(rt: HostRuntime) {
     let mut text = Vec::new(rt.alloc());
     let mut errors = Vec::new(rt.alloc());
     let mut progress = ProgressLine::new(&mut errors, true);
+    let asked = Asked {
+        question: ONE_PLATE,
+        limit: 10_000,
+        journal: false,
+        threads: 4,
+    };
     let Ok(status) = explore_lines(
-        rt.alloc(),
-        &ONE_PLATE,
-        10_000,
-        false,
+        &rt,
+        &asked,
         &mut WatchedWriter::new(&mut text),
         &mut progress,
     ) else {
@@ -70,13 +75,18 @@ fn prints_the_counts(rt: HostRuntime) {
 }
 
 // With a limit that is too low it's told that there are more states, with status 1.
-fn check_more(rt: &impl Abort, alloc: Global, limit: u32, wanted: &[u8]) {
-    let mut text = Vec::new(alloc);
-    let mut errors = Vec::new(alloc);
+fn check_more<R: AllocGlobal + Abort + Threads + Sync>(rt: &R, limit: u32, wanted: &[u8]) {
+    let mut text = Vec::new(rt.alloc());
+    let mut errors = Vec::new(rt.alloc());
+    let asked = Asked {
+        question: ONE_PLATE,
+        limit,
+        journal: true,
+        threads: 1,
+    };
     let mut progress = ProgressLine::new(&mut errors, false);
     let mut writer = WatchedWriter::new(&mut text);
-    let Ok(status) = explore_lines(alloc, &ONE_PLATE, limit, true, &mut writer, &mut progress)
-    else {
+    let Ok(status) = explore_lines(rt, &asked, &mut writer, &mut progress) else {
         panic!(rt; "a list takes all");
     };
     assert!(rt; status == 1 && text.as_slice() == wanted, "{status}");
@@ -84,9 +94,9 @@ fn check_more(rt: &impl Abort, alloc: Global, limit: u32, wanted: &[u8]) {
 
 #[test]
 fn prints_that_there_are_more(rt: HostRuntime) {
-    check_more(&rt, rt.alloc(), 100, b"more than 100 states\n".as_slice());
-    check_more(&rt, rt.alloc(), 1, b"more than 1 state\n".as_slice());
-    check_more(&rt, rt.alloc(), 0, b"more than 0 states\n".as_slice());
+    check_more(&rt, 100, b"more than 100 states\n".as_slice());
+    check_more(&rt, 1, b"more than 1 state\n".as_slice());
+    check_more(&rt, 0, b"more than 0 states\n".as_slice());
 }
 
 // What is on the errors after 20,000 of 30,000 states, and then after the line was taken away.
