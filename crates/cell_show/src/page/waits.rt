@@ -10,6 +10,7 @@ use cell_sentences::EntrySentence;
 use cell_types::same::is_entry;
 use cell_types::{MAX_ENTRIES, MAX_PLATES, Machine};
 use cell_waits::{Past, Waiting, waits_for};
+use line_writer::write_line;
 use plate_book::{Book, BookLimits, Refusal};
 use std::fmt;
 use std::io::Write;
@@ -144,7 +145,8 @@ fn write_list<W: Write>(writer: &mut W, before: &Waits, now: &Waits) -> Result<(
     ensures fault { result ≡ Err PageError.TooManyEntries → ⊥ }
     ensures list { OnOk result (WritesNext (W.contents writer.old) (W.contents writer.new) before.now now.now) }
 {
-    write!(writer, "[{}]", AllNext(&all_next(before, now)))?;
+    let next = all_next(before, now);
+    write_line(writer, format_args!("[{}]", AllNext(&next)))?;
     Ok(())
 }
 

@@ -23,6 +23,7 @@ use cell_journal::Snapshot;
 use cell_picture::{AnswerLine, facts_left, step_on};
 use cell_sentences::EntrySentence;
 use cell_types::Entry;
+use line_writer::write_line;
 use plate_book::Book;
 use std::fmt;
 use std::io::Write;
@@ -76,10 +77,11 @@ fn write_rows<W: Write>(writer: &mut W, book: &Book, window: Window) -> Result<(
     let from = window.from;
     let until = window.end(book.journal().len());
     let (mut snapshot, _) = book.state_at(from);
-    write!(writer, "{}", row_left(book, &snapshot, from))?;
+    write_line(writer, row_left(book, &snapshot, from))?;
     for taken in from..until {
         step_on(book, &mut snapshot, taken);
-        write!(writer, ",\n{}", row_left(book, &snapshot, taken + 1))?;
+        let row = row_left(book, &snapshot, taken + 1);
+        write_line(writer, format_args!(",\n{row}"))?;
     }
     Ok(())
 }

@@ -10,7 +10,7 @@ use Rattle.cell_show.proofs.page.whole.write_rows.Goals as goal
 pub loop-taken-init : goal.loop-taken-init
 loop-taken-init g c = record {
   rows = first_row c.args.book.now.entries _ _ _ _ _ (omega arith)
-      (ap₂ row_text c.row_left.ensures.facts c.row_left.ensures.last) c.in_ok-write.ensures.bytes;
+      (ap₂ row_text c.row_left.ensures.facts c.row_left.ensures.last) c.in_ok-write_line.ensures;
   left = c.state_at-snapshot.ensures.state;
 }
 
@@ -20,7 +20,7 @@ loop-taken-preserved g c =
     record {
       rows = row_more c.args.book.now.entries _ c.loop-taken.taken _ _ _ _ (omega arith)
           (ap₂ (λ f last. codes ",\n" ++ row_text f last) its.facts its.last) c.loop-taken.invariant.rows
-          c.in_ok-write-2.ensures.bytes;
+          c.in_ok-write_line-2.ensures;
       left = c.step_on.ensures;
     }
 
