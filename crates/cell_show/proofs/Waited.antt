@@ -8,7 +8,7 @@ use Rattle.cell_types.specs.declared.words.Entry.{Entry}
 use Rattle.cell_waits.specs.declared.waiting.Waiting.{Waiting}
 use Rattle.cell_show.specs.Rows.{bracketed, with_commas}
 use Rattle.cell_show.specs.Waits.{AreNext, IsNext, TellsWaits, WritesNext, WritesWaits, next_cell, nobody, wait_cell}
-use Rattle.cell_show.specs.Waits.{waits_after, waits_text}
+use Rattle.cell_show.specs.Waits.{waits_after}
 use Rattle.cell_show.specs.declared.page.waits.Next.{Next}
 
 -- the cell that is written tells what the machine waits for

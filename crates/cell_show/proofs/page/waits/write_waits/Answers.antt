@@ -1,5 +1,5 @@
 -- The first list, one list more after each entry, and the end
-use Rattle.std.proofs.Common.{◌≡◌, ◌+◌, ◌<◌, ℕ, length, sym, ap, subst, ◌∙◌, arith}
+use Rattle.std.proofs.Common.{◌≡◌, ◌+◌, ◌<◌, length, ap, subst, ◌∙◌, arith}
 use Rattle.cell_waits.specs.Past.{entries_of, taken_of}
 use Rattle.cell_show.specs.Waits.{WritesWaits}
 use Rattle.cell_show.proofs.Waited.{first_list, list_more, lists_whole, waits_at}

@@ -16,7 +16,7 @@ loop-taken-init g c = record {
 
 pub loop-taken-preserved : goal.loop-taken-preserved
 loop-taken-preserved g c =
-    let its = c.row_left-in-loop-taken.ensures in
+    let its = c.row_left-row.ensures in
     record {
       rows = row_more c.args.book.now.entries _ c.loop-taken.taken _ _ _ _ (omega arith)
           (ap₂ (λ f last. codes ",\n" ++ row_text f last) its.facts its.last) c.loop-taken.invariant.rows
