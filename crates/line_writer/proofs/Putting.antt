@@ -9,4 +9,5 @@ pub put_alone : (old new : ArrayString) (text : Option (List ℕ)) → old.bytes
     → WritesText (λ s bytes t. t.bytes ≡ s.bytes ++ bytes) old text new → IfSome text (λ bytes. new.bytes ≡ bytes)
 put_alone old new None empty written = tt
 put_alone old new (Some bytes) empty written =
-    contents_after_writes _ (λ s. s.bytes) (λ _ _ _ added. added) old bytes new written ∙ ap (λ front. front ++ bytes) empty
+    contents_after_writes _ (λ s. s.bytes) (λ _ _ _ added. added) old bytes new written
+    ∙ ap (λ front. front ++ bytes) empty
