@@ -9,9 +9,7 @@ Usage: bench/beside.py [ROW..]     all rows but spin by default; CELLCTL names a
   migrate   migrate beside audit of the same text, 13,000 plates
   run       run, on threads, beside sim, 1,000 plates
   plates    a sweep of 24 plates beside one of 6, and how many runs a second
-  sweep     a sweep of 24 plates on four threads beside one
   states    explore 4, and how many states a second, and how many bytes a state
-  explore   explore 4 on four threads beside one
   page      show --html of 20,000 entries
   spin      SPIN on examples/models/cell.pml beside explore, three plates (needs spin and gcc)"""
 
@@ -103,10 +101,6 @@ class Bench:
         rates = f"; {self.count_runs(24) / many:.0f} and {self.count_runs(6) / few:.0f} runs a second"
         tell("sweep of 24 plates, beside 6", many, few, rates)
 
-    def sweep(self):
-        (four, _), (one, _) = least([self.sweep_words(24, "--threads", "4"), self.sweep_words(24)])
-        tell("sweep on four threads, beside one", four, one)
-
     def count_states(self, *words):
         said = subprocess.run([PROGRAM, "explore", *words], stdout=subprocess.PIPE, text=True, check=True).stdout
         return int(re.search(r"^states (\d+)$", said, re.MULTILINE)[1])
@@ -115,11 +109,6 @@ class Bench:
         (took, memory), = least([([PROGRAM, "explore", "4"], "/dev/null")])
         states = self.count_states("4")
         print(f"explore 4: {states} states in {took:.2f} s, {states / took / 1e6:.2f} million a second, {memory * 1024 / states:.0f} bytes a state")
-
-    def explore(self):
-        words = [PROGRAM, "explore", "4"]
-        (four, _), (one, _) = least([([*words, "--threads", "4"], "/dev/null"), (words, "/dev/null")])
-        tell("explore on four threads, beside one", four, one)
 
     def page(self):
         with open(self.journal(300, 2), encoding="utf-8") as text:
@@ -139,8 +128,8 @@ class Bench:
         tell("explore 3, beside SPIN", own, other, f"; {own_memory // 1000} and {memory // 1000} MB")
 
 
-ROWS = {"audit": "audit", "journal": "journal_row", "migrate": "migrate", "run": "run", "plates": "plates", "sweep": "sweep",
-    "states": "states", "explore": "explore", "page": "page", "spin": "spin"}
+ROWS = {"audit": "audit", "journal": "journal_row", "migrate": "migrate", "run": "run", "plates": "plates",
+    "states": "states", "page": "page", "spin": "spin"}
 
 
 def machine():
