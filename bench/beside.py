@@ -106,8 +106,9 @@ class Bench:
         return int(re.search(r"^states (\d+)$", said, re.MULTILINE)[1])
 
     def states(self):
-        (took, memory), = least([([PROGRAM, "explore", "4"], "/dev/null")])
-        states = self.count_states("4")
+        words = ["--limit", "10000000", "4"]
+        (took, memory), = least([([PROGRAM, "explore", *words], "/dev/null")])
+        states = self.count_states(*words)
         print(f"explore 4: {states} states in {took:.2f} s, {states / took / 1e6:.2f} million a second, {memory * 1024 / states:.0f} bytes a state")
 
     def page(self):
