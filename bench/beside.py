@@ -64,7 +64,8 @@ class Bench:
         return [PROGRAM, command, *flags, self.settings(plates), "/dev/null", "/dev/null"], "/dev/null"
 
     def sweep_words(self, plates, *flags):
-        return [PROGRAM, "sweep", "--csv", *flags, self.settings(plates), "/dev/null"], "/dev/null"
+        settings = self.path(f"{plates}.sweep", f"plates = {plates}\n")
+        return [PROGRAM, "sweep", "--csv", *flags, settings, "/dev/null"], "/dev/null"
 
     def journal(self, plates, profile):
         """A legal journal of so many plates, in the file of that profile."""
