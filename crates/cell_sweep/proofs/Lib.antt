@@ -1,2 +1,5 @@
+pub mod Batches
+pub mod Drawing
 pub mod FirstLine
+pub mod Standing
 pub mod Steps

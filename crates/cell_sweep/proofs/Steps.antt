@@ -1,12 +1,13 @@
 -- Steps of the loops of a sweep
-use Rattle.std.proofs.Common.{◌≡◌, ◌≢◌, inl, inr, ℕ, suc, ◌+◌, ◌<◌, ◌≤◌, Bool, true, List, [], ◌∷◌, ◌++◌, Option}
+use Rattle.std.proofs.Common.{◌≡◌, ◌≢◌, inl, inr, ℕ, ◌+◌, ◌-◌, ◌<◌, ◌≤◌, Bool, true, List, [], ◌∷◌, ◌++◌, Option}
 use Rattle.std.proofs.Common.{Some, None, Result, Ok, Err, IfErr, IfOk, IsErr, IsErrAnd, OnOk, map, length}
-use Rattle.std.proofs.Common.{get_or, take, refl, sym, ap, subst, ◌∙◌, append-nil, add-one}
+use Rattle.std.proofs.Common.{get_or, take, refl, sym, ap, subst, ◌∙◌, append-nil, arith, drop}
 use Rattle.std.specs.Borrow.{Bor}
 use Rattle.std.specs.Io.KnownBytes.{Appends}
 use Rattle.std.specs.List.{flat_map}
 use Rattle.std.proofs.KnownBytes.{Appends-nil, Appends-trans}
-use Rattle.std.proofs.lemmas.List.{flat_map_more, get_or-map, length-map, map-append, take_all, take_more}
+use Rattle.std.proofs.lemmas.List.{flat_map_more, get_or-drop, get_or-map, length-drop, length-map, map-append}
+use Rattle.std.proofs.lemmas.List.{take_more}
 use Rattle.std.proofs.lemmas.List.Concat.{flat_map-append}
 use Rattle.std.proofs.lemmas.List.Elements.{All-append, All-cons, All-nil}
 use Rattle.cell_sim.specs.declared.fault.Fault.{Fault}
@@ -38,11 +39,13 @@ use Rattle.cell_sweep.specs.declared.runs.NoRun.TheVariants as none
 use Rattle.cell_sweep.specs.declared.sweep.Stop.{Stop}
 use Rattle.cell_sweep.specs.declared.sweep.Stop.TheVariants as stop
 use Rattle.cell_sim.specs.Spelled.{script_of}
-use Rattle.cell_sweep.specs.Cases.{cases_of, in_motions, planned}
+use Rattle.cell_sweep.specs.declared.choice.Choice.{Choice}
+use Rattle.cell_sweep.specs.declared.choice.Part.{Part}
+use Rattle.cell_sweep.specs.Cases.{begin_of, cases_of, end_of, motions_by, motions_of as listed, part_of, text_of}
 use Rattle.cell_sweep.specs.Kinds.{kind_of}
 use Rattle.cell_sweep.specs.Rows.{Grows, GrowsBy, IsNoRun, IsScript, IsToldOf, RefusesRun, RefusesServed, RunsTo}
-use Rattle.cell_sweep.specs.Rows.{TellsRun, TellsServed, Told, csv_head, csv_line, ones}
-use Rattle.cell_sweep.specs.Sweeps.{AreCounts, EndsSo, IsSingle, RefusesSome, StopsSo, Sweeps, SweepsTexts, TellsCase}
+use Rattle.cell_sweep.specs.Rows.{TellsRun, TellsServed, Told, csv_line, head_of, ones}
+use Rattle.cell_sweep.specs.Sweeps.{AreCounts, EndsSo, IsOfRun, RefusesSome, StopsSo, Sweeps, SweepsTexts, TellsCase}
 use Rattle.cell_sweep.specs.Sweeps.{TellsCases, Wanted}
 
 -- one more part of a list names one more kind
@@ -77,6 +80,15 @@ told-behind f b old mid new xs i d inside so_far next =
     subst (Appends old new) (ap (λ ys. b ∷ ys) (flat_map_more f [] (take i xs) (get_or xs i d)
     ∙ ap (flat_map f) (sym (take_more xs i d inside)))) (Appends-trans old mid new _ _ so_far next)
 
+-- what is told of one more element comes after what is told of those so far
+pub told-more : {X : Type 0} (f : X → List ℕ) (old mid new : Option (List ℕ)) (xs : List X) (i : ℕ) (d : X)
+    → i < length xs
+    → Appends old mid (flat_map f (take i xs)) → Appends mid new (f (get_or xs i d))
+    → Appends old new (flat_map f (take (i + 1) xs))
+told-more f old mid new xs i d inside so_far next =
+    subst (Appends old new) (flat_map_more f [] (take i xs) (get_or xs i d)
+    ∙ ap (flat_map f) (sym (take_more xs i d inside))) (Appends-trans old mid new _ _ so_far next)
+
 -- it grew by a text that was written
 pub grew : (old new : Option (List ℕ)) (text : List ℕ) → Appends old new text → Grows old new
 grew old new text h = (text, h)
@@ -105,106 +117,117 @@ no-cases settings operator w old = (
   ([], Appends-nil old, λ is_csv. refl),
 )
 
+-- of a part that ends where it begins no case is told yet
+pub no-cases-yet : (settings operator : List ℕ) (w : Wanted) (cases : List (List PlannedFault)) (n : ℕ)
+    (old : Option (List ℕ)) → TellsCases settings operator w (take (n - n) (drop n cases)) old old
+no-cases-yet settings operator w cases n old =
+    let same : n - n ≡ 0 = omega arith in
+    rw same (no-cases settings operator w old)
+
 -- one case is told
-pub one-case : (settings operator : List ℕ) (w : Wanted) (f : PlannedFault) (old new : Option (List ℕ))
-    → TellsCase settings operator w f old new → TellsCases settings operator w (f ∷ []) old new
-one-case settings operator w f old new (t, is_planned, tells, line) = (
+pub one-case : (settings operator : List ℕ) (w : Wanted) (faults : List PlannedFault) (old new : Option (List ℕ))
+    → TellsCase settings operator w faults old new → TellsCases settings operator w (faults ∷ []) old new
+one-case settings operator w faults old new (t, same, tells, line) = (
   t ∷ [],
-  ap (λ (g : PlannedFault). g ∷ []) is_planned,
+  ap (λ (fs : List PlannedFault). fs ∷ []) same,
   All-cons (TellsServed settings operator w.service) t [] tells (All-nil (TellsServed settings operator w.service)),
-  subst (GrowsBy old new w.csv) (sym (append-nil (csv_line t))) line,
+  subst (GrowsBy old new w.csv) (sym (append-nil (csv_line w.choice t))) line,
 )
 
 -- some cases and then others are told
-pub cases-then : (settings operator : List ℕ) (w : Wanted) (cases more : List PlannedFault)
+pub cases-then : (settings operator : List ℕ) (w : Wanted) (cases more : List (List PlannedFault))
     (old mid new : Option (List ℕ)) → TellsCases settings operator w cases old mid
     → TellsCases settings operator w more mid new → TellsCases settings operator w (cases ++ more) old new
 cases-then settings operator w cases more old mid new (runs, same, told, grown) (next, alike, tells, lines) = (
   runs ++ next,
-  map-append (λ (s : Told). s.planned) runs next ∙ ap (λ fs. fs ++ map (λ (s : Told). s.planned) next) same
+  map-append (λ (s : Told). s.faults) runs next ∙ ap (λ fs. fs ++ map (λ (s : Told). s.faults) next) same
       ∙ ap (λ fs. cases ++ fs) alike,
   All-append (TellsServed settings operator w.service) runs next told tells,
-  subst (GrowsBy old new w.csv) (sym (flat_map-append csv_line runs next))
-      (by-then old mid new w.csv (flat_map csv_line runs) (flat_map csv_line next) grown lines),
+  subst (GrowsBy old new w.csv) (sym (flat_map-append (csv_line w.choice) runs next))
+      (by-then old mid new w.csv (flat_map (csv_line w.choice) runs) (flat_map (csv_line w.choice) next) grown lines),
 )
 
--- the fault of one more kind in a motion is told
-pub kinds-more : (settings operator : List ℕ) (w : Wanted) (a : Axis) (n : ℕ) (kinds : List Fault) (i : ℕ) (d : Fault)
-    (old mid new : Option (List ℕ)) → i < length kinds
-    → TellsCases settings operator w (map (planned a n) (take i kinds)) old mid
-    → TellsCase settings operator w (planned a n (get_or kinds i d)) mid new
-    → TellsCases settings operator w (map (planned a n) (take (i + 1) kinds)) old new
-kinds-more settings operator w a n kinds i d old mid new inside so_far next =
-    subst (λ (fs : List PlannedFault). TellsCases settings operator w fs old new)
-    (sym (ap (map (planned a n)) (take_more kinds i d inside)
-    ∙ map-append (planned a n) (take i kinds) (get_or kinds i d ∷ [])))
-    (cases-then settings operator w _ _ old mid new so_far (one-case settings operator w _ mid new next))
+-- one more case is told
+pub cases-more : (settings operator : List ℕ) (w : Wanted) (cases : List (List PlannedFault)) (begin place : ℕ)
+    (faults : List PlannedFault) (old mid new : Option (List ℕ)) → begin ≤ place → place < length cases
+    → ((d : List PlannedFault) → get_or cases place d ≡ faults)
+    → TellsCases settings operator w (take (place - begin) (drop begin cases)) old mid
+    → TellsCase settings operator w faults mid new
+    → TellsCases settings operator w (take (place + 1 - begin) (drop begin cases)) old new
+cases-more settings operator w cases begin place faults old mid new after inside same so_far next =
+    let i = place - begin in
+    let rest = drop begin cases in
+    let here : get_or rest i [] ≡ faults =
+    get_or-drop begin cases i [] ∙ ap (λ n. get_or cases n []) (omega (arith, after)) ∙ same [] in
+    let within : i < length rest =
+    subst (λ n. i < n) (sym (length-drop begin cases)) (omega (arith, after, inside)) in
+    let longer : take (place + 1 - begin) rest ≡ take i rest ++ faults ∷ [] =
+    ap (λ n. take n rest) (omega (arith, after)) ∙ take_more rest i [] within
+    ∙ ap (λ fs. take i rest ++ fs ∷ []) here in
+    subst (λ (fs : List (List PlannedFault)). TellsCases settings operator w fs old new) (sym longer)
+    (cases-then settings operator w (take i rest) (faults ∷ []) old mid new so_far
+    (one-case settings operator w faults mid new next))
 
--- the faults of all kinds in a motion are told
-pub kinds-all : (settings operator : List ℕ) (w : Wanted) (a : Axis) (n : ℕ) (kinds : List Fault) (i : ℕ)
-    (old new : Option (List ℕ)) → length kinds ≤ i
-    → TellsCases settings operator w (map (planned a n) (take i kinds)) old new
-    → TellsCases settings operator w (map (planned a n) kinds) old new
-kinds-all settings operator w a n kinds i old new past told =
-    subst (λ (ks : List Fault). TellsCases settings operator w (map (planned a n) ks) old new) (take_all i kinds past)
-    told
+-- the cases up to the end are told
+pub cases-done : (settings operator : List ℕ) (w : Wanted) (cases : List (List PlannedFault)) (begin end place : ℕ)
+    (old new : Option (List ℕ)) → place - begin ≤ end - begin → end ≤ place
+    → TellsCases settings operator w (take (place - begin) (drop begin cases)) old new
+    → TellsCases settings operator w (take (end - begin) (drop begin cases)) old new
+cases-done settings operator w cases begin end place old new short past told =
+    let same : end - begin ≡ place - begin = omega (arith, short, past) in
+    rw same told
 
--- the faults in one more motion are told
-pub motions-more : (settings operator : List ℕ) (w : Wanted) (kinds : List Fault) (a : Axis) (n : ℕ)
-    (old mid new : Option (List ℕ)) → TellsCases settings operator w (in_motions kinds a n) old mid
-    → TellsCases settings operator w (map (planned a (n + 1)) kinds) mid new
-    → TellsCases settings operator w (in_motions kinds a (n + 1)) old new
-motions-more settings operator w kinds a n old mid new so_far next =
-    let next_suc = rw add-one at next in
-    rw add-one (cases-then settings operator w (in_motions kinds a n) (map (planned a (suc n)) kinds) old mid new so_far
-    next_suc)
-
--- the faults of one more axis are told
-pub axes-more : (settings operator : List ℕ) (w : Wanted) (f : Axis → List PlannedFault) (axes : List Axis) (i : ℕ)
-    (d : Axis) (old mid new : Option (List ℕ)) → i < length axes
-    → TellsCases settings operator w (flat_map f (take i axes)) old mid
-    → TellsCases settings operator w (f (get_or axes i d)) mid new
-    → TellsCases settings operator w (flat_map f (take (i + 1) axes)) old new
-axes-more settings operator w f axes i d old mid new inside so_far next =
-    subst (λ (fs : List PlannedFault). TellsCases settings operator w fs old new)
-    (flat_map_more f [] (take i axes) (get_or axes i d) ∙ ap (flat_map f) (sym (take_more axes i d inside)))
-    (cases-then settings operator w _ _ old mid new so_far next)
-
--- the faults of all axes are told
-pub axes-all : (settings operator : List ℕ) (w : Wanted) (f : Axis → List PlannedFault) (items axes : List Axis) (i : ℕ)
-    (old new : Option (List ℕ)) → items ≡ axes → length items ≤ i
-    → TellsCases settings operator w (flat_map f (take i items)) old new
-    → TellsCases settings operator w (flat_map f axes) old new
-axes-all settings operator w f items axes i old new same past told =
-    subst (λ (xs : List Axis). TellsCases settings operator w (flat_map f xs) old new) (take_all i items past ∙ same)
-    told
+-- the script with one fault is its record
+pub text_of-one : (faults : List PlannedFault) (d : PlannedFault) → 1 ≤ length faults → length faults < 2
+    → text_of faults ≡ script_of (get_or faults 0 d)
+text_of-one [] d some few = absurd (omega (arith, some))
+text_of-one (f ∷ []) d some few = append-nil (script_of f)
+text_of-one (f ∷ (g ∷ faults)) d some few = absurd (omega (arith, few))
 
 -- what was written of the cases so far is whole lines
-pub cases-grow : (settings operator : List ℕ) (w : Wanted) (cases : List PlannedFault) (old mid : Option (List ℕ))
+pub cases-grow : (settings operator : List ℕ) (w : Wanted) (cases : List (List PlannedFault))
+    (old mid : Option (List ℕ))
     → TellsCases settings operator w cases old mid → Grows old mid
 cases-grow settings operator w cases old mid (runs, same, told, (text, h, line)) = (text, h)
 
--- a run by the script of a fault is one of which a row with this fault tells
-pub told-of : (settings script faults : List ℕ) (f : PlannedFault) (t : Told) (plan : Plan) (J : List Entry) (e : End)
-    → t.planned ≡ f → faults ≡ script_of f
-    → RunsTo settings faults script plan J e → IsToldOf t script plan J e → TellsRun settings script t
-told-of settings script faults f t plan J e same is_script runs told =
-    (plan, J, e, subst (λ fs. RunsTo settings fs script plan J e) (is_script ∙ ap script_of (sym same)) runs, told)
+-- a run by the script of some faults is one of which a row with these faults tells
+pub told-of : (settings script text : List ℕ) (faults : List PlannedFault) (t : Told) (plan : Plan) (J : List Entry)
+    (e : End) → t.faults ≡ faults → text ≡ text_of faults
+    → RunsTo settings text script plan J e → IsToldOf t script plan J e → TellsRun settings script t
+told-of settings script text faults t plan J e same is_script runs told =
+    (plan, J, e, subst (λ fs. RunsTo settings fs script plan J e) (is_script ∙ ap text_of (sym same)) runs, told)
+
+-- the cases of a part, by the places where it begins and ends
+pub part-is : (choice : Choice) (kinds lent : List Fault) (counts kept : List ℕ) (p : Part) (all begin end : ℕ)
+    → lent ≡ kinds → kept ≡ counts → all ≡ length (cases_of choice lent (listed kept))
+    → begin ≡ begin_of p all → end ≡ end_of p all
+    → take (end - begin) (drop begin (cases_of choice lent (listed kept)))
+    ≡ part_of p (cases_of choice kinds (listed counts))
+part-is choice kinds lent counts kept p all begin end same alike whole from to =
+    let cases = cases_of choice lent (listed kept) in
+    let first : begin ≡ begin_of p (length cases) = from ∙ ap (begin_of p) whole in
+    let last : end ≡ end_of p (length cases) = to ∙ ap (end_of p) whole in
+    ap (λ n. take (end - n) (drop n cases)) first
+    ∙ ap (λ n. take (n - begin_of p (length cases)) (drop (begin_of p (length cases)) cases)) last
+    ∙ ap (λ ks. part_of p (cases_of choice ks (listed kept))) same
+    ∙ ap (λ ns. part_of p (cases_of choice kinds (listed ns))) alike
 
 -- the line above all, the lines of the cases, and what stands below them
-pub swept : (settings operator : List ℕ) (w : Wanted) (counts : Axis → ℕ) (p q r s : Option (List ℕ))
-    → AreCounts settings operator w.service w.motions counts
-    → GrowsBy p q w.csv csv_head → TellsCases settings operator w (cases_of counts w.kinds) q r → GrowsBy r s w.csv []
+pub swept : (settings operator : List ℕ) (w : Wanted) (counts : Axis → ℕ) (cases : List (List PlannedFault))
+    (p q r s : Option (List ℕ)) → AreCounts settings operator w.service w.motions counts
+    → cases ≡ part_of w.part (cases_of w.choice w.kinds (motions_by counts))
+    → GrowsBy p q w.csv (head_of w.choice w.part) → TellsCases settings operator w cases q r → GrowsBy r s w.csv []
     → Sweeps settings operator w p s
-swept settings operator w counts p q r s counted head (runs, in_order, told, rows) below =
+swept settings operator w counts cases p q r s counted are head (runs, in_order, told, rows) below =
+    let lines = flat_map (csv_line w.choice) runs in
     record {
       counts = counts;
       counted = counted;
       runs = runs;
-      cases = in_order;
+      cases = in_order ∙ are;
       told = told;
-      written = subst (GrowsBy p s w.csv) (append-nil (csv_head ++ flat_map csv_line runs))
-          (by-then p r s w.csv _ [] (by-then p q r w.csv csv_head (flat_map csv_line runs) head rows) below);
+      written = subst (GrowsBy p s w.csv) (append-nil (head_of w.choice w.part ++ lines))
+          (by-then p r s w.csv _ [] (by-then p q r w.csv (head_of w.choice w.part) lines head rows) below);
     }
 
 -- it grew by the part of a text that was written
@@ -264,21 +287,21 @@ run_refused r settings operator faults script service why kept is refused =
     hands_on r (RefusesRun settings faults script) (RefusesServed settings operator service faults) why
     (λ e run. (script, kept, run)) is refused
 
--- what refuses the run with a script of no fault, or of one, refuses a run of the sweep
-pub some_refused : {X : Type 0} (r : Result X NoRun) (settings operator faults text : List ℕ) (service : Bool)
-    (why : NoRun) → IsSingle text → faults ≡ text → IsErrAnd r (λ e. e ≡ why)
+-- what refuses the run with a script of some faults refuses a run of the sweep
+pub some_refused : {X : Type 0} (r : Result X NoRun) (settings operator faults text : List ℕ) (choice : Choice)
+    (service : Bool) (why : NoRun) → IsOfRun choice text → faults ≡ text → IsErrAnd r (λ e. e ≡ why)
     → IsNoRun (RefusesServed settings operator service faults) why
-    → IfErr r (IsNoRun (RefusesSome settings operator service))
-some_refused r settings operator faults text service why single same is refused =
-    hands_on r (RefusesServed settings operator service faults) (RefusesSome settings operator service) why
-    (λ e served. (faults, subst IsSingle (sym same) single, served)) is refused
+    → IfErr r (IsNoRun (RefusesSome settings operator choice service))
+some_refused r settings operator faults text choice service why of_run same is refused =
+    hands_on r (RefusesServed settings operator service faults) (RefusesSome settings operator choice service) why
+    (λ e served. (faults, subst (IsOfRun choice) (sym same) of_run, served)) is refused
 
-pub some_refused_by : (settings operator faults text : List ℕ) (service : Bool) (why : NoRun) → IsSingle text
-    → faults ≡ text → IsNoRun (RefusesServed settings operator service faults) why
-    → IsNoRun (RefusesSome settings operator service) why
-some_refused_by settings operator faults text service none.OutOfMemory single same refused = tt
-some_refused_by settings operator faults text service (none.Refused e) single same refused =
-    (faults, subst IsSingle (sym same) single, refused)
+pub some_refused_by : (settings operator faults text : List ℕ) (choice : Choice) (service : Bool) (why : NoRun)
+    → IsOfRun choice text → faults ≡ text → IsNoRun (RefusesServed settings operator service faults) why
+    → IsNoRun (RefusesSome settings operator choice service) why
+some_refused_by settings operator faults text choice service none.OutOfMemory of_run same refused = tt
+some_refused_by settings operator faults text choice service (none.Refused e) of_run same refused =
+    (faults, subst (IsOfRun choice) (sym same) of_run, refused)
 
 -- whether the sweep is whole or breaks off, what was written before it only grew
 pub swept-grows : (swept : Result Unit Stop) (settings operator : List ℕ) (w : Wanted) (old mid : Option (List ℕ))
@@ -291,7 +314,7 @@ pub sweeps-or-breaks : (swept : Result Unit Stop) (ended : Result ℕ WriteFault
     (w : Wanted) (old mid new : Option (List ℕ)) (refused : Bool) (inputs : Inputs)
     → AreInputs settings [] operator (Ok inputs)
     → OnOk swept (Sweeps settings operator w old mid) → (IsErr swept → Grows old mid)
-    → IfErr swept (StopsSo settings operator w.service refused)
+    → IfErr swept (StopsSo settings operator w.choice w.service refused)
     → IfOk ended (EndsSo mid new swept) → IfOk ended (λ status. SweepsTexts settings operator w old new status)
 sweeps-or-breaks swept (Err fault) settings operator w old mid new refused inputs are told part stops ends = tt
 sweeps-or-breaks (Ok done) (Ok status) settings operator w old mid new refused inputs are told part stops (ok, same) =
@@ -307,23 +330,23 @@ sweeps-or-breaks (Err stop.WriteFault) (Ok status) settings operator w old mid n
     absurd ends
 
 -- the writer stops a sweep only where a write was refused
-pub blamed : (swept : Result Unit Stop) (settings operator : List ℕ) (service refused : Bool)
-    → IfErr swept (StopsSo settings operator service refused) → swept ≡ Err stop.WriteFault → refused ≡ true
-blamed swept settings operator service refused stops is =
-    subst (λ (r : Result Unit Stop). IfErr r (StopsSo settings operator service refused)) is stops
+pub blamed : (swept : Result Unit Stop) (settings operator : List ℕ) (choice : Choice) (service refused : Bool)
+    → IfErr swept (StopsSo settings operator choice service refused) → swept ≡ Err stop.WriteFault → refused ≡ true
+blamed swept settings operator choice service refused stops is =
+    subst (λ (r : Result Unit Stop). IfErr r (StopsSo settings operator choice service refused)) is stops
 
--- a run by the script of a fault and by a script that serves, or the operator's, is one of which a row with this fault
--- tells
-pub served-of : (settings operator one other script faults : List ℕ) (service : Bool) (f : PlannedFault) (t : Told)
-    (plan : Plan) (J : List Entry) (e : End)
-    → one ≡ script → other ≡ script → IsScript service operator script → t.planned ≡ f → faults ≡ script_of f
-    → RunsTo settings faults one plan J e → (faults ≡ script_of f → IsToldOf t other plan J e)
+-- a run by the script of some faults and by a script that serves, or the operator's, is one of which a row with these
+-- faults tells
+pub served-of : (settings operator one other script text : List ℕ) (service : Bool) (faults : List PlannedFault)
+    (t : Told) (plan : Plan) (J : List Entry) (e : End)
+    → one ≡ script → other ≡ script → IsScript service operator script → t.faults ≡ faults → text ≡ text_of faults
+    → RunsTo settings text one plan J e → (text ≡ text_of faults → IsToldOf t other plan J e)
     → TellsServed settings operator service t
-served-of settings operator one other script faults service f t plan J e first second is same is_script runs told = (
+served-of settings operator one other script text service faults t plan J e first second is same is_script runs told = (
   script,
   is,
-  told-of settings script faults f t plan J e same is_script
-      (subst (λ (s : List ℕ). RunsTo settings faults s plan J e) first runs)
+  told-of settings script text faults t plan J e same is_script
+      (subst (λ (s : List ℕ). RunsTo settings text s plan J e) first runs)
       (subst (λ (s : List ℕ). IsToldOf t s plan J e) second (told is_script)),
 )
 

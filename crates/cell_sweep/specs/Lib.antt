@@ -1,4 +1,6 @@
+pub mod Batches
 pub mod Cases
+pub mod Drawn
 pub mod Kinds
 pub mod Rows
 pub mod Sweeps

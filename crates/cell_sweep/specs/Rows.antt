@@ -1,6 +1,6 @@
 -- What is told of each run of a sweep
 use Rattle.std.specs.Prelude.{◌≡◌, ◌==◌, ℕ, Bool, true, false, List, [], ◌∷◌, ◌++◌, Option, Some, None, Ok, Err}
-use Rattle.std.specs.Prelude.{codes, decimal, if◌then◌else◌, replicate, ⊤}
+use Rattle.std.specs.Prelude.{◌-◌, codes, decimal, if◌then◌else◌, length, map, replicate, take, ⊤}
 use Rattle.std.specs.List.{flat_map}
 use Rattle.std.specs.Io.KnownBytes.{Appends}
 use Rattle.cell_types.specs.declared.words.Entry.{Entry}
@@ -24,11 +24,17 @@ use Rattle.cell_measures.specs.Times.{times}
 use Rattle.cell_measures.specs.declared.durations.Durations.{Durations}
 use Rattle.cell_sweep.specs.declared.runs.NoRun.{NoRun}
 use Rattle.cell_sweep.specs.declared.runs.NoRun.TheVariants as none
-use Rattle.cell_sim.specs.Spelled.{readings_of, script_of, word_of}
+use Rattle.cell_sim.specs.Spelled.{readings_of, word_of}
+use Rattle.cell_sweep.specs.Cases.{text_of}
+use Rattle.cell_sweep.specs.declared.choice.Choice.{Choice}
+use Rattle.cell_sweep.specs.declared.choice.Choice.TheVariants as choice
+use Rattle.cell_sweep.specs.declared.choice.Part.{Part}
+use Rattle.cell_sweep.specs.declared.form.Form.{Form}
+use Rattle.cell_sweep.specs.declared.form.Form.TheVariants as form
 
--- what is told of the run with one fault
+-- what is told of a run
 pub record Told : Type 0 where
-  pub planned : PlannedFault
+  pub faults : List PlannedFault
   pub end : End
   pub totals : Totals
   pub time : ℕ
@@ -70,19 +76,19 @@ pub record IsToldOf (t : Told) (operator : List ℕ) (plan : Plan) (J : List Ent
   pub ended : t.end ≡ e
   pub counted : t.totals ≡ count_of J
   pub time : t.time ≡ last_of (times ones J)
-  pub waits : IsWait J e plan (script_of t.planned) operator t.waits
+  pub waits : IsWait J e plan (text_of t.faults) operator t.waits
 
--- what is told is of a run with the one fault, by this script of the operator
+-- what is told is of a run with the faults, by this script of the operator
 abbrev pub TellsRun : List ℕ → List ℕ → Told → Type 0
 TellsRun settings operator t =
-    (plan : Plan) × (J : List Entry) × (e : End) × RunsTo settings (script_of t.planned) operator plan J e
+    (plan : Plan) × (J : List Entry) × (e : End) × RunsTo settings (text_of t.faults) operator plan J e
     × IsToldOf t operator plan J e
 
 -- without a service the script of the operator stays as it is
 abbrev pub IsScript : Bool → List ℕ → List ℕ → Type 0
 IsScript service operator script = service ≡ false → script ≡ operator
 
--- what is told is of a run with the one fault, by the operator's script or by one that serves
+-- what is told is of a run with the faults, by the operator's script or by one that serves
 abbrev pub TellsServed : List ℕ → List ℕ → Bool → Told → Type 0
 TellsServed settings operator service t = (script : List ℕ) × IsScript service operator script
     × TellsRun settings script t
@@ -118,13 +124,40 @@ abbrev pub with_commas : List (List ℕ) → List ℕ
 with_commas [] = []
 with_commas (field ∷ fields) = field ++ 44 ∷ with_commas fields
 
--- the line of CSV of a run
-abbrev pub csv_line : Told → List ℕ
-csv_line t =
-    with_commas (axis_word t.planned.axis ∷ decimal t.planned.motion ∷ kind_text t.planned.fault ∷ end_word t.end
-    ∷ decimal t.totals.admitted ∷ decimal t.totals.forged ∷ decimal t.totals.quarantined ∷ decimal t.totals.delivered
-    ∷ decimal t.time ∷ [])
+-- the fields of a fault that is alone in its run
+abbrev pub fault_fields : PlannedFault → List ℕ
+fault_fields f = with_commas (axis_word f.axis ∷ decimal f.motion ∷ kind_text f.fault ∷ [])
+
+-- a line feed as a semicolon
+abbrev pub parting : ℕ → ℕ
+parting b = if b == 10 then 59 else b
+
+-- the records of a script in one line, with semicolons between them
+abbrev pub records_of : List ℕ → List ℕ
+records_of text = map parting (take (length text - 1) text)
+
+-- the faults of a run: one in three fields, and else all in one
+abbrev pub faults_text : Choice → List PlannedFault → List ℕ
+faults_text choice.Single faults = flat_map fault_fields faults
+faults_text choice.Pairs faults = with_commas (quoted (records_of (text_of faults)) ∷ [])
+faults_text (choice.Random runs n seed) faults = with_commas (quoted (records_of (text_of faults)) ∷ [])
+
+-- the fields behind those of the faults
+abbrev pub rest_of_line : Told → List ℕ
+rest_of_line t =
+    with_commas (end_word t.end ∷ decimal t.totals.admitted ∷ decimal t.totals.forged ∷ decimal t.totals.quarantined
+    ∷ decimal t.totals.delivered ∷ decimal t.time ∷ [])
     ++ (quoted_if_any t.waits ++ 10 ∷ [])
+
+-- the rows are written as CSV
+abbrev pub is_csv : Form → Bool
+is_csv form.Table = false
+is_csv form.Csv = true
+is_csv form.Chart = false
+
+-- the line of CSV of a run
+abbrev pub csv_line : Choice → Told → List ℕ
+csv_line choice t = faults_text choice t.faults ++ rest_of_line t
 
 -- what is known of a writer grows by some text
 abbrev pub Grows : Option (List ℕ) → Option (List ℕ) → Type 0
@@ -134,6 +167,16 @@ Grows old new = (text : List ℕ) × Appends old new text
 abbrev pub GrowsBy : Option (List ℕ) → Option (List ℕ) → Bool → List ℕ → Type 0
 GrowsBy old new csv line = (text : List ℕ) × Appends old new text × (csv ≡ true → text ≡ line)
 
+-- the names of the fields of the faults
+abbrev pub faults_head : Choice → List ℕ
+faults_head choice.Single = codes "axis,motion,kind"
+faults_head choice.Pairs = codes "faults"
+faults_head (choice.Random runs n seed) = codes "faults"
+
 -- the line of CSV above all runs
-abbrev pub csv_head : List ℕ
-csv_head = codes "axis,motion,kind,end,admitted,forged,quarantined,delivered,time,waits_for\n"
+abbrev pub csv_head : Choice → List ℕ
+csv_head choice = faults_head choice ++ codes ",end,admitted,forged,quarantined,delivered,time,waits_for\n"
+
+-- it stands in the first part
+abbrev pub head_of : Choice → Part → List ℕ
+head_of choice p = if p.number == 1 then csv_head choice else []

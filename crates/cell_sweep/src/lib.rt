@@ -1,10 +1,14 @@
-//! Sweeps over the simulated cell: each kind of fault in each motion of each axis, in a run of its own, and what is
-//! told of each.
+//! Sweeps over the simulated cell: runs with faults of each kind in each motion of each axis, and what is told of each.
 #![tactic(auto)]
 
+mod batch;
 mod cases;
+mod choice;
+mod form;
 mod kinds;
 mod lines;
+mod lots;
+mod places;
 mod print;
 mod row;
 mod runs;
@@ -12,5 +16,7 @@ mod service;
 mod sweep;
 mod texts;
 
+pub use choice::{Choice, Part};
+pub use form::Form;
 pub use kinds::{KINDS, KindsError, read_kinds};
 pub use sweep::{Sweep, sweep_texts};

@@ -1,6 +1,6 @@
 //! What is told of each run of a sweep.
 ghost use Rattle.std.specs.Prelude.{◌≡◌, IfOk};
-ghost use Rattle.cell_sim.specs.Spelled.{script_of};
+ghost use Rattle.cell_sweep.specs.Cases.{text_of};
 ghost use Rattle.cell_sweep.specs.Rows.{IsToldOf, IsWait, first_line};
 
 use crate::runs::Ran;
@@ -13,10 +13,10 @@ use std::alloc::{AllocError, Global};
 use std::io;
 use std::marker::Model;
 
-/// What is told of a run with one fault.
+/// What is told of a run.
 #[derive(Drop)]
 pub(crate) struct Row {
-    pub(crate) planned: PlannedFault,
+    pub(crate) faults: Vec<PlannedFault>,
     pub(crate) end: End,
     pub(crate) totals: Totals,
     /// How long the run's entries need at least.
@@ -31,7 +31,7 @@ impl Model for Row {
     ghost Value = { Told };
 
     ghost view = { λ r. record {
-      planned = r.planned;
+      faults = r.faults.items;
       end = r.end;
       totals = r.totals;
       time = r.time;
@@ -71,24 +71,24 @@ fn wait_of(alloc: Global, ran: &Ran, faults: &[u8], operator: &[u8]) -> io::Resu
     Ok(Vec::from_slice(alloc, first_line(text.as_slice()))?)
 }
 
-/// What is told of a run with one fault, by the texts of its two scripts.
+/// What is told of a run with these faults, by the texts of its two scripts.
 pub(crate) fn row_of(
     alloc: Global,
-    planned: PlannedFault,
+    faults: Vec<PlannedFault>,
     ran: &Ran,
-    faults: &[u8],
+    text: &[u8],
     operator: &[u8],
 ) -> Result<Row, AllocError>
-    ensures planned { IfOk result (λ row. row.planned ≡ planned) }
-    ensures told { IfOk result (λ row. faults.now ≡ script_of planned
+    ensures faults { IfOk result (λ row. row.faults ≡ faults.items) }
+    ensures told { IfOk result (λ row. text.now ≡ text_of faults.items
         → IsToldOf row operator.now ran.now.plan ran.now.outcome.book.entries ran.now.outcome.end) }
 {
-    let Ok(waits) = wait_of(alloc, ran, faults, operator) else {
+    let Ok(waits) = wait_of(alloc, ran, text, operator) else {
         return Err(AllocError);
     };
     let measures = measure(alloc, ran.outcome.book.journal(), &Durations::ONE)?;
     Ok(Row {
-        planned,
+        faults,
         end: ran.outcome.end,
         totals: ran.outcome.book.totals(),
         time: measures.time,

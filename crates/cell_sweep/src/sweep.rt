@@ -1,28 +1,36 @@
 //! A sweep by its texts.
-ghost use Rattle.std.specs.Prelude.{◌≡◌, true, Err, IfErr, IfOk, IsErr, OnOk, map, slice_index};
+ghost use Rattle.std.specs.Prelude.{◌≡◌, ◌≤◌, ◌-◌, true, Err, IfErr, IfOk, IsErr, OnOk, drop, length, slice_index};
+ghost use Rattle.std.specs.Prelude.{All, IfSome, take};
+ghost use Rattle.std.specs.Io.KnownBytes.{Appends};
 ghost use Rattle.cell_output.specs.Watched.{IsSameWriter, bytes_held, has_refused};
 ghost use Rattle.cell_types.specs.Same.{axis_number};
 ghost use Rattle.cell_sim.specs.Spelled.{script_of};
-ghost use Rattle.cell_sweep.specs.Cases.{cases_of, in_motions, planned};
+ghost use Rattle.cell_sweep.specs.Batches.{AreMade, IsMade, cases_between, faults_made};
+ghost use Rattle.cell_sweep.specs.Cases.{cases_of, most_faults, motions_of, text_of};
 ghost use Rattle.cell_sweep.specs.declared.sweep.Stop.TheVariants as stop;
-ghost use Rattle.cell_sweep.specs.Rows.{Grows, IsNoRun, IsScript, RefusesServed, TellsServed};
+ghost use Rattle.cell_sweep.specs.Rows.{Grows, IsNoRun, IsScript, RefusesServed, RunsTo, TellsServed, csv_line, is_csv};
 ghost use Rattle.cell_sweep.specs.Sweeps.{AreCounts, EndsSo, RefusesSome, StopsSo, Sweeps, SweepsTexts, TellsCase};
-ghost use Rattle.cell_sweep.specs.Sweeps.{TellsCases, wanted};
+ghost use Rattle.cell_sweep.specs.Sweeps.{TellsCases, wanted, wanted_by};
 
-use crate::cases::script_of;
-use crate::print::{Ends, counts_text, head_of, line_of};
+use crate::batch::{Made, Stretch, batch_of, make_stretches};
+use crate::cases::text_of;
+use crate::choice::{Choice, Part};
+use crate::form::Form;
+use crate::places::{Places, Span, span_of};
+use crate::print::{Ends, Layout, end_text, head_of, line_of};
 use crate::row::{Row, row_of};
-use crate::runs::{NoRun, run_alone};
+use crate::runs::{NoRun, Ran, run_alone};
 use crate::service::serve;
 use crate::texts::{Faults, Settings};
+use cell_charts::Square;
 use cell_explain::endings::motions;
 use cell_measures::Durations;
 use cell_output::{WatchedWriter, WriteFault, status};
 use cell_runs::{InputError, Texts, read_inputs, refuse_input};
 use cell_sim::{Fault, FaultScript, PlannedFault};
-use cell_types::{AXES, Axis, axis_number};
 use std::alloc::{AllocError, Global};
 use std::io::Write;
+use std::thread::Threads;
 
 /// What a sweep goes through, and how it is told.
 #[derive(Clone, Copy, Debug)]
@@ -31,12 +39,18 @@ pub struct Sweep<'a> {
     pub kinds: &'a [Fault],
     /// How many motions of each axis; where none is given, as many as each has in the run without faults.
     pub motions: Option<u32>,
+    /// Which faults the runs have.
+    pub choice: Choice,
+    /// Which part of the runs is made.
+    pub part: Part,
     /// Whether the operator serves the machines besides doing what his script says.
     pub service: bool,
-    /// Whether the rows are written as CSV.
-    pub csv: bool,
+    /// How it is told.
+    pub form: Form,
     /// Whether it is told to the errors how far the sweep is.
     pub progress: bool,
+    /// How many threads make the runs; one does where it is 0. The same is written with any number.
+    pub threads: u32,
 }
 
 // Why a sweep breaks off.
@@ -82,21 +96,34 @@ impl From<AllocError> for Stop {
     }
 }
 
-// The texts of a sweep, and what it goes through.
+/// The texts of a sweep, and what it goes through.
 #[derive(Clone, Copy)]
-struct Task<'a> {
+pub(crate) struct Task<'a> {
     settings: &'a Settings<'a>,
     operator: &'a [u8],
-    sweep: Sweep<'a>,
+    pub(crate) sweep: Sweep<'a>,
 }
 
-// What is counted while a sweep goes on: its runs by their ends, and how many there will be.
+// What is kept while a sweep goes on: how many of its runs had each end, and how many runs there will be.
 #[derive(Drop)]
 struct Tally<'a, E> {
     ends: Ends,
     all: u64,
+    // What a chart shows.
+    squares: Vec<Square>,
     // Where it is told how many runs are done.
     errors: &'a mut E,
+}
+
+// How the rows of a sweep are told.
+fn layout_of(task: &Task<'_>) -> Layout
+    ensures choice { result.choice ≡ task.now.sweep.choice }
+    ensures form { result.form ≡ task.now.sweep.form }
+{
+    Layout {
+        choice: task.sweep.choice,
+        form: task.sweep.form,
+    }
 }
 
 // The operator's script by which a run with this script of faults goes.
@@ -125,50 +152,82 @@ fn read_faults<'a>(alloc: Global, task: &Task<'_>, text: &'a [u8]) -> Result<Fau
 }
 
 // The script with one fault, of which this is the text. It is read only where no record can say the fault.
-fn faults_of<'a>(
+fn fault_alone<'a>(
     alloc: Global,
     task: &Task<'_>,
-    planned: PlannedFault,
+    fault: PlannedFault,
     text: &'a [u8],
 ) -> Result<Faults<'a>, NoRun>
-    requires { text.now ≡ script_of planned }
-    ensures text { IfOk result (λ faults. faults.text.now ≡ text.now) }
+    requires { text.now ≡ script_of fault }
+    ensures text { IfOk result (λ read. read.text.now ≡ text.now) }
     ensures refused { IfErr result (IsNoRun (RefusesServed task.now.settings.now.text.now task.now.operator.now
         task.now.sweep.service text.now)) }
 {
-    match FaultScript::of_fault(alloc, planned)? {
+    match FaultScript::of_fault(alloc, fault)? {
         Some(script) => Ok(Faults { text, script }),
         None => read_faults(alloc, task, text),
     }
 }
 
-// What is told of the run with one fault.
-fn run_case(alloc: Global, task: &Task<'_>, planned: PlannedFault) -> Result<Row, NoRun>
-    ensures planned { IfOk result (λ row. row.planned ≡ planned) }
-    ensures told { IfOk result (λ row. TellsServed task.now.settings.now.text.now task.now.operator.now
-        task.now.sweep.service row) }
-    ensures refused { IfErr result (IsNoRun (RefusesSome task.now.settings.now.text.now task.now.operator.now
-        task.now.sweep.service)) }
+// The script with these faults, of which this is the text.
+fn faults_of<'a>(
+    alloc: Global,
+    task: &Task<'_>,
+    faults: &[PlannedFault],
+    text: &'a [u8],
+) -> Result<Faults<'a>, NoRun>
+    requires { text.now ≡ text_of faults.now }
+    ensures text { IfOk result (λ read. read.text.now ≡ text.now) }
+    ensures refused { IfErr result (IsNoRun (RefusesServed task.now.settings.now.text.now task.now.operator.now
+        task.now.sweep.service text.now)) }
 {
-    let script = script_of(alloc, planned)?;
-    let text = script.as_str().as_bytes();
-    let faults = match faults_of(alloc, task, planned, text) {
-        Ok(faults) => faults,
-        Err(why) => return Err(why),
-    };
-    let operator = script_for(alloc, task, &faults)?;
-    let ran = run_alone(alloc, task.settings, &faults, operator.as_slice())?;
-    let row = row_of(alloc, planned, &ran, text, operator.as_slice())?;
-    Ok(row)
+    match faults {
+        [fault] => fault_alone(alloc, task, *fault, text),
+        _ => read_faults(alloc, task, text),
+    }
 }
 
-// How many runs there are with a fault of each kind in each motion.
-fn count_all(counts: &[u32; 9], kinds: &[Fault]) -> u64 {
-    let mut motions = 0_u64;
-    for count in counts {
-        motions = motions.saturating_add(u64::from(*count));
-    }
-    motions.saturating_mul(kinds.len() as u64)
+// The run with this script of faults, and the operator's script by which it goes.
+fn run_served(alloc: Global, task: &Task<'_>, faults: &Faults<'_>) -> Result<(Ran, Vec<u8>), NoRun>
+    ensures script { IfOk result (λ served. IsScript task.now.sweep.service task.now.operator.now served.1.items) }
+    ensures ran { IfOk result (λ served. RunsTo task.now.settings.now.text.now faults.now.text.now served.1.items
+        served.0.plan served.0.outcome.book.entries served.0.outcome.end) }
+    ensures refused { IfErr result (IsNoRun (RefusesServed task.now.settings.now.text.now task.now.operator.now
+        task.now.sweep.service faults.now.text.now)) }
+{
+    let script = script_for(alloc, task, faults)?;
+    let ran = run_alone(alloc, task.settings, faults, script.as_slice())?;
+    Ok((ran, script))
+}
+
+/// What is told of the run with these faults: its row, and the line of it.
+pub(crate) fn run_case(
+    alloc: Global,
+    task: &Task<'_>,
+    faults: Vec<PlannedFault>,
+) -> Result<(Row, Vec<u8>), NoRun>
+    requires { length faults.items ≤ most_faults task.now.sweep.choice }
+    ensures told { IfOk result (λ told. TellsServed task.now.settings.now.text.now task.now.operator.now
+        task.now.sweep.service told.0) }
+    ensures faults { IfOk result (λ told. told.0.faults ≡ faults.items) }
+    ensures line { IfOk result (λ told. is_csv task.now.sweep.form ≡ true
+        → told.1.items ≡ csv_line task.now.sweep.choice told.0) }
+    ensures refused { IfErr result (IsNoRun (RefusesSome task.now.settings.now.text.now task.now.operator.now
+        task.now.sweep.choice task.now.sweep.service)) }
+{
+    let script = text_of(alloc, faults.as_slice())?;
+    let text = script.as_slice();
+    let read = match faults_of(alloc, task, faults.as_slice(), text) {
+        Ok(read) => read,
+        Err(why) => return Err(why),
+    };
+    let (ran, operator) = match run_served(alloc, task, &read) {
+        Ok(served) => served,
+        Err(why) => return Err(why),
+    };
+    let row = row_of(alloc, faults, &ran, text, operator.as_slice())?;
+    let line = line_of(alloc, layout_of(task), text, &row)?;
+    Ok((row, line))
 }
 
 // How many motions of each axis the sweep goes through.
@@ -176,7 +235,7 @@ fn counts_of(alloc: Global, task: &Task<'_>) -> Result<[u32; 9], NoRun>
     ensures counts { IfOk result (λ counts. AreCounts task.now.settings.now.text.now task.now.operator.now
         task.now.sweep.service task.now.sweep.motions (λ a. slice_index counts (axis_number a))) }
     ensures refused { IfErr result (IsNoRun (RefusesSome task.now.settings.now.text.now task.now.operator.now
-        task.now.sweep.service)) }
+        task.now.sweep.choice task.now.sweep.service)) }
 {
     if let Some(count) = task.sweep.motions {
         return Ok([count; 9]);
@@ -185,8 +244,10 @@ fn counts_of(alloc: Global, task: &Task<'_>) -> Result<[u32; 9], NoRun>
         Ok(faults) => faults,
         Err(why) => return Err(why),
     };
-    let operator = script_for(alloc, task, &faults)?;
-    let ran = run_alone(alloc, task.settings, &faults, operator.as_slice())?;
+    let (ran, _operator) = match run_served(alloc, task, &faults) {
+        Ok(served) => served,
+        Err(why) => return Err(why),
+    };
     Ok(motions(ran.outcome.book.journal(), 0))
 }
 
@@ -198,25 +259,42 @@ fn tell_progress<E: Write>(tally: &mut Tally<'_, E>) {
     let _ = tally.errors.flush();
 }
 
-// Writes what is told of the run with one fault, and counts it.
-fn write_case<W: Write, E: Write>(
-    alloc: Global,
+// Keeps what a chart shows of a run, if one is asked for.
+fn keep_square<E: Write>(
     task: &Task<'_>,
-    planned: PlannedFault,
+    row: &Row,
+    tally: &mut Tally<'_, E>,
+) -> Result<(), AllocError> {
+    if task.sweep.form != Form::Chart {
+        return Ok(());
+    }
+    if let [fault] = row.faults.as_slice() {
+        let square = Square {
+            fault: *fault,
+            end: row.end,
+        };
+        tally.squares.push(square)?;
+    }
+    Ok(())
+}
+
+// Writes the line of a run, and counts it.
+fn write_line<W: Write, E: Write>(
+    task: &Task<'_>,
+    row: &Row,
+    line: &[u8],
     writer: &mut WatchedWriter<'_, W>,
     tally: &mut Tally<'_, E>,
 ) -> Result<(), Stop>
     ensures writer { IsSameWriter writer.old writer.new }
-    ensures told { OnOk result (TellsCase task.now.settings.now.text.now task.now.operator.now
-        (wanted task.now.sweep.kinds.now task.now.sweep.motions task.now.sweep.service task.now.sweep.csv) planned
-        (bytes_held W.contents writer.old) (bytes_held W.contents writer.new)) }
+    ensures whole { OnOk result (Appends (bytes_held W.contents writer.old) (bytes_held W.contents writer.new)
+        line.now) }
     ensures part { IsErr result → Grows (bytes_held W.contents writer.old) (bytes_held W.contents writer.new) }
-    ensures stops { IfErr result (StopsSo task.now.settings.now.text.now task.now.operator.now task.now.sweep.service
-        (has_refused writer.new)) }
+    ensures stops { IfErr result (StopsSo task.now.settings.now.text.now task.now.operator.now task.now.sweep.choice
+        task.now.sweep.service (has_refused writer.new)) }
 {
-    let row = run_case(alloc, task, planned)?;
-    let line = line_of(alloc, task.sweep.csv, &row)?;
-    writer.write_bytes(line.as_slice())?;
+    keep_square(task, row, tally)?;
+    writer.write_bytes(line)?;
     tally.ends.add(row.end);
     if task.sweep.progress {
         tell_progress(tally);
@@ -224,108 +302,229 @@ fn write_case<W: Write, E: Write>(
     Ok(())
 }
 
-// Runs the cell with a fault of each kind in a motion of an axis, and writes what is told of each.
-fn write_kinds<W: Write, E: Write>(
+// Writes what is told of the run with these faults, and counts it.
+fn write_case<W: Write, E: Write>(
     alloc: Global,
     task: &Task<'_>,
-    axis: Axis,
-    motion: u32,
+    faults: Vec<PlannedFault>,
     writer: &mut WatchedWriter<'_, W>,
     tally: &mut Tally<'_, E>,
 ) -> Result<(), Stop>
+    requires { length faults.items ≤ most_faults task.now.sweep.choice }
     ensures writer { IsSameWriter writer.old writer.new }
-    ensures told { OnOk result (TellsCases task.now.settings.now.text.now task.now.operator.now
-        (wanted task.now.sweep.kinds.now task.now.sweep.motions task.now.sweep.service task.now.sweep.csv)
-        (map (planned axis motion) task.now.sweep.kinds.now)
+    ensures told { OnOk result (TellsCase task.now.settings.now.text.now task.now.operator.now
+        (wanted_by task.now.sweep) faults.items
         (bytes_held W.contents writer.old) (bytes_held W.contents writer.new)) }
     ensures part { IsErr result → Grows (bytes_held W.contents writer.old) (bytes_held W.contents writer.new) }
-    ensures stops { IfErr result (StopsSo task.now.settings.now.text.now task.now.operator.now task.now.sweep.service
-        (has_refused writer.new)) }
+    ensures stops { IfErr result (StopsSo task.now.settings.now.text.now task.now.operator.now task.now.sweep.choice
+        task.now.sweep.service (has_refused writer.new)) }
 {
-    for kind in task.sweep.kinds {
-        let planned = PlannedFault {
-            axis,
-            motion,
-            fault: *kind,
-        };
-        write_case(alloc, task, planned, writer, tally)?;
-    }
-    Ok(())
+    let (row, line) = run_case(alloc, task, faults)?;
+    write_line(task, &row, line.as_slice(), writer, tally)
 }
 
-// Runs the cell with the faults in each of so many motions of an axis.
-fn write_motions<W: Write, E: Write>(
-    alloc: Global,
-    task: &Task<'_>,
-    axis: Axis,
-    count: u32,
-    writer: &mut WatchedWriter<'_, W>,
-    tally: &mut Tally<'_, E>,
-) -> Result<(), Stop>
-    ensures writer { IsSameWriter writer.old writer.new }
-    ensures told { OnOk result (TellsCases task.now.settings.now.text.now task.now.operator.now
-        (wanted task.now.sweep.kinds.now task.now.sweep.motions task.now.sweep.service task.now.sweep.csv)
-        (in_motions task.now.sweep.kinds.now axis count)
-        (bytes_held W.contents writer.old) (bytes_held W.contents writer.new)) }
-    ensures part { IsErr result → Grows (bytes_held W.contents writer.old) (bytes_held W.contents writer.new) }
-    ensures stops { IfErr result (StopsSo task.now.settings.now.text.now task.now.operator.now task.now.sweep.service
-        (has_refused writer.new)) }
-{
-    for before in 0..count {
-        write_kinds(alloc, task, axis, before + 1, writer, tally)?;
-    }
-    Ok(())
-}
-
-// Runs the cell with each fault, by axes, of each by motions, and of each by kinds.
+// Runs the cell once with the faults of each place from one on, below another, and writes what is told of each.
 fn write_rows<W: Write, E: Write>(
     alloc: Global,
     task: &Task<'_>,
-    counts: &[u32; 9],
+    places: &Places<'_>,
+    span: Span,
     writer: &mut WatchedWriter<'_, W>,
     tally: &mut Tally<'_, E>,
 ) -> Result<(), Stop>
+    requires { span.end ≤ length (cases_of task.now.sweep.choice places.now.kinds.now (motions_of places.now.counts)) }
     ensures writer { IsSameWriter writer.old writer.new }
     ensures told { OnOk result (TellsCases task.now.settings.now.text.now task.now.operator.now
-        (wanted task.now.sweep.kinds.now task.now.sweep.motions task.now.sweep.service task.now.sweep.csv)
-        (cases_of (λ a. slice_index counts.now (axis_number a)) task.now.sweep.kinds.now)
+        (wanted_by task.now.sweep)
+        (take (span.end - span.begin) (drop span.begin (cases_of task.now.sweep.choice places.now.kinds.now
+        (motions_of places.now.counts))))
         (bytes_held W.contents writer.old) (bytes_held W.contents writer.new)) }
     ensures part { IsErr result → Grows (bytes_held W.contents writer.old) (bytes_held W.contents writer.new) }
-    ensures stops { IfErr result (StopsSo task.now.settings.now.text.now task.now.operator.now task.now.sweep.service
-        (has_refused writer.new)) }
+    ensures stops { IfErr result (StopsSo task.now.settings.now.text.now task.now.operator.now task.now.sweep.choice
+        task.now.sweep.service (has_refused writer.new)) }
 {
-    for axis in AXES {
-        let count = counts[axis_number(axis)];
-        write_motions(alloc, task, axis, count, writer, tally)?;
+    for place in span.begin..span.end {
+        let faults = places.case_at(alloc, task.sweep.choice, place)?;
+        write_case(alloc, task, faults, writer, tally)?;
     }
     Ok(())
 }
 
-// Writes what is told of a sweep.
-fn write_sweep<W: Write, E: Write>(
+// Writes what is made of some runs, and counts them.
+fn write_made<W: Write, E: Write>(
+    task: &Task<'_>,
+    made: &[Made],
+    writer: &mut WatchedWriter<'_, W>,
+    tally: &mut Tally<'_, E>,
+) -> Result<(), Stop>
+    requires { All (IsMade task.now.settings.now.text.now task.now.operator.now (wanted_by task.now.sweep)) made.now }
+    ensures writer { IsSameWriter writer.old writer.new }
+    ensures told { OnOk result (TellsCases task.now.settings.now.text.now task.now.operator.now
+        (wanted_by task.now.sweep) (faults_made made.now)
+        (bytes_held W.contents writer.old) (bytes_held W.contents writer.new)) }
+    ensures part { IsErr result → Grows (bytes_held W.contents writer.old) (bytes_held W.contents writer.new) }
+    ensures stops { IfErr result (StopsSo task.now.settings.now.text.now task.now.operator.now task.now.sweep.choice
+        task.now.sweep.service (has_refused writer.new)) }
+{
+    for one in made {
+        write_line(task, &one.row, one.line.as_slice(), writer, tally)?;
+    }
+    Ok(())
+}
+
+// Writes what is made of a stretch. Where a run of it wasn't made, its runs are made again, up to that one.
+fn write_stretch<W: Write, E: Write>(
     alloc: Global,
+    task: &Task<'_>,
+    places: &Places<'_>,
+    stretch: &Stretch,
+    writer: &mut WatchedWriter<'_, W>,
+    tally: &mut Tally<'_, E>,
+) -> Result<(), Stop>
+    requires inside { stretch.now.span.end ≤ length (cases_of task.now.sweep.choice places.now.kinds.now
+        (motions_of places.now.counts)) }
+    requires made { IfSome stretch.now.made (λ made. AreMade task.now.settings.now.text.now task.now.operator.now
+        (wanted_by task.now.sweep) (cases_between (cases_of task.now.sweep.choice places.now.kinds.now
+        (motions_of places.now.counts)) stretch.now.span.begin stretch.now.span.end) made.items) }
+    ensures writer { IsSameWriter writer.old writer.new }
+    ensures told { OnOk result (TellsCases task.now.settings.now.text.now task.now.operator.now
+        (wanted_by task.now.sweep)
+        (take (stretch.now.span.end - stretch.now.span.begin) (drop stretch.now.span.begin
+        (cases_of task.now.sweep.choice places.now.kinds.now (motions_of places.now.counts))))
+        (bytes_held W.contents writer.old) (bytes_held W.contents writer.new)) }
+    ensures part { IsErr result → Grows (bytes_held W.contents writer.old) (bytes_held W.contents writer.new) }
+    ensures stops { IfErr result (StopsSo task.now.settings.now.text.now task.now.operator.now task.now.sweep.choice
+        task.now.sweep.service (has_refused writer.new)) }
+{
+    match &stretch.made {
+        Some(made) => write_made(task, made.as_slice(), writer, tally),
+        None => write_rows(alloc, task, places, stretch.span, writer, tally),
+    }
+}
+
+// Makes the runs at some places by threads, a stretch by each, and writes what is told of them in their order.
+fn write_batch<R: AllocGlobal + Threads + Sync, W: Write, E: Write>(
+    rt: &R,
+    task: &Task<'_>,
+    places: &Places<'_>,
+    span: Span,
+    writer: &mut WatchedWriter<'_, W>,
+    tally: &mut Tally<'_, E>,
+) -> Result<(), Stop>
+    requires order { span.begin ≤ span.end }
+    requires inside { span.end ≤ length (cases_of task.now.sweep.choice places.now.kinds.now
+        (motions_of places.now.counts)) }
+    ensures writer { IsSameWriter writer.old writer.new }
+    ensures told { OnOk result (TellsCases task.now.settings.now.text.now task.now.operator.now
+        (wanted_by task.now.sweep)
+        (take (span.end - span.begin) (drop span.begin (cases_of task.now.sweep.choice places.now.kinds.now
+        (motions_of places.now.counts))))
+        (bytes_held W.contents writer.old) (bytes_held W.contents writer.new)) }
+    ensures part { IsErr result → Grows (bytes_held W.contents writer.old) (bytes_held W.contents writer.new) }
+    ensures stops { IfErr result (StopsSo task.now.settings.now.text.now task.now.operator.now task.now.sweep.choice
+        task.now.sweep.service (has_refused writer.new)) }
+{
+    let alloc = rt.alloc();
+    let stretches = make_stretches(rt, alloc, task, places, span)?;
+    for stretch in &stretches {
+        write_stretch(alloc, task, places, stretch, writer, tally)?;
+    }
+    Ok(())
+}
+
+// The same, a batch after another, so that few runs are kept at a time.
+fn write_batches<R: AllocGlobal + Threads + Sync, W: Write, E: Write>(
+    rt: &R,
+    task: &Task<'_>,
+    places: &Places<'_>,
+    span: Span,
+    writer: &mut WatchedWriter<'_, W>,
+    tally: &mut Tally<'_, E>,
+) -> Result<(), Stop>
+    requires { span.end ≤ length (cases_of task.now.sweep.choice places.now.kinds.now (motions_of places.now.counts)) }
+    ensures writer { IsSameWriter writer.old writer.new }
+    ensures told { OnOk result (TellsCases task.now.settings.now.text.now task.now.operator.now
+        (wanted_by task.now.sweep)
+        (take (span.end - span.begin) (drop span.begin (cases_of task.now.sweep.choice places.now.kinds.now
+        (motions_of places.now.counts))))
+        (bytes_held W.contents writer.old) (bytes_held W.contents writer.new)) }
+    ensures part { IsErr result → Grows (bytes_held W.contents writer.old) (bytes_held W.contents writer.new) }
+    ensures stops { IfErr result (StopsSo task.now.settings.now.text.now task.now.operator.now task.now.sweep.choice
+        task.now.sweep.service (has_refused writer.new)) }
+{
+    let size = batch_of(task.sweep.threads);
+    let mut begin = span.begin;
+    while begin < span.end {
+        let end = begin.saturating_add(size).min(span.end);
+        write_batch(rt, task, places, Span { begin, end }, writer, tally)?;
+        begin = end;
+    }
+    Ok(())
+}
+
+// Makes the runs at some places, by one thread or by more, and writes what is told of each.
+fn write_part<R: AllocGlobal + Threads + Sync, W: Write, E: Write>(
+    rt: &R,
+    task: &Task<'_>,
+    places: &Places<'_>,
+    span: Span,
+    writer: &mut WatchedWriter<'_, W>,
+    tally: &mut Tally<'_, E>,
+) -> Result<(), Stop>
+    requires { span.end ≤ length (cases_of task.now.sweep.choice places.now.kinds.now (motions_of places.now.counts)) }
+    ensures writer { IsSameWriter writer.old writer.new }
+    ensures told { OnOk result (TellsCases task.now.settings.now.text.now task.now.operator.now
+        (wanted_by task.now.sweep)
+        (take (span.end - span.begin) (drop span.begin (cases_of task.now.sweep.choice places.now.kinds.now
+        (motions_of places.now.counts))))
+        (bytes_held W.contents writer.old) (bytes_held W.contents writer.new)) }
+    ensures part { IsErr result → Grows (bytes_held W.contents writer.old) (bytes_held W.contents writer.new) }
+    ensures stops { IfErr result (StopsSo task.now.settings.now.text.now task.now.operator.now task.now.sweep.choice
+        task.now.sweep.service (has_refused writer.new)) }
+{
+    if task.sweep.threads > 1 {
+        write_batches(rt, task, places, span, writer, tally)
+    } else {
+        write_rows(rt.alloc(), task, places, span, writer, tally)
+    }
+}
+
+// Writes what is told of a sweep.
+fn write_sweep<R: AllocGlobal + Threads + Sync, W: Write, E: Write>(
+    rt: &R,
     task: &Task<'_>,
     writer: &mut WatchedWriter<'_, W>,
     errors: &mut E,
 ) -> Result<(), Stop>
     ensures writer { IsSameWriter writer.old writer.new }
     ensures told { OnOk result (Sweeps task.now.settings.now.text.now task.now.operator.now
-        (wanted task.now.sweep.kinds.now task.now.sweep.motions task.now.sweep.service task.now.sweep.csv)
+        (wanted_by task.now.sweep)
         (bytes_held W.contents writer.old) (bytes_held W.contents writer.new)) }
     ensures part { IsErr result → Grows (bytes_held W.contents writer.old) (bytes_held W.contents writer.new) }
-    ensures stops { IfErr result (StopsSo task.now.settings.now.text.now task.now.operator.now task.now.sweep.service
-        (has_refused writer.new)) }
+    ensures stops { IfErr result (StopsSo task.now.settings.now.text.now task.now.operator.now task.now.sweep.choice
+        task.now.sweep.service (has_refused writer.new)) }
 {
-    let csv = task.sweep.csv;
+    let alloc = rt.alloc();
+    let sweep = &task.sweep;
     let counts = counts_of(alloc, task)?;
+    let Some(places) = Places::new(counts, sweep.kinds) else {
+        return Err(Stop::NoRun(NoRun::OutOfMemory));
+    };
+    let Some(all) = places.count(sweep.choice) else {
+        return Err(Stop::NoRun(NoRun::OutOfMemory));
+    };
+    let span = span_of(sweep.part, all);
     let mut tally = Tally {
         ends: Ends::default(),
-        all: count_all(&counts, task.sweep.kinds),
+        all: span.end.saturating_sub(span.begin),
+        squares: Vec::new(alloc),
         errors,
     };
-    writer.write_bytes(head_of(csv).as_bytes())?;
-    write_rows(alloc, task, &counts, writer, &mut tally)?;
-    let text = counts_text(alloc, csv, tally.ends)?;
+    let head = head_of(sweep.choice, sweep.part, sweep.form);
+    writer.write_bytes(head.as_bytes())?;
+    write_part(rt, task, &places, span, writer, &mut tally)?;
+    let squares = tally.squares.as_slice();
+    let text = end_text(alloc, layout_of(task), sweep.kinds, tally.ends, squares)?;
     writer.write_bytes(text.as_slice())?;
     Ok(())
 }
@@ -349,15 +548,17 @@ fn end_sweep<W: Write>(
     }
 }
 
-/// Runs the simulated cell in rounds once for each fault of a sweep, alone, and writes a row of each run, and then,
-/// unless it is CSV, how many runs had each end; gives the exit status.
+/// Runs the simulated cell in rounds once for each run of a part of a sweep, each with its faults, and writes a row of
+/// each, and then, unless it is CSV, how many runs had each end, or in place of all that a chart; gives the exit
+/// status.
 ///
 /// The faults are those of each kind in each motion of each axis. The settings or the operator's script, where one is
 /// refused, are told as by `run_texts`, and nothing runs. Else the status is 0, however the runs end, or 4 where memory
-/// was refused, with the rows of the runs before. Where the operator's service makes the script too long, that is told
-/// behind these rows, with status 1. The writer notes whether a write of it was refused.
-pub fn sweep_texts<W: Write, E: Write>(
-    alloc: Global,
+/// was refused, or the whole sweep has 2^64 runs or more, with the rows of the runs before. Where the operator's
+/// service makes the script too long, that is told behind these rows, with status 1. The writer notes whether a write
+/// of it was refused.
+pub fn sweep_texts<R: AllocGlobal + Threads + Sync, W: Write, E: Write>(
+    rt: &R,
     settings: &[u8],
     operator: &[u8],
     sweep: Sweep<'_>,
@@ -365,16 +566,18 @@ pub fn sweep_texts<W: Write, E: Write>(
     errors: &mut E,
 ) -> Result<u8, WriteFault>
     ensures writer { IsSameWriter writer.old writer.new }
-    // What is written is of the first text that is refused, or of one run for each fault; or the status says that the
-    // sweep broke off.
+    // What is written is of the first text that is refused, or of one run for each case of the part; or the status says
+    // that the sweep broke off.
     ensures whole { IfOk result (SweepsTexts settings.now operator.now
-        (wanted sweep.entry.kinds.now sweep.entry.motions sweep.entry.service sweep.entry.csv)
+        (wanted sweep.entry.kinds.now sweep.entry.motions sweep.entry.choice sweep.entry.part sweep.entry.service
+        (is_csv sweep.entry.form))
         (bytes_held W.contents writer.old) (bytes_held W.contents writer.new)) }
     // Where the writer failed, what was written before only grew.
     ensures part { IsErr result → Grows (bytes_held W.contents writer.old) (bytes_held W.contents writer.new) }
     // It answers that the writer failed only where a write was refused.
     ensures fault { IsErr result → has_refused writer.new ≡ true }
 {
+    let alloc = rt.alloc();
     let texts = Texts {
         settings,
         faults: b"",
@@ -394,6 +597,6 @@ pub fn sweep_texts<W: Write, E: Write>(
         operator,
         sweep,
     };
-    let swept = write_sweep(alloc, &task, writer, errors);
+    let swept = write_sweep(rt, &task, writer, errors);
     end_sweep(writer, swept)
 }

@@ -1,5 +1,7 @@
-//! The tests of `cell_sweep`, in a module of its name.
+//! The tests of `cell_charts` and `cell_sweep`, each in the module of its crate.
 #![tactic(auto)]
 
+#[cfg(test)]
+mod charts;
 #[cfg(test)]
 mod sweep;

@@ -1,12 +1,13 @@
 //! What the tests share: sweeps of few runs, and the lines that they print.
 use cell_output::WatchedWriter;
 use cell_sim::Fault;
-use cell_sweep::{Sweep, sweep_texts};
+use cell_sweep::{Choice, Form, Part, Sweep, sweep_texts};
 use std::process::Abort;
 use std::test::Fail;
+use std::thread::Threads;
 
 /// What a sweep prints with this status, in CSV or as a table.
-pub(crate) fn printed<R: AllocGlobal + Abort>(
+pub(crate) fn printed<R: AllocGlobal + Abort + Threads + Sync>(
     rt: &R,
     texts: [&[u8]; 2],
     sweep: Sweep<'_>,
@@ -16,14 +17,7 @@ pub(crate) fn printed<R: AllocGlobal + Abort>(
     let mut output = Vec::new(rt.alloc());
     let mut errors = Vec::new(rt.alloc());
     let mut writer = WatchedWriter::new(&mut output);
-    let answer = sweep_texts(
-        rt.alloc(),
-        settings,
-        operator,
-        sweep,
-        &mut writer,
-        &mut errors,
-    );
+    let answer = sweep_texts(rt, settings, operator, sweep, &mut writer, &mut errors);
     assert!(rt; answer == Ok(status));
     assert!(rt; errors.is_empty() != sweep.progress);
     Ok(String::from_utf8(output).ok().ok_or("no text")?)
@@ -34,9 +28,12 @@ pub(crate) fn in_csv(kinds: &[Fault], motions: Option<u32>, service: bool) -> Sw
     Sweep {
         kinds,
         motions,
+        choice: Choice::Single,
+        part: Part::WHOLE,
         service,
-        csv: true,
+        form: Form::Csv,
         progress: false,
+        threads: 1,
     }
 }
 

@@ -3,11 +3,16 @@ use crate::sweep::sample::{field, in_csv, line_with, printed};
 use cell_sim::Fault;
 use std::process::Abort;
 use std::test::Fail;
+use std::thread::Threads;
 
 const KINDS: [Fault; 2] = [Fault::NoMotion, Fault::LosePlate];
 
 // The ends of the runs with a fault in the first motion of each axis all are this one.
-fn all_end<R: AllocGlobal + Abort>(rt: &R, operator: &[u8], service: bool) -> Result<bool, Fail> {
+fn all_end<R: AllocGlobal + Abort + Threads + Sync>(
+    rt: &R,
+    operator: &[u8],
+    service: bool,
+) -> Result<bool, Fail> {
     let sweep = in_csv(KINDS.as_slice(), Some(1), service);
     let text = printed(rt, [b"plates = 2\n", operator], sweep, 0)?;
     let mut rows = text.as_str().lines().skip(1);

@@ -3,7 +3,7 @@ use crate::sweep::sample::{field, in_csv, line_with, printed};
 use cell_output::{WatchedWriter, WriteFault};
 use cell_runs::run_texts;
 use cell_sim::Fault;
-use cell_sweep::{Sweep, sweep_texts};
+use cell_sweep::{Form, Sweep, sweep_texts};
 use std::process::Abort;
 use std::sync::Wait;
 use std::test::Fail;
@@ -92,7 +92,7 @@ fn rows_are_those_of_single_runs(rt: HostRuntime) -> Result<(), Fail> {
         &rt,
         [SETTINGS, b""],
         Sweep {
-            csv: false,
+            form: Form::Table,
             ..sweep
         },
         0,
@@ -139,7 +139,7 @@ fn a_long_sweep_begins_at_once(rt: HostRuntime) -> Result<(), Fail> {
     let mut output = FailingWriter::new(Vec::new(rt.alloc()), 350);
     let mut errors = Vec::new(rt.alloc());
     let mut writer = WatchedWriter::new(&mut output);
-    let answer = sweep_texts(rt.alloc(), SETTINGS, b"", longer, &mut writer, &mut errors);
+    let answer = sweep_texts(&rt, SETTINGS, b"", longer, &mut writer, &mut errors);
     assert!(rt; answer == Err(WriteFault));
     let written = output.inner().as_slice();
     assert!(rt; written.len() == 350 && due.as_str().as_bytes().starts_with(written));

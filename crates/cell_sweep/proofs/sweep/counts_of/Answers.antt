@@ -1,23 +1,22 @@
 -- The motions are counted in the journal of the run without faults
-use Rattle.std.proofs.Common.{◌∙◌, List, [], ap, inl, refl, subst, ℕ}
+use Rattle.std.proofs.Common.{◌∙◌, List, [], ap, arith, refl, subst, ℕ}
 use Rattle.cell_explain.specs.Missed.{motions_of}
 use Rattle.cell_journal.specs.Stored.{Stored}
 use Rattle.cell_sweep.specs.Rows.{RunsTo}
-use Rattle.cell_sweep.proofs.Steps.{counted-by-run, some_refused}
+use Rattle.cell_sweep.proofs.Steps.{counted-by-run, some_refused_by}
 use Rattle.cell_sweep.proofs.sweep.counts_of.Goals as goal
 
 pub returns-clause-counts : goal.returns-clause-counts
 returns-clause-counts c =
-    let ran = c.in_ok-ran.ran in
-    counted-by-run _ _ c.as_slice.result.now _ c.args.task.now.sweep.motions _ _ _ _ c.in_default.not-Some
-    (λ off. c.as_slice.ensures.value ∙ c.in_ok-operator.ensures.script off)
-    (subst (λ (fs : List ℕ). RunsTo c.args.task.now.settings.now.text.now fs c.as_slice.result.now ran.plan
-    ran.outcome.book.entries ran.outcome.end) c.in-Ok.ensures.text c.in_ok-ran.ensures.ran)
+    let ran = c.in-Ok-run_served.served.0 in
+    counted-by-run _ _ c.in-Ok-run_served.served.1.items _ c.args.task.now.sweep.motions _ _ _ _ c.in_default.not-Some
+    c.in-Ok-run_served.ensures.script
+    (subst (λ (fs : List ℕ). RunsTo c.args.task.now.settings.now.text.now fs c.in-Ok-run_served.served.1.items ran.plan
+    ran.outcome.book.entries ran.outcome.end) c.in-Ok.ensures.text c.in-Ok-run_served.ensures.ran)
     (λ a. c.motions.ensures a ∙ ap (λ (s : Stored). motions_of s.entries a) c.journal.ensures)
 
-pub returns-in_err-operator-clause-refused : goal.returns-in_err-operator-clause-refused
-returns-in_err-operator-clause-refused c =
-    let task = c.args.task.now in
-    some_refused c.from_residual.result task.settings.now.text.now task.operator.now c.in-Ok.faults.text.now []
-    task.sweep.service c.in_err-operator.field-0.0 (inl refl) c.in-Ok.ensures.text c.from_residual.ensures.1
-    c.in_err-operator.ensures.refused
+pub returns-in-Err-run_served-clause-refused : goal.returns-in-Err-run_served-clause-refused
+returns-in-Err-run_served-clause-refused c =
+    some_refused_by _ _ c.in-Ok.faults.text.now [] c.args.task.now.sweep.choice _ c.in-Err-run_served.why
+    ([], omega arith, refl) c.in-Ok.ensures.text
+    c.in-Err-run_served.ensures.refused

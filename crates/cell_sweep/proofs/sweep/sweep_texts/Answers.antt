@@ -19,4 +19,6 @@ returns-clause-part g c = λ failed. grows-twice _ _ _
 
 pub returns-clause-fault : goal.returns-clause-fault
 returns-clause-fault g c =
-    c.end_sweep.ensures.fault (blamed c.write_sweep-swept.result _ _ _ _ c.write_sweep-swept.ensures.stops)
+    c.end_sweep.ensures.fault
+    (blamed c.write_sweep-swept.result c.args.settings.now c.args.operator.now c.args.sweep.choice c.args.sweep.service
+    _ c.write_sweep-swept.ensures.stops)

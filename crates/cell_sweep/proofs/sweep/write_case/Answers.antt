@@ -1,15 +1,11 @@
--- The line that is written is the row's, and a part of it is some text too
-use Rattle.std.proofs.Common.{◌∙◌, refl}
-use Rattle.cell_sweep.proofs.Steps.{grew-part}
+-- The line that is written is the row's
+use Rattle.std.proofs.Common.{◌∙◌}
+use Rattle.cell_sweep.specs.Sweeps.{wanted_by}
+use Rattle.cell_sweep.proofs.Batches.{line-told}
 use Rattle.cell_sweep.proofs.sweep.write_case.Goals as goal
 
 pub returns-clause-told : goal.returns-clause-told
-returns-clause-told g c = (
-  c.in_ok-row.row,
-  c.in_ok-row.ensures.planned,
-  c.in_ok-row.ensures.told,
-  (_, c.in_ok-write_bytes.ensures.whole, λ is_csv. c.as_slice.ensures.value ∙ c.in_ok-line.ensures is_csv),
-)
-
-pub returns-in_err-write_bytes-clause-part : goal.returns-in_err-write_bytes-clause-part
-returns-in_err-write_bytes-clause-part g c = λ failed. grew-part _ _ _ (c.in_err-write_bytes.ensures.part refl)
+returns-clause-told g c =
+    line-told c.write_line.result _ _ (wanted_by c.args.task.now.sweep) c.in_ok-row.row c.args.faults.items
+    c.as_slice.result.now _ _ c.in_ok-row.ensures.faults c.in_ok-row.ensures.told
+    (λ is_csv. c.as_slice.ensures.value ∙ c.in_ok-row.ensures.line is_csv) c.write_line.ensures.whole

@@ -1,50 +1,48 @@
--- Where an axis can't be told, the lines of those before it stay written
-use Rattle.std.proofs.Common.{◌∙◌, get_or, refl}
-use Rattle.cell_types.specs.Same.{axis_number}
-use Rattle.cell_types.specs.declared.words.Axis.{Axis}
-use Rattle.cell_sweep.specs.Cases.{in_motions}
-use Rattle.cell_sweep.specs.Sweeps.{wanted}
-use Rattle.cell_sweep.proofs.Steps.{axes-all, axes-more, cases-grow, grows-twice, no-cases}
+-- Where a run can't be told, the lines of those before it stay written
+use Rattle.std.proofs.Common.{◌∙◌, arith, refl}
+use Rattle.cell_sweep.specs.Cases.{cases_of, motions_of}
+use Rattle.cell_sweep.specs.Sweeps.{wanted_by}
+use Rattle.cell_sweep.proofs.Steps.{cases-done, cases-grow, cases-more, grows-twice, no-cases-yet}
 use Rattle.cell_sweep.proofs.sweep.write_rows.Goals as goal
 
-pub loop-axis-init : goal.loop-axis-init
-loop-axis-init g c =
-    let sweep = c.args.task.now.sweep in
-    (refl, refl, no-cases _ _ (wanted sweep.kinds.now sweep.motions sweep.service sweep.csv) _)
+pub loop-place-init : goal.loop-place-init
+loop-place-init g c = (refl, omega arith, no-cases-yet _ _ (wanted_by c.args.task.now.sweep) _ c.args.span.begin _)
 
-pub loop-axis-preserved : goal.loop-axis-preserved
-loop-axis-preserved g c =
-    let (all, same, told) = c.loop-axis.invariant in
-    let sweep = c.args.task.now.sweep in
-    let next = rw (c.axis_number.ensures.value) at c.in_ok-write_motions.ensures.told in (
-      all,
-      c.in_ok-write_motions.ensures.writer ∙ same,
-      axes-more _ _ (wanted sweep.kinds.now sweep.motions sweep.service sweep.csv)
-          (λ (a : Axis). in_motions sweep.kinds.now a (get_or c.args.counts.now (axis_number a) 0)) _ _ _ _ _ _
-          c.loop-axis-test.true told next,
+pub loop-place-preserved : goal.loop-place-preserved
+loop-place-preserved g c =
+    let (same, short, told) = c.loop-place.invariant in
+    let places = c.args.places.now in
+    let cases = cases_of c.args.task.now.sweep.choice places.kinds.now (motions_of places.counts) in (
+      c.in_ok-write_case.ensures.writer ∙ same,
+      omega (arith, c.loop-place.auto.place, c.loop-place-test.true),
+      cases-more _ _ (wanted_by c.args.task.now.sweep) cases c.args.span.begin c.loop-place.place _ _ _ _
+          c.loop-place.auto.place
+          (omega (arith, c.loop-place-test.true, c.requires)) c.in_ok-faults.ensures.case told
+          c.in_ok-write_case.ensures.told,
     )
 
-pub returns-in_err-write_motions-clause-writer : goal.returns-in_err-write_motions-clause-writer
-returns-in_err-write_motions-clause-writer g c =
-    let (all, same, told) = c.loop-axis.invariant in
-    c.in_err-write_motions.ensures.writer ∙ same
+pub returns-in_err-faults-clause-writer : goal.returns-in_err-faults-clause-writer
+returns-in_err-faults-clause-writer g c = c.loop-place.invariant.0
 
-pub returns-in_err-write_motions-clause-part : goal.returns-in_err-write_motions-clause-part
-returns-in_err-write_motions-clause-part g c =
-    let (all, same, told) = c.loop-axis.invariant in
-    let sweep = c.args.task.now.sweep in
-    λ failed. grows-twice _ _ _ (cases-grow _ _ (wanted sweep.kinds.now sweep.motions sweep.service sweep.csv) _ _ _
-    told) (c.in_err-write_motions.ensures.part refl)
+pub returns-in_err-faults-clause-part : goal.returns-in_err-faults-clause-part
+returns-in_err-faults-clause-part g c =
+    let (same, short, told) = c.loop-place.invariant in
+    λ failed. cases-grow _ _ (wanted_by c.args.task.now.sweep) _ _ _ told
+
+pub returns-in_err-write_case-clause-writer : goal.returns-in_err-write_case-clause-writer
+returns-in_err-write_case-clause-writer g c = c.in_err-write_case.ensures.writer ∙ c.loop-place.invariant.0
+
+pub returns-in_err-write_case-clause-part : goal.returns-in_err-write_case-clause-part
+returns-in_err-write_case-clause-part g c =
+    let (same, short, told) = c.loop-place.invariant in
+    λ failed. grows-twice _ _ _ (cases-grow _ _ (wanted_by c.args.task.now.sweep) _ _ _ told)
+    (c.in_err-write_case.ensures.part refl)
 
 pub returns-clause-writer : goal.returns-clause-writer
-returns-clause-writer g c =
-    let (all, same, told) = c.loop-axis.invariant in
-    same
+returns-clause-writer g c = c.loop-place.invariant.0
 
 pub returns-clause-told : goal.returns-clause-told
 returns-clause-told g c =
-    let (all, same, told) = c.loop-axis.invariant in
-    let sweep = c.args.task.now.sweep in
-    axes-all _ _ (wanted sweep.kinds.now sweep.motions sweep.service sweep.csv)
-    (λ (a : Axis). in_motions sweep.kinds.now a (get_or c.args.counts.now (axis_number a) 0)) _ _ c.loop-axis.axis-index
-    _ _ all c.loop-axis-test.false told
+    let (same, short, told) = c.loop-place.invariant in
+    cases-done _ _ (wanted_by c.args.task.now.sweep) _ c.args.span.begin c.args.span.end c.loop-place.place _ _ short
+    c.loop-place-test.false told
