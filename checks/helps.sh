@@ -11,7 +11,7 @@ options() {
     "$cellctl" "$@" --help | awk '
         /^[^ ]/ { on = ($0 == "Options:") ; next }
         on && /^ +-/ {
-            value = match($0, /<[A-Z]+>/) ? " " substr($0, RSTART + 1, RLENGTH - 2) : ""
+            value = match($0, /<[A-Z\/]+>/) ? " " substr($0, RSTART + 1, RLENGTH - 2) : ""
             if (match($0, /--[a-z]+/)) print substr($0, RSTART, RLENGTH) value
             if (value && match($0, /-[a-z],/)) print substr($0, RSTART, RLENGTH - 1) value
         }'

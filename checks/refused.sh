@@ -344,6 +344,7 @@ text_lines() {
     $line answer_is_right 1 nothing explain --operator "$examples/press_fails.operator"
     $line measures_are_right 1 nothing measure --times "$times" "$whole" "$examples/refused.journal"
     $line answer_is_right 1 nothing measure --csv "$whole"
+    $line answer_is_right 1 nothing measure --svg "$whole"
     $line answer_is_right 1 nothing events --csv --times "$times" "$whole"
     $line answer_is_right 1 nothing events --trace "$whole"
     $line answer_is_right 1 nothing events --vcd "$whole"
@@ -379,10 +380,14 @@ run_lines() {
     $line answer_is_right 1 nothing sweep --kinds no_motion --motions 1 "${short[0]}" "${short[2]}"
     # (some 14,000 allocations)
     $line answer_is_right 7 nothing sweep --csv --service --kinds lose_plate --motions 1 "${short[0]}" "${short[2]}"
+    $line answer_is_right 1 nothing sweep --pairs --part 2/12 --threads 2 --kinds no_motion --motions 1 "${short[0]}" "${short[2]}"
+    $line answer_is_right 1 nothing sweep --random 3 --seed 7 --faults 2 --kinds no_motion --motions 1 "${short[0]}" "${short[2]}"
+    $line answer_is_right 1 nothing sweep --svg --kinds no_motion --motions 1 "${short[0]}" "${short[2]}"
     $line answer_is_right 1 nothing explore 0
     # (some 7,000 allocations)
     $line answer_is_right 101 nothing explore --fail robot --journal 1
     $line answer_is_right 11 nothing explore --fail robot --repair --limit 50 1
+    $line answer_is_right 11 nothing explore --threads 2 --limit 50 1
 }
 
 # The same of all commands, and of the help of each, which the table of commands gives.

@@ -191,7 +191,7 @@ odd_names() {
 # Each command with a stack of 512 KB.
 small_stack() {
     printf 'profile,1,,\n' > journal
-    for words in 'audit' 'migrate' 'show' 'show --svg' 'show --svg --animate journal' 'show --html' 'explain' 'explain --settings good' 'measure journal' \
+    for words in 'audit' 'migrate' 'show' 'show --svg' 'show --svg --animate journal' 'show --html' 'explain' 'explain --settings good' 'measure journal' 'measure --svg journal' \
         'events journal' 'events --trace journal' 'events --vcd journal' 'check good' 'sim --explain good none none' 'run good none none'; do
         # The words of a command are parted at blanks.
         # shellcheck disable=SC2086
@@ -221,7 +221,7 @@ unwritten() {
 outputs_that_fail() {
     printf 'profile,1,,\n' > journal
     for words in 'audit' 'migrate' 'show' 'show --svg' 'show --html' 'explain' 'explain --settings good' '--help' '--version' 'check good' \
-        'audit journal' 'migrate journal' 'show --file journal' 'show --svg --animate journal' 'explain journal' 'measure journal' 'measure --csv journal' 'events journal' 'events --trace journal' \
+        'audit journal' 'migrate journal' 'show --file journal' 'show --svg --animate journal' 'explain journal' 'measure journal' 'measure --csv journal' 'measure --svg journal' 'events journal' 'events --trace journal' \
         'events --vcd journal' 'sim good none none' 'sim --explain good none none' \
         'sim --journal good none none' 'sim --measures good none none' 'run good none none' 'run --journal good none none' 'run --measures good none none' \
         'drive good none none' 'drive --raw good none none' 'explore 1' 'explore --journal 1'; do
@@ -336,7 +336,7 @@ lone_options() {
     done
 }
 
-# Flags of events that ask for several forms. Nothing is printed.
+# Flags of events and of measure that ask for several forms. Nothing is printed.
 several_forms() {
     for words in '--csv --trace' '--csv --vcd' '--trace --vcd' '--csv --trace --vcd --times none'; do
         # The words of a command are parted at blanks.
@@ -345,6 +345,9 @@ several_forms() {
         ended "cellctl events $words" $? 2 'error: of --csv, --trace and --vcd one alone can be given'
         [ ! -s said ] || differs "cellctl events $words" 'nothing on standard output'
     done
+    "$cellctl" measure --csv --svg --times none legal > said 2> told < /dev/null
+    ended 'cellctl measure --csv --svg' $? 2 'error: of --csv and --svg one alone can be given'
+    [ ! -s said ] || differs 'cellctl measure --csv --svg' 'nothing on standard output'
 }
 
 # Words for the states of a page that ask for none, and why. Nothing is printed.
@@ -399,6 +402,7 @@ END
 # Words of explore that ask nothing, and why. Nothing is printed.
 wrong_questions() {
     local numbers='error: STATES is a whole number from 1 to 4294967295'
+    local threads='error: --threads is a whole number from 1 to 64'
     local machines='error: MACHINE is feed, table, robot, press1, press2 or deposit, and not'
     while IFS='|' read -r words why; do
         # The words of a command are parted at blanks.
@@ -414,8 +418,56 @@ one|error: PLATES is a whole number from 0 to 15
 --limit 0 1|$numbers
 --limit 4294967296 1|$numbers
 --limit 1e6 1|$numbers
+--threads 0 1|$threads
+--threads 65 1|$threads
+--threads=-1 1|$threads
 --fail brew 1|$machines 'brew'
 --fail robot --fail Robot --fail brew 1|$machines 'Robot'
+END
+}
+
+# Words of sweep that don't go together or ask for nothing, and why. Nothing is printed.
+wrong_sweeps() {
+    local threads='error: --threads is a whole number from 1 to 64'
+    local motions='error: N is a whole number from 1 to 1000000'
+    local random='error: --random is a whole number from 1 to 1000000'
+    local picture='error: --svg goes with neither --csv, --pairs, --random nor --part'
+    local part='error: --part is K/N, two whole numbers of which K is 1 to N and N 1 to 1000000'
+    while IFS='|' read -r words why; do
+        # The words of a command are parted at blanks.
+        # shellcheck disable=SC2086
+        "$cellctl" sweep $words good none > said 2> told < /dev/null
+        ended "cellctl sweep $words" $? 2 "$why"
+        [ ! -s said ] || differs "cellctl sweep $words" 'nothing on standard output'
+    done << END
+--kinds both,brew|error: word 2 of LIST is no kind of fault
+--motions 0|$motions
+--motions +1|$motions
+--motions 1000001|$motions
+--pairs --random 1|error: of --pairs and --random one alone can be given
+--seed 1|error: --seed goes with --random
+--pairs --seed 1|error: --seed goes with --random
+--faults 1|error: --faults goes with --random
+--random 0|$random
+--random 1000001|$random
+--random one|$random
+--random 1 --faults 0|error: --faults is a whole number from 1 to 100
+--random 1 --faults 101|error: --faults is a whole number from 1 to 100
+--random 1 --seed one|error: --seed is a whole number from 0 to 4294967295
+--random 1 --seed 4294967296|error: --seed is a whole number from 0 to 4294967295
+--part 1|$part
+--part /|$part
+--part 1/0|$part
+--part 0/1|$part
+--part 3/2|$part
+--part 1/2/2|$part
+--part 1/1000001|$part
+--threads 0|$threads
+--threads 65|$threads
+--svg --csv|$picture
+--svg --pairs|$picture
+--svg --random 1|$picture
+--svg --part 1/1|$picture
 END
 }
 
@@ -433,6 +485,7 @@ lone_options
 several_forms
 wrong_windows
 wrong_questions
+wrong_sweeps
 if [ ${#wrong[@]} = 0 ]; then
     echo 'hostile texts and outputs: all as due'
 else

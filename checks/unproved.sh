@@ -34,6 +34,8 @@ row "try --data 3/journal=@/journal -- show --file 3/journal 30" show --file jou
 row "try --data 3/times.toml=@/times.toml -- show --times 3/times.toml" show --times times.toml
 row "try --data 4/settings=@/settings -- sweep --kinds no_motion 4/settings /dev/null" sweep --kinds no_motion settings /dev/null
 row "try --data 4/settings=@/settings -- sweep --motions 30 4/settings /dev/null" sweep --motions 30 settings /dev/null
+row "try --data 8/settings=@/settings -- sweep --random 30 --faults 30 --part 30 8/settings /dev/null" \
+    sweep --random 30 --faults 30 --part 30 settings /dev/null
 row "try -- explore --fail feed --limit 30 30" explore --fail feed --limit 30 30
 row "try -- help show" help show
 row "try --data 3/times.toml=@/times.toml --data 4/settings=@/settings -- sim --times 3/times.toml 4/settings /dev/null /dev/null" \

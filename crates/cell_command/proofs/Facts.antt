@@ -6,9 +6,10 @@ use Rattle.clap.specs.Faults.{is_free_app}
 use Rattle.clap.specs.Words.{all_of, built, is_simple, is_simple_and_free, matched_of, raw_values, rows_of}
 use Rattle.clap.specs.declared.parser.matches.Found.{Found}
 use Rattle.clap.proofs.WalkLemmas.{raw_values-rows}
-use Rattle.cell_command.specs.Shape.{accompanied, cellctl, commands, control, events, explain, explore, file_rule}
-use Rattle.cell_command.specs.Shape.{flag_rule, flagged, in_rounds, journal_rule, measure, optional_rule, path_rule}
-use Rattle.cell_command.specs.Shape.{pictured, repeated_rule, scripted, several_rule, show, sweep, windowed}
+use Rattle.cell_command.specs.Shape.{accompanied, cellctl, commands, control, events, explain, explore, faulted}
+use Rattle.cell_command.specs.Shape.{file_rule, flag_rule, flagged, in_rounds, journal_rule, measure, optional_rule}
+use Rattle.cell_command.specs.Shape.{parted, path_rule, pictured, repeated_rule, scripted, several_rule, show, sweep}
+use Rattle.cell_command.specs.Shape.{windowed}
 
 abbrev pub both : {X A B : Type 0} → (X → A) → (X → B) → X → A × B
 both f g x = (f x, g x)
@@ -35,8 +36,8 @@ same-values found id texts values h same =
 
 -- the program's command line is one of which clap's definitions tell the faults and the matches
 pub cellctl-free : is_simple_and_free cellctl ≡ true
-unfolding accompanied commands control events explain explore file_rule flag_rule flagged in_rounds journal_rule measure
-    optional_rule path_rule pictured repeated_rule scripted several_rule show sweep windowed
+unfolding accompanied commands control events explain explore faulted file_rule flag_rule flagged in_rounds journal_rule
+    measure optional_rule parted path_rule pictured repeated_rule scripted several_rule show sweep windowed
 cellctl-free = refl
 
 pub cellctl-simple : is_simple cellctl ≡ true

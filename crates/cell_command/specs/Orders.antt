@@ -95,10 +95,11 @@ IsExplained rows e = HasValue rows (codes "file") e.journal
     × HasValue rows (codes "faults") e.faults
     × HasValue rows (codes "operator") e.operator
 
--- the file with the durations of motions, the flag of CSV, and the journals
+-- the file with the durations of motions, the flags of CSV and of a picture, and the journals
 abbrev pub IsMeasured : List Row → Measuring → Type 0
 IsMeasured rows m = HasValue rows (codes "times") m.times
     × HasFlag rows (codes "csv") m.csv
+    × HasFlag rows (codes "svg") m.svg
     × HasValues rows (codes "journals") m.journals.items
 
 -- the file with the durations of motions, the flags of the three forms, and the journal
@@ -109,21 +110,30 @@ IsListed rows l = HasValue rows (codes "times") l.times
     × HasFlag rows (codes "vcd") l.vcd
     × HasPath rows (codes "journal") l.journal.now
 
--- the kinds, the number of motions, the flags and the two files of a sweep
+-- the kinds, the number of motions, the flag of pairs, the numbers of faults that are drawn, the part, the number of
+-- threads, the flags and the two files of a sweep
 abbrev pub IsSwept : List Row → Sweeping → Type 0
 IsSwept rows s = HasValue rows (codes "kinds") s.kinds
     × HasValue rows (codes "motions") s.motions
+    × HasFlag rows (codes "pairs") s.pairs
+    × HasValue rows (codes "random") s.random
+    × HasValue rows (codes "seed") s.seed
+    × HasValue rows (codes "faults") s.faults
+    × HasValue rows (codes "part") s.part
+    × HasValue rows (codes "threads") s.threads
     × HasFlag rows (codes "service") s.service
     × HasFlag rows (codes "csv") s.csv
+    × HasFlag rows (codes "svg") s.svg
     × HasPath rows (codes "settings") s.settings.now
     × HasPath rows (codes "operator") s.operator.now
 
--- the machines that may fail, the flags, the limit and the number of plates of a search
+-- the machines that may fail, the flags, the limit, and the numbers of threads and of plates of a search
 abbrev pub IsExplored : List Row → Exploring → Type 0
 IsExplored rows e = HasAnyValues rows (codes "fail") e.failing.items
     × HasFlag rows (codes "repair") e.repairs
     × HasValue rows (codes "limit") e.limit
     × HasFlag rows (codes "journal") e.journal
+    × HasValue rows (codes "threads") e.threads
     × HasPath rows (codes "plates") e.plates.now
 
 -- the order of a command's name and what is matched below it

@@ -88,10 +88,11 @@ unfoldable pub explain : App
 explain = with_input (with_rules (new_app (codes "explain"))
     (file_rule (codes "settings") ∷ file_rule (codes "faults") ∷ file_rule (codes "operator") ∷ []))
 
--- the command that measures journals: the option with the durations of motions, the flag of CSV, and the journals
+-- the command that measures journals: the option with the durations of motions, the flags of CSV and of a picture, and
+-- the journals
 unfoldable pub measure : App
 measure = with_rules (new_app (codes "measure"))
-    (times_rule ∷ flag_rule (codes "csv") ∷ several_rule (codes "journals") ∷ [])
+    (times_rule ∷ flag_rule (codes "csv") ∷ flag_rule (codes "svg") ∷ several_rule (codes "journals") ∷ [])
 
 -- the command that tells the entries of a journal: the option with the durations of motions, the flags of its three
 -- forms, and the journal
@@ -121,19 +122,34 @@ in_rounds a = with_rules a (file_rule (codes "follow") ∷ file_rule (codes "fro
 abbrev pub sim : App
 sim = filed (in_rounds (flagged (new_app (codes "sim"))))
 
--- the command that runs the cell once for each fault: the options with the kinds and with how many motions, the flags
--- of the service and of CSV, and the paths of the settings and of the operator's script
+-- the option with the number of threads
+abbrev pub threads_rule : Rule
+threads_rule = file_rule (codes "threads")
+
+-- a command with the words for what a sweep goes through: the options with the kinds and with how many motions, the
+-- flag of pairs, and the options of faults that are drawn
+unfoldable pub faulted : App → App
+faulted a = with_rules a
+    (file_rule (codes "kinds") ∷ file_rule (codes "motions") ∷ flag_rule (codes "pairs") ∷ file_rule (codes "random")
+    ∷ file_rule (codes "seed") ∷ file_rule (codes "faults") ∷ [])
+
+-- a command with the options for a part of the work and for the number of threads
+unfoldable pub parted : App → App
+parted a = with_rules a (file_rule (codes "part") ∷ threads_rule ∷ [])
+
+-- the command that runs the cell once for each fault, with the flags of the service, of CSV and of a picture, and the
+-- paths of the settings and of the operator's script
 unfoldable pub sweep : App
-sweep = with_rules (new_app (codes "sweep"))
-    (file_rule (codes "kinds") ∷ file_rule (codes "motions") ∷ flag_rule (codes "service") ∷ flag_rule (codes "csv")
-    ∷ path_rule (codes "settings") ∷ path_rule (codes "operator") ∷ [])
+sweep = with_rules (parted (faulted (new_app (codes "sweep"))))
+    (flag_rule (codes "service") ∷ flag_rule (codes "csv") ∷ flag_rule (codes "svg") ∷ path_rule (codes "settings")
+    ∷ path_rule (codes "operator") ∷ [])
 
 -- the command that looks at every order of events: the machines that may fail, the flag of repairs, the limit, the flag
--- of the journal and the number of plates
+-- of the journal, and the numbers of threads and of plates
 unfoldable pub explore : App
 explore = with_rules (new_app (codes "explore"))
     (repeated_rule (codes "fail") ∷ flag_rule (codes "repair") ∷ file_rule (codes "limit") ∷ flag_rule (codes "journal")
-    ∷ path_rule (codes "plates") ∷ [])
+    ∷ threads_rule ∷ path_rule (codes "plates") ∷ [])
 
 -- the command by which a method drives the cell, with the flag for commands to the bare machines and the option for
 -- the file of a journal from which the run goes on

@@ -478,6 +478,8 @@ none is given:
   robot_turn = 3
   press_one.top = 6
 
+With --csv or --svg, one alone, it prints a line for each journal or a picture.
+
 A journal that isn't legal is told as audit tells it: alone on standard output,
 and where several are named on standard error, after its name.
 
@@ -529,13 +531,16 @@ pub(crate) const VCD_HELP: &str = "Print a value change dump, VCD";
 pub(crate) const LISTED_HELP: &str = "The file with the journal";
 
 pub(crate) const SWEEP: CommandTexts = CommandTexts {
-    about: "Run the simulated cell once for each single fault",
+    about: "Run the simulated cell once for each choice of faults",
     help: "\
-Runs the simulated cell on one thread once for each fault: each kind, in each
-motion of each axis, alone. Prints a line for each run: the axis, the motion,
-the kind, the run's end as sim tells it, how many plates were admitted, forged,
-quarantined and delivered, how long its events need at least, and the first line
-of what sim --explain says of its end; and then how many runs had each end.
+Runs the simulated cell in rounds once for each fault: each kind, in each
+motion of each axis, alone. With --pairs it runs once for each two of these
+faults in different motions, and with --random N times, each time with K of
+them, 1 to 100, that are drawn by the number S, 0 to 4294967295. Prints a line
+for each run: the axis, the motion and the kind of each fault, the run's end as
+sim tells it, how many plates were admitted, forged, quarantined and delivered,
+how long its events need at least, and the first line of what sim --explain
+says of its end; and then how many runs had each end.
 
 LIST has kinds of faults with commas between them; slow and silent may have a
 colon and a number of readings, and have 30 else. All kinds are taken where none
@@ -543,6 +548,13 @@ is given, and as many motions of each axis as it has without faults.
 
 With --service the operator does what OPERATOR says, and besides clears what is
 in a failed machine, repairs it and lays back each plate that can come back.
+
+With --part it makes the runs of the K-th of N equal parts alone, N being at
+most 1000000: the lines of all parts are those of all runs. With --threads so
+many threads make runs, and the same is printed.
+
+--seed and --faults go with --random, and --random not with --pairs; --svg goes
+with none of --csv, --pairs, --random and --part.
 
 On a terminal standard error tells how many runs are done.
 
@@ -574,7 +586,8 @@ Or says that there are more than STATES states, 1 to 4294967295, by default
 2000000:
   more than 2000000 states
 With --journal prints in their place the shortest journal to a stuck state,
-or, if there is none, to the end.
+or, if there is none, to the end. With --threads so many threads look at
+states, and the same is printed.
 
 On a terminal standard error tells how many states were looked at.
 
@@ -596,6 +609,18 @@ pub(crate) const PLATES_HELP: &str = "How many plates are laid in";
 pub(crate) const KINDS_HELP: &str = "The kinds of faults, with commas between them";
 
 pub(crate) const MOTIONS_HELP: &str = "How many motions of each axis to go through";
+
+pub(crate) const PAIRS_HELP: &str = "Make a run for each pair of faults";
+
+pub(crate) const RANDOM_HELP: &str = "Make so many runs, with faults that are drawn";
+
+pub(crate) const SEED_HELP: &str = "The number by which faults are drawn: by default 1";
+
+pub(crate) const DRAWN_HELP: &str = "How many faults are drawn for each run: by default 2";
+
+pub(crate) const PART_HELP: &str = "Make the runs of part K of N alone";
+
+pub(crate) const THREADS_HELP: &str = "How many threads to use, 1 to 64: by default 1";
 
 pub(crate) const SERVICE_HELP: &str = "Let the operator serve failed machines besides";
 

@@ -91,12 +91,13 @@ pub struct Explaining<'a> {
     pub operator: Option<&'a str>,
 }
 
-/// The journals that are to be measured, the file with the durations of motions, and whether the measures are told in
-/// CSV.
+/// The journals that are to be measured, the file with the durations of motions, and the forms that are asked for: CSV,
+/// a picture. Without one the measures are told in a table.
 #[derive(Debug, Drop, PartialEq, Eq)]
 pub struct Measuring<'a> {
     pub times: Option<&'a str>,
     pub csv: bool,
+    pub svg: bool,
     pub journals: Vec<&'a str>,
 }
 
@@ -111,27 +112,37 @@ pub struct Listing<'a> {
     pub journal: &'a str,
 }
 
-/// What a sweep goes through: the kinds of faults and how many motions, as they are written, whether the operator
-/// serves failed machines, whether its runs are told in CSV, and where its files are.
+/// What a sweep goes through: the kinds of faults and how many motions, whether each run has two faults, how many runs
+/// have faults that are drawn, by which number and how many each, which part of the runs is made, and on how many
+/// threads, all numbers as they are written; whether the operator serves failed machines, whether its runs are told in
+/// CSV or in a picture, and where its files are.
 #[derive(Clone, Copy, Debug, PartialEq, Eq)]
 pub struct Sweeping<'a> {
     pub kinds: Option<&'a str>,
     pub motions: Option<&'a str>,
+    pub pairs: bool,
+    pub random: Option<&'a str>,
+    pub seed: Option<&'a str>,
+    pub faults: Option<&'a str>,
+    pub part: Option<&'a str>,
+    pub threads: Option<&'a str>,
     pub service: bool,
     pub csv: bool,
+    pub svg: bool,
     pub settings: &'a str,
     pub operator: &'a str,
 }
 
 /// What is asked of every order of events: the machines that may fail, whether the operator repairs, how many states
-/// may be seen, as it is written, whether a journal is printed besides, and how many plates are laid in, as it is
-/// written.
+/// may be seen, whether a journal is printed besides, how many threads look at states, and how many plates are laid in,
+/// all numbers as they are written.
 #[derive(Debug, Drop, PartialEq, Eq)]
 pub struct Exploring<'a> {
     pub failing: Vec<&'a str>,
     pub repairs: bool,
     pub limit: Option<&'a str>,
     pub journal: bool,
+    pub threads: Option<&'a str>,
     pub plates: &'a str,
 }
 
@@ -305,9 +316,11 @@ fn values<'a>(alloc: Global, matches: &ArgMatches<'a>, id: &str) -> Option<Vec<&
 fn measure_words<'a>(alloc: Global, matches: &ArgMatches<'a>) -> Option<Measuring<'a>>
     ensures { IfSome result (IsMeasured (rows_of (found_of matches.now))) }
 {
+    let svg = flag(matches, "svg");
     Some(Measuring {
         times: value(matches, "times"),
         csv: flag(matches, "csv"),
+        svg,
         journals: values(alloc, matches, "journals")?,
     })
 }
@@ -340,11 +353,19 @@ fn three_paths<'a>(matches: &ArgMatches<'a>) -> Option<Paths<'a>>
 fn sweep_words<'a>(matches: &ArgMatches<'a>) -> Option<Sweeping<'a>>
     ensures { IfSome result (IsSwept (rows_of (found_of matches.now))) }
 {
+    let faults = value(matches, "faults");
     Some(Sweeping {
         kinds: value(matches, "kinds"),
         motions: value(matches, "motions"),
+        pairs: flag(matches, "pairs"),
+        random: value(matches, "random"),
+        seed: value(matches, "seed"),
+        faults,
+        part: value(matches, "part"),
+        threads: value(matches, "threads"),
         service: flag(matches, "service"),
         csv: flag(matches, "csv"),
+        svg: flag(matches, "svg"),
         settings: value(matches, "settings")?,
         operator: value(matches, "operator")?,
     })
@@ -367,11 +388,13 @@ fn explore_words<'a>(alloc: Global, matches: &ArgMatches<'a>) -> Option<Explorin
     let failing = any_values(alloc, matches, "fail")?;
     let plates = value(matches, "plates")?;
     let journal = flag(matches, "journal");
+    let threads = value(matches, "threads");
     Some(Exploring {
         failing,
         repairs: flag(matches, "repair"),
         limit: value(matches, "limit"),
         journal,
+        threads,
         plates,
     })
 }

@@ -1,12 +1,13 @@
 //! The program's commands and their arguments, in the order of its help.
 use crate::help::{
     AHEAD_HELP, ANIMATE_HELP, AUDIT, BESIDE_HELP, CHECK, CONTROL, CONTROL_USAGE, COUNT_HELP,
-    CSV_HELP, CommandTexts, DRIVE, ENTRY_HELP, EVENTS, EVENTS_USAGE, EXPLAIN, EXPLAIN_USAGE,
-    EXPLORE, FAULTS_HELP, FILE_HELP, FOLLOW_HELP, FROM_HELP, HTML_HELP, JOURNAL_HELP, KINDS_HELP,
-    LEAST_HELP, LIMIT_HELP, LISTED_HELP, MEASURE, MEASURES_HELP, MIGRATE, MOTIONS_HELP,
-    OPERATOR_HELP, PLATES_HELP, RAW_HELP, REPAIR_HELP, RESUME_HELP, ROWS_HELP, RUN, RUNS_HELP,
-    SERVICE_HELP, SETTINGS_HELP, SHOW, SHOW_USAGE, SIM, STATES_HELP, SVG_HELP, SWEEP, SYNC_HELP,
-    TIMES_HELP, TRACE_HELP, UNICODE_HELP, VCD_HELP, WAIT_HELP, WAY_HELP, WHY_HELP,
+    CSV_HELP, CommandTexts, DRAWN_HELP, DRIVE, ENTRY_HELP, EVENTS, EVENTS_USAGE, EXPLAIN,
+    EXPLAIN_USAGE, EXPLORE, FAULTS_HELP, FILE_HELP, FOLLOW_HELP, FROM_HELP, HTML_HELP,
+    JOURNAL_HELP, KINDS_HELP, LEAST_HELP, LIMIT_HELP, LISTED_HELP, MEASURE, MEASURES_HELP, MIGRATE,
+    MOTIONS_HELP, OPERATOR_HELP, PAIRS_HELP, PART_HELP, PLATES_HELP, RANDOM_HELP, RAW_HELP,
+    REPAIR_HELP, RESUME_HELP, ROWS_HELP, RUN, RUNS_HELP, SEED_HELP, SERVICE_HELP, SETTINGS_HELP,
+    SHOW, SHOW_USAGE, SIM, STATES_HELP, SVG_HELP, SWEEP, SYNC_HELP, THREADS_HELP, TIMES_HELP,
+    TRACE_HELP, UNICODE_HELP, VCD_HELP, WAIT_HELP, WAY_HELP, WHY_HELP,
 };
 
 /// An argument of a command: its id, the name of its value, if it takes one, and its help.
@@ -40,6 +41,12 @@ const FILE: Argument = Argument::Word("file", "FILE", FILE_HELP);
 
 // The file with the durations of motions.
 const TIMES: Argument = Argument::File("times", "FILE", TIMES_HELP);
+
+// Whether a picture is printed.
+const PICTURE: Argument = Argument::Flag("svg", SVG_HELP);
+
+// How many threads do the work.
+const THREADS: Argument = Argument::File("threads", "N", THREADS_HELP);
 
 // Whether the journal is printed alone, and whether the end is explained.
 const JOURNAL_ALONE: Argument = Argument::Flag("journal", JOURNAL_HELP);
@@ -75,7 +82,7 @@ pub(crate) const COMMANDS: [CommandWords; 13] = [
         texts: SHOW,
         usage: Some(SHOW_USAGE),
         arguments: &[
-            Argument::Flag("svg", SVG_HELP),
+            PICTURE,
             Argument::Flag("html", HTML_HELP),
             Argument::Flag("unicode", UNICODE_HELP),
             Argument::File("from", "N", STATES_HELP),
@@ -102,7 +109,12 @@ pub(crate) const COMMANDS: [CommandWords; 13] = [
         name: "measure",
         texts: MEASURE,
         usage: None,
-        arguments: &[TIMES, Argument::Flag("csv", CSV_HELP), Argument::Journals],
+        arguments: &[
+            TIMES,
+            Argument::Flag("csv", CSV_HELP),
+            PICTURE,
+            Argument::Journals,
+        ],
     },
     CommandWords {
         name: "events",
@@ -145,8 +157,15 @@ pub(crate) const COMMANDS: [CommandWords; 13] = [
         arguments: &[
             Argument::File("kinds", "LIST", KINDS_HELP),
             Argument::File("motions", "N", MOTIONS_HELP),
+            Argument::Flag("pairs", PAIRS_HELP),
+            Argument::File("random", "N", RANDOM_HELP),
+            Argument::File("seed", "S", SEED_HELP),
+            Argument::File("faults", "K", DRAWN_HELP),
+            Argument::File("part", "K/N", PART_HELP),
+            THREADS,
             Argument::Flag("service", SERVICE_HELP),
             Argument::Flag("csv", RUNS_HELP),
+            PICTURE,
             SETTINGS,
             OPERATOR,
         ],
@@ -160,6 +179,7 @@ pub(crate) const COMMANDS: [CommandWords; 13] = [
             Argument::Flag("repair", REPAIR_HELP),
             Argument::File("limit", "STATES", LIMIT_HELP),
             Argument::Flag("journal", WAY_HELP),
+            THREADS,
             Argument::Path("plates", "PLATES", PLATES_HELP),
         ],
     },

@@ -1,31 +1,13 @@
 -- What is asked of every order of events, by the words of its command
-use Rattle.std.specs.Prelude.{◌≡◌, ◌⊎◌, ◌≤◌, ℕ, Bool, true, false, is_some, List, Option, Some, None, map}
+use Rattle.std.specs.Prelude.{◌≡◌, ◌⊎◌, ℕ, Bool, true, false, is_some, List, map}
 use Rattle.std.specs.Borrow.{Bor}
 use Rattle.std.specs.List.{All, Contains, list_any}
 use Rattle.std.specs.Str.{bytes_eq}
 use Rattle.cell_types.specs.Texts.{all_machine, machine_named, machine_word}
 use Rattle.cell_types.specs.declared.words.Machine.{Machine}
-use Rattle.cell_command.specs.Counts.{IsNumber}
 use Rattle.cell_command.specs.declared.order.Exploring.{Exploring}
 use Rattle.cell_explore.specs.declared.question.Question.{Question}
-
--- a word writes a number from one to another
-abbrev pub IsNumberIn : ℕ → ℕ → List ℕ → ℕ → Type 0
-IsNumberIn least most word n = IsNumber word n × (least ≤ n) × (n ≤ most)
-
--- a word writes no number from one to another
-abbrev pub IsNoNumberIn : ℕ → ℕ → List ℕ → Type 0
-IsNoNumberIn least most word = (n : ℕ) → IsNumberIn least most word n → ⊥
-
--- how many states are seen at the most: as many as a word says, where one is given
-abbrev pub IsLimit : Option (Bor (List ℕ)) → ℕ → Type 0
-IsLimit None limit = limit ≡ 2000000
-IsLimit (Some word) limit = IsNumberIn 1 4294967295 word.now limit
-
--- a word is given, and writes no such number
-abbrev pub IsNoLimit : Option (Bor (List ℕ)) → Type 0
-IsNoLimit None = ⊥
-IsNoLimit (Some word) = IsNoNumberIn 1 4294967295 word.now
+use Rattle.cell_orders.specs.Numbers.{IsNoNumberIn, IsNumberIn, IsNumberOr, IsOutside}
 
 -- a word names a machine
 abbrev pub names_machine : List ℕ → Bool
@@ -47,14 +29,16 @@ is_named words machine = list_any (λ w. bytes_eq w.now (machine_word machine)) 
 abbrev pub named : List (Bor (List ℕ)) → List Bool
 named words = map (is_named words) all_machine
 
--- the words ask this question, with as many states at the most
+-- the words ask this question, with as many states at the most, and of some number of threads
 pub record Asks (e : Exploring) (q : Question) (limit : ℕ) : Type 0 where
   pub plates : IsNumberIn 0 15 e.plates.now q.plan
   pub machines : AreMachines e.failing.items
   pub failing : q.may_fail ≡ named e.failing.items
   pub repairs : q.repairs ≡ e.repairs
-  pub limited : IsLimit e.limit limit
+  pub limited : IsNumberOr 2000000 1 4294967295 e.limit limit
+  pub threaded : (threads : ℕ) × IsNumberOr 1 1 64 e.threads threads
 
 -- the words ask no question: one of them is no such number, or no machine's
 abbrev pub AsksNothing : Exploring → Type 0
-AsksNothing e = IsNoNumberIn 0 15 e.plates.now ⊎ (IsNoLimit e.limit ⊎ HasNoMachine e.failing.items)
+AsksNothing e = IsNoNumberIn 0 15 e.plates.now ⊎ (IsOutside 1 4294967295 e.limit ⊎ (IsOutside 1 64 e.threads
+    ⊎ HasNoMachine e.failing.items))

@@ -4,6 +4,7 @@ pub mod Explains
 pub mod Explores
 pub mod Listed
 pub mod Measured
+pub mod Numbers
 pub mod Shows
 pub mod Texts
 pub mod Windows

@@ -5,7 +5,7 @@ use Rattle.cell_command.specs.Counts.{IsNumber}
 use Rattle.cell_show.specs.declared.page.window.Window.{Window}
 use Rattle.cell_show.specs.declared.show.Form.{Form}
 use Rattle.cell_show.specs.declared.show.Form.TheVariants as form
-use Rattle.cell_orders.specs.Asked.{IsNoNumberIn, IsNumberIn}
+use Rattle.cell_orders.specs.Numbers.{IsNoNumberIn, IsNumberIn}
 use Rattle.cell_orders.specs.Texts.{IsGiven}
 
 -- a word that is no number

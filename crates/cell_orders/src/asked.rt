@@ -1,36 +1,22 @@
 //! What is asked of every order of events, by the words of its command.
 ghost use Rattle.std.specs.Prelude.{◌≡◌, IfNone, IfSome};
-ghost use Rattle.cell_orders.specs.Asked.{AreMachines, HasNoMachine, IsLimit, IsNoLimit, IsNoNumberIn, IsNumberIn};
-ghost use Rattle.cell_orders.specs.Asked.{is_named, named, names_machine};
+ghost use Rattle.cell_orders.specs.Asked.{AreMachines, HasNoMachine, is_named, named, names_machine};
+ghost use Rattle.cell_orders.specs.Numbers.{IsNumberOr, IsOutside};
 
-use cell_command::{Count, read_count};
+use crate::numbers::number_or;
 use cell_types::Machine;
 use cell_types::texts::{machine_word, read_machine};
 
 /// How many states are seen at the most, where no number is given.
 const USUAL_LIMIT: u32 = 2_000_000;
 
-/// The number from one to another that a word writes; `None` where it writes no such number.
-pub(crate) fn number_in(word: &str, least: u32, most: u32) -> Option<u32>
-    ensures known { IfSome result (IsNumberIn least most word.now) }
-    ensures wrong { IfNone result (IsNoNumberIn least most word.now) }
-{
-    match read_count(word) {
-        Some(Count::Number(number)) if least <= number && number <= most => Some(number),
-        _ => None,
-    }
-}
-
 /// How many states are seen at the most: as many as a word says, if there is one; `None` where it writes no such
 /// number.
 pub(crate) fn limit_of(word: Option<&str>) -> Option<u32>
-    ensures known { IfSome result (IsLimit word.entry) }
-    ensures wrong { IfNone result (IsNoLimit word.entry) }
+    ensures known { IfSome result (IsNumberOr 2000000 1 4294967295 word.entry) }
+    ensures wrong { IfNone result (IsOutside 1 4294967295 word.entry) }
 {
-    match word {
-        Some(word) => number_in(word, 1, u32::MAX),
-        None => Some(USUAL_LIMIT),
-    }
+    number_or(word, USUAL_LIMIT, 1, u32::MAX)
 }
 
 // Whether a word names a machine.

@@ -3,9 +3,10 @@ ghost use Rattle.cell_output.specs.Watched.{bytes_held};
 ghost use Rattle.cell_orders.specs.Commands.{IfTold};
 ghost use Rattle.cell_orders.specs.Explores.{ExploresWords};
 
-use crate::asked::{limit_of, named, number_in, stranger};
+use crate::asked::{limit_of, named, stranger};
 use crate::error::CommandError;
 use crate::mistaken::wrong;
+use crate::numbers::{WRONG_THREADS, number_in, threads_of};
 use crate::texts::told;
 use cell_command::{Escaped, Exploring};
 use cell_explore::{Asked, MOST_PLATES, ProgressLine, Question, explore_lines};
@@ -32,6 +33,9 @@ pub fn explore_words<'a, R: AllocGlobal + Threads + Sync, W: Write, E: Write>(
     let Some(limit) = limit_of(exploring.limit) else {
         return Ok(wrong(errors, "STATES is a whole number from 1 to 4294967295")?);
     };
+    let Some(threads) = threads_of(exploring.threads) else {
+        return Ok(wrong(errors, WRONG_THREADS)?);
+    };
     let failing = exploring.failing.as_slice();
     if let Some(word) = stranger(failing) {
         let word = Escaped(word);
@@ -49,7 +53,7 @@ pub fn explore_words<'a, R: AllocGlobal + Threads + Sync, W: Write, E: Write>(
         question,
         limit,
         journal: exploring.journal,
-        threads: 1,
+        threads,
     };
     let mut line = ProgressLine::new(errors, progress);
     told(explore_lines(rt, &asked, output, &mut line))

@@ -4,7 +4,7 @@ ghost use Rattle.cell_show.specs.Shown.{start_of};
 ghost use Rattle.cell_orders.specs.Windows.{AsksNoWindow, AsksWindow, BeginsAfter, HasNoWindow, HasWindow, IsNoCount};
 ghost use Rattle.cell_orders.specs.Windows.{IsNoNumber, ShowsUpTo};
 
-use crate::asked::number_in;
+use crate::numbers::number_in;
 use cell_command::{Count, read_count};
 use cell_show::Form;
 use cell_show::page::{MAX_PAGE_ENTRIES, Window};

@@ -26,8 +26,9 @@ use Rattle.cell_runs.specs.declared.texts.Mode.TheVariants as modes
 use Rattle.cell_runs.specs.RunsFrom.{TellsPartFrom, TellsRunFrom}
 use Rattle.cell_runs.specs.Told.{AreEntries, PartOfRefused, TellsFollowed, TellsPartFollowed, TellsRefused}
 use Rattle.cell_orders.specs.Listed.{ListsWords}
-use Rattle.cell_orders.specs.Measured.{MeasuresJournals}
-use Rattle.cellctl.specs.Swept.{AreKinds, AreMotions, HasNoKind, IsNoCount}
+use Rattle.cell_orders.specs.Measured.{MeasuresWords}
+use Rattle.cellctl.specs.Swept.{AreKinds, Asks, AsksNothing, HasNoKind}
+use Rattle.cellctl.specs.declared.asked.Asked.{Asked}
 use Rattle.cell_orders.specs.Texts.{Audits, ChecksSettings, IsGiven, IsWrong, MigratesText, OfText}
 use Rattle.cell_orders.specs.Texts.{TellsTimes, TellsTooLong}
 use Rattle.cell_orders.specs.Shows.{ShowsWords}
@@ -157,19 +158,23 @@ SweepsSome w old new written =
     ((settings : List ℕ) × (operator : List ℕ) × IfOk written (SweepsTexts settings operator w old new))
     ⊎ TellsTooLong old new written
 
--- the list or the number is wrong: a line among the errors says so, and nothing is printed
+-- the list or another word is wrong: a line among the errors says so, and nothing is printed
 abbrev pub IsMistaken : Sweeping → Option (List ℕ) → Option (List ℕ) → Option (List ℕ) → Option (List ℕ)
     → Result ℕ WriteFault → Type 0
 IsMistaken sweeping old new old_errors new_errors written =
-    (((number : ℕ) × HasNoKind sweeping.kinds number) ⊎ IsNoCount sweeping.motions)
+    (((number : ℕ) × HasNoKind sweeping.kinds number) ⊎ AsksNothing sweeping)
     × ((status : ℕ) × (written ≡ Ok status) × IsWrong old new old_errors new_errors status)
+
+-- what a sweep goes through, of these kinds and by what else the words ask for
+abbrev pub wanted_by : Sweeping → List Fault → Asked → Wanted
+wanted_by sweeping kinds asked = wanted kinds asked.motions asked.choice asked.part sweeping.service sweeping.csv
 
 -- what is written of a sweep for the words of its command
 abbrev pub SweepsFiles : Sweeping → Option (List ℕ) → Option (List ℕ) → Option (List ℕ) → Option (List ℕ)
     → Result ℕ WriteFault → Type 0
 SweepsFiles sweeping old new old_errors new_errors written =
-    ((kinds : List Fault) × (motions : Option ℕ) × AreKinds sweeping.kinds kinds × AreMotions sweeping.motions motions
-    × SweepsSome (wanted kinds motions sweeping.service sweeping.csv) old new written)
+    ((kinds : List Fault) × (asked : Asked) × AreKinds sweeping.kinds kinds × Asks sweeping asked
+    × SweepsSome (wanted_by sweeping kinds asked) old new written)
     ⊎ IsMistaken sweeping old new old_errors new_errors written
 
 -- what is written for an order, with what `input` has to read: to the output, which had `old`, and to the errors. A
@@ -185,7 +190,7 @@ CarriesOut (order.Show showing) input old new old_errors new_errors written =
 CarriesOut (order.Explain explaining) input old new old_errors new_errors written =
     IfOk written (Explains explaining input old new old_errors new_errors)
 CarriesOut (order.Measure measuring) input old new old_errors new_errors written =
-    IfOk written (MeasuresJournals measuring)
+    IfOk written (MeasuresWords measuring old new old_errors new_errors)
 CarriesOut (order.Events listing) input old new old_errors new_errors written =
     ListsWords listing old new old_errors new_errors written
 CarriesOut (order.Check path) input old new old_errors new_errors written =

@@ -2,6 +2,7 @@
 //! run's settings, and the runs of the simulated cell.
 #![tactic(auto)]
 
+mod asked;
 mod continued;
 mod control;
 mod driven;

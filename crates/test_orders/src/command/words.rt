@@ -17,7 +17,7 @@ const ORDERS: [&str; 7] = [
     "cellctl check settings.toml|Check(\"settings.toml\")",
 ];
 
-const REFUSED: [&str; 47] = [
+const REFUSED: [&str; 54] = [
     "cellctl brew|InvalidSubcommand",
     "cellctl run|MissingRequiredArgument",
     "cellctl sim|MissingRequiredArgument",
@@ -48,11 +48,18 @@ const REFUSED: [&str; 47] = [
     "cellctl events|MissingRequiredArgument",
     "cellctl events a b|UnknownArgument",
     "cellctl events --vcd --vcd a|ArgumentConflict",
+    "cellctl measure --svg --svg a|ArgumentConflict",
+    "cellctl sweep a|MissingRequiredArgument",
+    "cellctl sweep a b c|UnknownArgument",
+    "cellctl sweep a b --part|InvalidValue",
+    "cellctl sweep --pairs=2 a b|TooManyValues",
+    "cellctl sweep --seed 1 --seed 1 a b|ArgumentConflict",
     "cellctl explore|MissingRequiredArgument",
     "cellctl explore 1 2|UnknownArgument",
     "cellctl explore 1 --fail|InvalidValue",
     "cellctl explore --limit 1 --limit 2 1|ArgumentConflict",
     "cellctl explore --csv 1|UnknownArgument",
+    "cellctl explore 1 --threads|InvalidValue",
     "cellctl explore --help|DisplayHelp",
     "cellctl --help|DisplayHelp",
     "cellctl audit --help|DisplayHelp",
@@ -167,13 +174,36 @@ const EXPLAINED: [&str; 5] = [
         Explain(Explaining { journal: Some(\"b\"), settings: None, faults: None, operator: Some(\"a\") })",
 ];
 
-const MEASURED: [&str; 4] = [
-    "cellctl measure a|Measure(Measuring { times: None, csv: false, journals: [\"a\"] })",
-    "cellctl measure --csv a b a|Measure(Measuring { times: None, csv: true, journals: [\"a\", \"b\", \"a\"] })",
+const MEASURED: [&str; 5] = [
+    "cellctl measure a|Measure(Measuring { times: None, csv: false, svg: false, journals: [\"a\"] })",
+    "cellctl measure --csv a b a|\
+        Measure(Measuring { times: None, csv: true, svg: false, journals: [\"a\", \"b\", \"a\"] })",
     "cellctl measure a --times c.toml b|\
-        Measure(Measuring { times: Some(\"c.toml\"), csv: false, journals: [\"a\", \"b\"] })",
+        Measure(Measuring { times: Some(\"c.toml\"), csv: false, svg: false, journals: [\"a\", \"b\"] })",
     "cellctl measure --times=c.toml -- --csv|\
-        Measure(Measuring { times: Some(\"c.toml\"), csv: false, journals: [\"--csv\"] })",
+        Measure(Measuring { times: Some(\"c.toml\"), csv: false, svg: false, journals: [\"--csv\"] })",
+    "cellctl measure a --svg|Measure(Measuring { times: None, csv: false, svg: true, journals: [\"a\"] })",
+];
+
+const SWEPT: [&str; 6] = [
+    "cellctl sweep a b|Sweep(Sweeping { kinds: None, motions: None, pairs: false, random: None, seed: None, \
+        faults: None, part: None, threads: None, service: false, csv: false, svg: false, settings: \"a\", \
+        operator: \"b\" })",
+    "cellctl sweep --kinds both,slow:3 --motions 4 --service --csv a b|Sweep(Sweeping { kinds: \
+        Some(\"both,slow:3\"), motions: Some(\"4\"), pairs: false, random: None, seed: None, faults: None, \
+        part: None, threads: None, service: true, csv: true, svg: false, settings: \"a\", operator: \"b\" })",
+    "cellctl sweep --pairs --part 3/8 --threads 4 a b|Sweep(Sweeping { kinds: None, motions: None, pairs: true, \
+        random: None, seed: None, faults: None, part: Some(\"3/8\"), threads: Some(\"4\"), service: false, \
+        csv: false, svg: false, settings: \"a\", operator: \"b\" })",
+    "cellctl sweep a --random 500 --seed=7 b --faults 3|Sweep(Sweeping { kinds: None, motions: None, pairs: false, \
+        random: Some(\"500\"), seed: Some(\"7\"), faults: Some(\"3\"), part: None, threads: None, \
+        service: false, csv: false, svg: false, settings: \"a\", operator: \"b\" })",
+    "cellctl sweep --svg a b|Sweep(Sweeping { kinds: None, motions: None, pairs: false, random: None, seed: None, \
+        faults: None, part: None, threads: None, service: false, csv: false, svg: true, settings: \"a\", \
+        operator: \"b\" })",
+    "cellctl sweep --svg --csv --pairs --random=-1 --part one --threads= a b|Sweep(Sweeping { kinds: None, \
+        motions: None, pairs: true, random: Some(\"-1\"), seed: None, faults: None, part: Some(\"one\"), \
+        threads: Some(\"\"), service: false, csv: true, svg: true, settings: \"a\", operator: \"b\" })",
 ];
 
 const LISTED: [&str; 4] = [
@@ -186,16 +216,22 @@ const LISTED: [&str; 4] = [
         Events(Listing { times: Some(\"b.toml\"), csv: false, trace: false, vcd: true, journal: \"--csv\" })",
 ];
 
-const EXPLORED: [&str; 4] = [
-    "cellctl explore 1|Explore(Exploring { failing: [], repairs: false, limit: None, journal: false, plates: \"1\" })",
+const EXPLORED: [&str; 5] = [
+    "cellctl explore 1|\
+        Explore(Exploring { failing: [], repairs: false, limit: None, journal: false, threads: None, \
+        plates: \"1\" })",
     "cellctl explore --fail press2 --repair --limit 100 --journal 2 --fail=robot|\
         Explore(Exploring { failing: [\"press2\", \"robot\"], repairs: true, limit: Some(\"100\"), journal: true, \
-        plates: \"2\" })",
+        threads: None, plates: \"2\" })",
     "cellctl explore --fail brew --fail brew --limit=none 16|\
         Explore(Exploring { failing: [\"brew\", \"brew\"], repairs: false, limit: Some(\"none\"), journal: false, \
-        plates: \"16\" })",
+        threads: None, plates: \"16\" })",
     "cellctl explore -- -1|\
-        Explore(Exploring { failing: [], repairs: false, limit: None, journal: false, plates: \"-1\" })",
+        Explore(Exploring { failing: [], repairs: false, limit: None, journal: false, threads: None, \
+        plates: \"-1\" })",
+    "cellctl explore --threads 4 --limit 9 3|\
+        Explore(Exploring { failing: [], repairs: false, limit: Some(\"9\"), journal: false, threads: Some(\"4\"), \
+        plates: \"3\" })",
 ];
 
 // What words are read as.
@@ -229,6 +265,7 @@ fn reads_the_words_of_the_command_line(rt: HostRuntime) -> Result<(), Fail> {
         &EXPLAINED,
         &MEASURED,
         &LISTED,
+        &SWEPT,
         &EXPLORED,
     ] {
         for case in cases {

@@ -1,8 +1,8 @@
--- The list or the number may be wrong, and each has a line of its own for that
+-- The list or another word may be wrong, and has a line of its own for that
 use Rattle.std.proofs.Common.{inl, inr, refl, subst, sym}
 use Rattle.std.proofs.lemmas.Option.{IfSome_then}
-use Rattle.std.specs.Prelude.{codes}
 use Rattle.cellctl.specs.Swept.{AreKinds}
+use Rattle.cellctl.proofs.Swept.{as-asked}
 use Rattle.cellctl.proofs.sweep.sweep_words.Goals as goal
 
 pub returns-in-Err : goal.returns-in-Err
@@ -16,18 +16,18 @@ returns-in-Err g c =
       ),
     )
 
-pub returns-in_default : goal.returns-in_default
-returns-in_default g c =
+pub returns-in-Err-asked_of : goal.returns-in-Err-asked_of
+returns-in-Err-asked_of g c =
     inr (
-      inr c.in_default.ensures.wrong,
+      inr (rw c.in-Err-asked_of.is at c.asked_of.ensures.wrong),
       (
-        c.in_ok-wrong.field-0,
+        c.in_ok-wrong-in-Err-asked_of.field-0,
         refl,
         (
-          c.in_ok-wrong.ensures.status,
+          c.in_ok-wrong-in-Err-asked_of.ensures.status,
           refl,
-          codes "N is a whole number from 1 to 1000000",
-          c.in_ok-wrong.ensures.line,
+          c.in-Err-asked_of.why.now,
+          c.in_ok-wrong-in-Err-asked_of.ensures.line,
         ),
       ),
     )
@@ -35,10 +35,12 @@ returns-in_default g c =
 pub returns : goal.returns
 returns g c =
     let known = rw c.in-Ok.is at c.in_ok-kinds.ensures.known in
+    let asks = rw c.in-Ok-asked_of.is at c.asked_of.ensures.known in
+    let asked = c.in-Ok-asked_of.asked in
     IfSome_then _ c.sweep_files.ensures (λ w sweeps. inl (
       c.as_slice.result.now,
-      c.in-Some.motions,
+      asked,
       subst (AreKinds c.args.sweeping.kinds) (sym c.as_slice.ensures.value) known,
-      c.in-Some.ensures.known,
-      sweeps,
+      asks,
+      as-asked c.args.sweeping c.as_slice.result.now asked _ _ _ w c.form_of.ensures sweeps,
     ))
