@@ -9,7 +9,8 @@ Usage: bench/beside.py [ROW..]     all rows but spin by default; CELLCTL names a
   migrate   migrate beside audit of the same text, 13,000 plates
   run       run, on threads, beside sim, 1,000 plates
   plates    a sweep of 24 plates beside one of 6, and how many runs a second
-  states    explore 4, and how many states a second, and how many bytes a state
+  threads   a sweep of 6 plates on four threads beside one
+  states    explore 4 on one thread and on four, and how many states a second, and how many bytes a state
   page      show --html of 20,000 entries
   spin      SPIN on examples/models/cell.pml beside explore, three plates (needs spin and gcc)"""
 
@@ -102,15 +103,21 @@ class Bench:
         rates = f"; {self.count_runs(24) / many:.0f} and {self.count_runs(6) / few:.0f} runs a second"
         tell("sweep of 24 plates, beside 6", many, few, rates)
 
+    def threads(self):
+        (four, _), (one, _) = least([self.sweep_words(6, "--threads", "4"), self.sweep_words(6)])
+        tell("sweep of 6 plates on four threads, beside one", four, one)
+
     def count_states(self, *words):
         said = subprocess.run([PROGRAM, "explore", *words], stdout=subprocess.PIPE, text=True, check=True).stdout
         return int(re.search(r"^states (\d+)$", said, re.MULTILINE)[1])
 
     def states(self):
         words = ["--limit", "10000000", "4"]
-        (took, memory), = least([([PROGRAM, "explore", *words], "/dev/null")])
         states = self.count_states(*words)
-        print(f"explore 4: {states} states in {took:.2f} s, {states / took / 1e6:.2f} million a second, {memory * 1024 / states:.0f} bytes a state")
+        rows = least([([PROGRAM, "explore", "--threads", it, *words], "/dev/null") for it in ("1", "4")])
+        for threads, (took, memory) in zip((1, 4), rows):
+            each = f"{states / took / 1e6:.2f} million a second, {memory * 1024 / states:.0f} bytes a state"
+            print(f"explore 4 on {threads}: {states} states in {took:.2f} s, {each}", flush=True)
 
     def page(self):
         with open(self.journal(300, 2), encoding="utf-8") as text:
@@ -131,7 +138,7 @@ class Bench:
 
 
 ROWS = {"audit": "audit", "journal": "journal_row", "migrate": "migrate", "run": "run", "plates": "plates",
-    "states": "states", "page": "page", "spin": "spin"}
+    "threads": "threads", "states": "states", "page": "page", "spin": "spin"}
 
 
 def machine():
