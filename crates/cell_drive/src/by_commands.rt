@@ -32,6 +32,7 @@ use cell_rows::{Four, TellsFault, read_script};
 use cell_runs::Inputs;
 use cell_sim::{FaultScript, World};
 use cell_types::{Command, MACHINES, Machine, Totals};
+use line_writer::write_line;
 use operator_desk::{Line, ScriptError, Task};
 use std::alloc::{AllocError, Global};
 use std::io;
@@ -104,7 +105,7 @@ fn show_readings<W: Write>(world: &mut World, writer: &mut W) -> io::Result<()>
 {
     for machine in MACHINES {
         let reading = world.read(machine);
-        write!(writer, "{}", ReadingLine { machine, reading })?;
+        write_line(writer, ReadingLine { machine, reading })?;
     }
     Ok(())
 }
@@ -119,7 +120,7 @@ fn open<W: Write>(run: &mut Run, number: u32, writer: &mut W) -> io::Result<()>
     }) }
 {
     show_readings(&mut run.world, writer)?;
-    writeln!(writer, "round,{number},,")?;
+    write_line(writer, format_args!("round,{number},,\n"))?;
     writer.flush()?;
     run.rounds = number;
     run.measures.open(number, &run.world);
@@ -166,7 +167,7 @@ fn sync<W: Write>(run: &mut Run, number: u32, writer: &mut W) -> io::Result<()>
     }) }
 {
     run.stays = true;
-    writeln!(writer, "synced,{number},,")?;
+    write_line(writer, format_args!("synced,{number},,\n"))?;
     open(run, run.rounds, writer)
 }
 

@@ -9,6 +9,7 @@ use cell_diagnosis::{Reading, bit};
 use cell_types::sensors::{presence_words, switch_words};
 use cell_types::texts::machine_word;
 use cell_types::{Axis, Machine};
+use line_writer::write_line;
 use std::fmt;
 use std::io::Write;
 
@@ -143,6 +144,6 @@ pub(crate) fn show<W: Write>(
         (reading_line machine reading)) }
     ensures memory { IfErr result (λ e. e ≢ DriveError.OutOfMemory) }
 {
-    write!(writer, "{}", ReadingLine { machine, reading })?;
+    write_line(writer, ReadingLine { machine, reading })?;
     Ok(())
 }

@@ -4,6 +4,7 @@ ghost use Rattle.std.specs.Io.KnownBytes.{Appends};
 ghost use Rattle.cell_method.specs.Replies.{line_of, word_or_blank};
 
 use crate::error::DriveError;
+use line_writer::write_line;
 use plate_book::Refusal;
 use std::fmt;
 use std::io::Write;
@@ -52,7 +53,7 @@ pub(crate) fn tell<W: Write>(writer: &mut W, reply: Reply) -> Result<(), DriveEr
     ensures told { OnOk result (Appends (W.contents writer.old) (W.contents writer.new) (line_of reply)) }
     ensures memory { IfErr result (λ e. e ≢ DriveError.OutOfMemory) }
 {
-    write!(writer, "{reply}")?;
+    write_line(writer, reply)?;
     writer.flush()?;
     Ok(())
 }

@@ -24,6 +24,7 @@ use cell_ports::{OperatorPort, Plan, Port};
 use cell_rows::TellsFault;
 use cell_turns::Ports;
 use cell_types::MACHINES;
+use line_writer::write_line;
 use operator_desk::Script;
 use plate_book::Book;
 use std::io::Write;
@@ -66,7 +67,7 @@ fn open_round<W: Write>(writer: &mut W, number: u32) -> Result<(), DriveError>
     ensures told { OnOk result (Appends (W.contents writer.old) (W.contents writer.new) (round_line number)) }
     ensures memory { IfErr result (λ e. e ≢ DriveError.OutOfMemory) }
 {
-    write!(writer, "round,{number},,\n")?;
+    write_line(writer, format_args!("round,{number},,\n"))?;
     writer.flush()?;
     Ok(())
 }

@@ -35,7 +35,7 @@ loop-machine-preserved g c =
           ∙ ap (λ (w : Simulated). after_readings (drop (i + 1) all_machine) w) (sym is);
       told = (
         first ++ reading_line m c.read-reading.result,
-        Appends-trans _ _ _ first (reading_line m c.read-reading.result) written c.in_ok-write.ensures.bytes,
+        Appends-trans _ _ _ first (reading_line m c.read-reading.result) written c.in_ok-write_line.ensures,
         one-told (drop i all_machine) (drop (i + 1) all_machine) m first c.args.world.now before turn so
             ∙ ap (λ (w : Simulated). (first ++ reading_line m (shown before m))
             ++ readings_told (drop (i + 1) all_machine) w) (sym is)

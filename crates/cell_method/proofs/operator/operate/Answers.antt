@@ -24,7 +24,7 @@ returns-in-Err-clause-broke g c =
     (λ is. ap is_quarantined same ∙ (c.in-Err.ensures.memory (ap Err is)).1) (search rules) (search rules)
     (search rules)
 
-pub returns-in_err-write-clause-broke : goal.returns-in_err-write-clause-broke
-returns-in_err-write-clause-broke g c = err-of _ error.WriteFault _ c.from_residual.ensures.1 (λ s n j desk.
+pub returns-in_err-write_line-clause-broke : goal.returns-in_err-write_line-clause-broke
+returns-in_err-write_line-clause-broke g c = err-of _ error.WriteFault _ c.from_residual.ensures.1 (λ s n j desk.
     broke-told _ _ _ _ _ _ _ _ _ _ _ n c.in-Some.action refl j desk (search rules) (sym c.in-Some.ensures)
     (search rules) (search rules) (search rules))
