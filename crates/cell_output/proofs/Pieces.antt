@@ -35,7 +35,7 @@ pieces-split f (y ∷ xs) (suc i) x h =
     ∙ sym (append_assoc (f y) (concat (map f (take i xs))) _))
 
 -- one piece more
-pieces-more : {X : Type 0} (f : X → List ℕ) (xs : List X) (i : ℕ) (x : X) → i < length xs
+pub pieces-more : {X : Type 0} (f : X → List ℕ) (xs : List X) (i : ℕ) (x : X) → i < length xs
     → concat (map f (take (i + 1) xs)) ≡ concat (map f (take i xs)) ++ f (get_or xs i x)
 pieces-more f [] i x h = absurd (omega arith)
 pieces-more f (y ∷ xs) zero x h = append-nil (f y)
@@ -47,3 +47,16 @@ pub piece-after : {X : Type 0} (a b c : Option (List ℕ)) (f : X → List ℕ) 
     → Appends a b (concat (map f (take i xs))) → Appends b c (f (get_or xs i x))
     → Appends a c (concat (map f (take (i + 1) xs)))
 piece-after a b c f xs i x h before next = rw (pieces-more f xs i x h) (Appends-trans a b c _ _ before next)
+
+-- the bytes of no piece stand behind those before, and then those of one more
+pub gathered-none : {X : Type 0} (f : X → List ℕ) (xs : List X) (before : List ℕ)
+    → before ≡ before ++ concat (map f (take 0 xs))
+gathered-none f xs before = sym (append-nil before)
+
+pub gathered-more : {X : Type 0} (f : X → List ℕ) (xs : List X) (i : ℕ) (x : X) (before so_far new : List ℕ)
+    → i < length xs → so_far ≡ before ++ concat (map f (take i xs)) → new ≡ so_far ++ f (get_or xs i x)
+    → new ≡ before ++ concat (map f (take (i + 1) xs))
+gathered-more f xs i x before so_far new inside same next =
+    next ∙ ap (λ bytes. bytes ++ f (get_or xs i x)) same
+    ∙ append_assoc before (concat (map f (take i xs))) (f (get_or xs i x))
+    ∙ sym (ap (λ bytes. before ++ bytes) (pieces-more f xs i x inside))

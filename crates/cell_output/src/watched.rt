@@ -1,5 +1,5 @@
 //! A writer that notes whether a write of it was refused.
-ghost use Rattle.std.specs.Prelude.{◌≡◌, ◌≢◌, ◌⊎◌, ◌↔◌, true, false, map, IfErr, IfOk, IsErr, IsOk, None, OnOk, Some};
+ghost use Rattle.std.specs.Prelude.{◌≡◌, ◌≢◌, ◌⊎◌, ◌↔◌, ◌++◌, true, false, map, IfErr, IfOk, IsErr, IsOk, None, OnOk, Some};
 ghost use Rattle.std.specs.IoError.{error_kind};
 ghost use Rattle.std.specs.List.{concat};
 ghost use Rattle.std.specs.Io.{WritesAtMost};
@@ -8,8 +8,12 @@ ghost use Rattle.cell_output.specs.Watched.{IsSameWriter, Refuses, Watches, Writ
 ghost use Rattle.cell_output.specs.Watched.{has_refused, taken_of};
 
 use crate::whole::write_whole;
+use arrayvec::{ArrayVec, CapacityError};
 use std::io;
 use std::io::{ErrorKind, Write};
+
+// How many bytes of pieces are written at once at most.
+const ROOM: usize = 128;
 
 /// A write was refused.
 #[derive(Clone, Copy, Debug, PartialEq, Eq)]
@@ -43,6 +47,16 @@ fn noted_after(noted: Option<io::Error>, error: io::Error) -> Option<io::Error> 
         ErrorKind::WriteZero => noted,
         _ => Some(error),
     }
+}
+
+// Puts pieces into a room, one after the other, if they fit.
+fn gather(pieces: &[&[u8]], room: &mut ArrayVec<u8, ROOM>) -> Result<(), CapacityError>
+    ensures { OnOk result (room.new.items ≡ room.old.items ++ concat (map (λ p. p.now) pieces.now)) }
+{
+    for piece in pieces {
+        room.try_extend_from_slice(piece)?;
+    }
+    Ok(())
 }
 
 impl<'a, W: Write> WatchedWriter<'a, W> {
@@ -108,7 +122,23 @@ impl<'a, W: Write> WatchedWriter<'a, W> {
         }
     }
 
-    /// Writes pieces of a text, one after the other.
+    // Writes pieces of a text, each by itself.
+    fn write_each(&mut self, pieces: &[&[u8]]) -> Result<(), WriteFault>
+        ensures writer { IsSameWriter self.old self.new }
+        ensures whole { OnOk result (Appends (bytes_held W.contents self.old) (bytes_held W.contents self.new)
+            (concat (map (λ p. p.now) pieces.now))) }
+        ensures part { IsErr result → WritesPart (bytes_held W.contents self.old) (bytes_held W.contents self.new)
+            (concat (map (λ p. p.now) pieces.now)) }
+        ensures fault { IsErr result → has_refused self.new ≡ true }
+        ensures same { OnOk result (has_refused self.new ≡ has_refused self.old) }
+    {
+        for piece in pieces {
+            self.write_bytes(piece)?;
+        }
+        Ok(())
+    }
+
+    /// Writes pieces of a text, one after the other: at once, where they have at most 128 bytes.
     pub fn write_pieces(&mut self, pieces: &[&[u8]]) -> Result<(), WriteFault>
         ensures writer { IsSameWriter self.old self.new }
         ensures whole { OnOk result (Appends (bytes_held W.contents self.old) (bytes_held W.contents self.new)
@@ -120,10 +150,11 @@ impl<'a, W: Write> WatchedWriter<'a, W> {
         ensures fault { IsErr result → has_refused self.new ≡ true }
         ensures same { OnOk result (has_refused self.new ≡ has_refused self.old) }
     {
-        for piece in pieces {
-            self.write_bytes(piece)?;
+        let mut room = ArrayVec::new();
+        match gather(pieces, &mut room) {
+            Ok(()) => self.write_bytes(room.as_slice()),
+            Err(_) => self.write_each(pieces),
         }
-        Ok(())
     }
 }
 

@@ -3,7 +3,7 @@ use Rattle.std.proofs.Common.{◌≡◌, map, take}
 use Rattle.std.specs.List.{concat}
 use Rattle.std.specs.Io.KnownBytes.{Appends}
 use Rattle.cell_output.specs.Watched.{IsSameWriter, bytes_held, has_refused}
-use Rattle.cell_output.proofs.watched.WatchedWriter.write_pieces.Given as goal
+use Rattle.cell_output.proofs.watched.WatchedWriter.write_each.Given as goal
 
 -- the first pieces are written, and no write was refused
 abbrev pub invariant-loop-piece : goal.invariant-loop-piece

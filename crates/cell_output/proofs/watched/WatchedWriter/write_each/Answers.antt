@@ -1,7 +1,7 @@
 -- A piece comes right behind those before it, and a part of it makes a part of them all
 use Rattle.std.proofs.Common.{◌∙◌, refl}
 use Rattle.cell_output.proofs.Pieces.{part-after, piece-after, pieces-split}
-use Rattle.cell_output.proofs.watched.WatchedWriter.write_pieces.Goals as goal
+use Rattle.cell_output.proofs.watched.WatchedWriter.write_each.Goals as goal
 
 pub returns-in_err-write_bytes-clause-part : goal.returns-in_err-write_bytes-clause-part
 returns-in_err-write_bytes-clause-part g c = λ failed.
