@@ -1,12 +1,14 @@
 -- The bytes in sight after a read
 use Rattle.std.proofs.Common.{◌≡◌, ◌≤◌, ◌+◌, ◌-◌, ◌∙◌, ℕ, List, [], ◌++◌, length, take, drop, min, Option, Some, None}
-use Rattle.std.proofs.Common.{Result, sym, ap, refl, arith, append_assoc}
-use Rattle.std.specs.Prelude.{◌∷◌, option_map, slice_range}
-use Rattle.cell_rows.specs.Rows.{rows_of}
-use Rattle.cell_rows.specs.Sights.{FeedsTwice}
+use Rattle.std.proofs.Common.{Result, sym, ap, refl, arith, append_assoc, inl, inr}
+use Rattle.std.specs.Prelude.{◌∷◌, false, option_map, slice_range}
+use Rattle.csv.specs.Reading.{records_from, strip_bom}
+use Rattle.csv.specs.Machine.{next_record}
+use Rattle.cell_rows.specs.Rows.{Row, TakesRow, rows_of}
+use Rattle.cell_rows.specs.Sights.{FeedsTwice, HasNoLine, KeepsRows}
 use Rattle.cell_rows.proofs.RowFacts.{after_feed, unmarked}
 use Rattle.std.specs.List.{copy_within}
-use Rattle.std.specs.Io.KnownBytes.{Consumes, Keeps, ReadConsumes, prepend_known}
+use Rattle.std.specs.Io.KnownBytes.{Consumes, IsAtEnd, Keeps, ReadConsumes, prepend_known}
 use Rattle.std.proofs.lemmas.List.Edits.{length-between}
 use Rattle.std.proofs.lemmas.List.{length-drop, length-take, nil_from_length, take-append-le}
 use Rattle.std.proofs.lemmas.Slice.{between_from_start}
@@ -68,3 +70,18 @@ blank_passed None xs at filled feeds = refl
 blank_passed (Some bs) xs at filled (more, first, second) =
     let rest = slice_range xs (at + 2) filled ++ bs in
     rw (first, second) (ap Some (unmarked 10 rest (λ e. cc e) ∙ sym (after_feed (10 ∷ rest))))
+
+-- no record is left where the text ends behind the line feed of the line before
+no_line : (xs ys : List ℕ) → HasNoLine xs → ys ≡ [] → rows_of (xs ++ ys) ≡ []
+unfolding records_from strip_bom next_record
+no_line xs ys (inl none) end = rw (none, end) refl
+no_line xs ys (inr feed) end = rw (feed, end) refl
+
+pub ended : (before : Option (List Row)) (mid known : Option (List ℕ)) (xs : List ℕ) (row : Row)
+    → KeepsRows before (option_map rows_of mid) → Keeps mid (prepend_known xs known) → IsAtEnd known → HasNoLine xs
+    → TakesRow before (option_map rows_of (prepend_known xs known)) row false
+ended None mid known xs row kept same end none = tt
+ended (Some rows) None known xs row kept same end none = absurd kept
+ended (Some rows) (Some ys) None xs row kept same end none = absurd same
+ended (Some rows) (Some ys) (Some zs) xs row kept same end none =
+    sym kept ∙ ap rows_of (sym same) ∙ no_line xs zs none end

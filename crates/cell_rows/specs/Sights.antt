@@ -1,5 +1,5 @@
 -- A reader whose next bytes are in sight
-use Rattle.std.specs.Prelude.{◌≡◌, ℕ, ◌≤◌, ◌<◌, ◌+◌, List, ◌∷◌, Option, Some, None, option_map, slice_range, ⊤}
+use Rattle.std.specs.Prelude.{◌≡◌, ◌⊎◌, ℕ, ◌≤◌, ◌<◌, ◌+◌, List, [], ◌∷◌, Option, Some, None, option_map, slice_range, ⊤}
 use Rattle.std.specs.Io.KnownBytes.{prepend_known}
 use Rattle.cell_rows.specs.Texts.{Row, rows_of}
 use Rattle.cell_rows.specs.Plain.{row_at}
@@ -31,3 +31,7 @@ KeepsRows (Some xs) (Some ys) = ys ≡ xs
 abbrev pub FeedsTwice : List ℕ → ℕ → ℕ → Type 0
 FeedsTwice text at to = (at + 1 < to) × (slice_range text at to ≡ 10 ∷ slice_range text (at + 1) to)
     × (slice_range text (at + 1) to ≡ 10 ∷ slice_range text (at + 2) to)
+
+-- nothing, or the line feed of the line before
+abbrev pub HasNoLine : List ℕ → Type 0
+HasNoLine xs = (xs ≡ []) ⊎ (xs ≡ 10 ∷ [])

@@ -1,11 +1,12 @@
 //! A reader whose next bytes are in sight, so that plain lines are taken straight from them.
-ghost use Rattle.std.specs.Prelude.{◌≡◌, ◌≤◌, length, true, false, IfOk, IfSome, IsErr, IsErrOf, OnOk, ◌∷◌, []};
+ghost use Rattle.std.specs.Prelude.{◌≡◌, ◌≢◌, ◌≤◌, ◌<◌, length, true, false, IfOk, IfSome, IsErr, IsErrOf, OnOk, ◌∷◌, []};
 ghost use Rattle.std.specs.Prelude.{slice_range};
-ghost use Rattle.std.specs.Io.KnownBytes.{Keeps, ReadConsumes};
+ghost use Rattle.std.specs.Io.KnownBytes.{IsAtEnd, Keeps, ReadConsumes};
 ghost use Rattle.std.specs.Io.{ReadsAtMost};
 ghost use Rattle.cell_rows.specs.Rows.{TakesRow};
 ghost use Rattle.cell_rows.specs.Fitting.{BeginsUnfit, Fits};
-ghost use Rattle.cell_rows.specs.Sights.{FeedsTwice, InSight, KeepsRows, bytes_left, plain_row, rows_ahead};
+ghost use Rattle.cell_rows.specs.Sights.{FeedsTwice, HasNoLine, InSight, KeepsRows, bytes_left, plain_row, rows_ahead};
+ghost use Rattle.cell_rows.specs.Texts.{Row};
 
 use crate::places::{NOWHERE, Places};
 use crate::rows::{Four, RowError};
@@ -13,6 +14,17 @@ use crate::scan::{SIZE, Stop, next_line};
 use crate::watched::TellsFault;
 use std::io;
 use std::io::Read;
+
+/// What comes next of a text.
+#[derive(Clone, Copy, Debug, PartialEq, Eq)]
+pub(crate) enum Next {
+    /// A plain line, which was taken.
+    Line,
+    /// Nothing: the text ends.
+    End,
+    /// A line that isn't plain.
+    Odd,
+}
 
 /// A reader, the bytes of it that are in sight, and the places of the line that was taken last.
 #[derive(Drop)]
@@ -96,11 +108,29 @@ impl<R: TellsFault> ReadAhead<R> {
         Ok(())
     }
 
+    // What comes next where no byte came any more: nothing, if none is in sight but the line feed of the line before.
+    fn rest(&self) -> Next
+        requires { InSight self.now }
+        ensures line { result ≢ Next.Line }
+        ensures end { result ≡ Next.End → (self.now.filled < 16384)
+            × HasNoLine (slice_range self.now.buffer self.now.at self.now.filled) }
+    {
+        if self.filled == SIZE {
+            return Next::Odd;
+        }
+        match piece(&self.buffer, self.at, self.filled) {
+            [] | [b'\n'] => Next::End,
+            _ => Next::Odd,
+        }
+    }
+
     // Reads on, so that more bytes are in sight, and says whether any came.
     fn refill(&mut self) -> io::Result<bool>
         requires { InSight self.old }
         ensures sight { OnOk result (InSight self.new) }
         ensures kept { OnOk result (Keeps (bytes_left R.remaining self.old) (bytes_left R.remaining self.new)) }
+        ensures end { IfOk result (λ came. came ≡ false → self.new.filled < 16384
+            → IsAtEnd (R.remaining self.new.source)) }
         ensures failed { IsErr result → R.failed self.new.source ≡ true }
     {
         self.buffer.copy_within(self.at..self.filled, 0);
@@ -114,31 +144,33 @@ impl<R: TellsFault> ReadAhead<R> {
     /// Takes the next line, if it is plain, over as many reads as it takes. It reads no more of a line that is plain so
     /// far and none of a record that fits.
     #[inline(always)]
-    pub(crate) fn advance(&mut self) -> Result<bool, RowError>
+    pub(crate) fn advance(&mut self) -> Result<Next, RowError>
         requires { InSight self.old }
         ensures sight { OnOk result (InSight self.new) }
-        ensures takes { IfOk result (λ found. found ≡ true
+        ensures takes { IfOk result (λ next. next ≡ Next.Line
             → TakesRow (rows_ahead R.remaining self.old) (rows_ahead R.remaining self.new) (plain_row self.new) true) }
-        ensures fits { IfOk result (λ found. found ≡ true → Fits (plain_row self.new)) }
-        ensures kept { IfOk result (λ found. found ≡ false
+        ensures fits { IfOk result (λ next. next ≡ Next.Line → Fits (plain_row self.new)) }
+        ensures end { IfOk result (λ next. next ≡ Next.End → (row : Row)
+            → TakesRow (rows_ahead R.remaining self.old) (rows_ahead R.remaining self.new) row false) }
+        ensures kept { IfOk result (λ next. next ≡ Next.Odd
             → KeepsRows (rows_ahead R.remaining self.old) (rows_ahead R.remaining self.new)) }
         ensures unfit { IsErrOf result RowError.Unfit → IfSome (rows_ahead R.remaining self.old) BeginsUnfit }
         ensures fault { IsErrOf result RowError.ReadFault → R.failed self.new.source ≡ true }
     {
         for _ in 0..u64::MAX {
             match self.take_line() {
-                Ok(()) => return Ok(true),
+                Ok(()) => return Ok(Next::Line),
                 Err(Stop::Unfit) => return Err(RowError::Unfit),
                 Err(Stop::Odd) if self.begins_blank() => self.skip_blank(),
-                Err(Stop::Odd) => return Ok(false),
+                Err(Stop::Odd) => return Ok(Next::Odd),
                 Err(Stop::Cut) => match self.refill() {
                     Ok(true) => {}
-                    Ok(false) => return Ok(false),
+                    Ok(false) => return Ok(self.rest()),
                     Err(_) => return Err(RowError::ReadFault),
                 },
             }
         }
-        Ok(false)
+        Ok(Next::Odd)
     }
 
     /// The fields of the line that was taken last.

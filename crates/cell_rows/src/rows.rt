@@ -8,7 +8,7 @@ ghost use Rattle.cell_rows.specs.Fitting.{BeginsUnfit, Fits};
 ghost use Rattle.cell_rows.specs.Sights.{bytes_left};
 ghost use Rattle.cell_rows.specs.declared.rows.Source.TheVariants as Source;
 
-use crate::ahead::ReadAhead;
+use crate::ahead::{Next, ReadAhead};
 use crate::watched::TellsFault;
 use csv::{ByteRecord, ErrorKind, Reader, ReaderBuilder};
 use std::alloc::Global;
@@ -49,7 +49,7 @@ enum Source<R> {
 ///
 /// Lines of four plain fields are taken straight from the bytes, which is what csv reads there. From the first line on
 /// that has a quote, a carriage return or fewer fields, csv reads all that is left, and all of a text that begins with
-/// a byte order mark.
+/// a byte order mark. Where the text ends behind plain lines, csv reads nothing.
 #[derive(Drop)]
 pub struct RowReader<R> {
     alloc: Global,
@@ -184,8 +184,10 @@ impl<R: TellsFault> RowReader<R> {
     {
         if let Source::Plain(ahead) = &mut self.source {
             match ahead.advance() {
-                Ok(false) => {}
-                answer => return answer,
+                Ok(Next::Line) => return Ok(true),
+                Ok(Next::End) => return Ok(false),
+                Ok(Next::Odd) => {}
+                Err(why) => return Err(why),
             }
         }
         self.give_to_csv();
