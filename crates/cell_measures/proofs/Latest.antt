@@ -1,9 +1,9 @@
 -- The latest end under tests that are joined
-use Rattle.std.proofs.Common.{◌≡◌, ◌≤◌, ◌<◌, ◌+◌, ℕ, Bool, true, false, Option, Some, None, List, [], ◌∷◌, refl, sym}
-use Rattle.std.proofs.Common.{◌∙◌, ap, arith, drop, drop-cons, length, add-one, get_or, replicate}
+use Rattle.std.proofs.Common.{◌≡◌, ◌≤◌, ◌<◌, ◌+◌, ◌++◌, ℕ, zero, suc, Bool, true, false, Option, Some, None, List, [], ◌∷◌, refl, sym}
+use Rattle.std.proofs.Common.{◌∙◌, ap, arith, drop, drop-cons, length, add-one, get_or, replicate, take}
 use Rattle.std.specs.Prelude.{◌||◌, ◌&&◌, max, if◌then◌else◌, slice_index}
 use Rattle.std.specs.List.{list_any}
-use Rattle.std.proofs.lemmas.List.{get_or-replicate, length-replicate, get_or_past}
+use Rattle.std.proofs.lemmas.List.{get_or-replicate, length-replicate, get_or_past, take_all}
 use Rattle.cell_types.specs.declared.words.Entry.{Entry}
 use Rattle.cell_types.specs.declared.words.Axis.{Axis}
 use Rattle.cell_types.specs.declared.words.Zone.{Zone}
@@ -118,5 +118,12 @@ zero_at xs n k e = rw e (grind (
   length-replicate {A = ℕ} n 0,
 ))
 
-pub zeros_long : (xs : List ℕ) (n : ℕ) → xs ≡ replicate n 0 → length xs ≡ n
-zeros_long xs n e = ap (λ (l : List ℕ). length l) e ∙ length-replicate {A = ℕ} n 0
+-- behind the times stand zeros, as behind any list
+grown : (old : List ℕ) (n k : ℕ) → slice_index (old ++ replicate n 0) k ≡ slice_index old k
+grown [] n k = zero_at (replicate n 0) n k refl
+grown (x ∷ old) n zero = refl
+grown (x ∷ old) n (suc k) = grown old n k
+
+pub grown_at : (old new : List ℕ) (n more k : ℕ) → length old ≤ n → new ≡ take n old ++ replicate more 0
+    → slice_index new k ≡ slice_index old k
+grown_at old new n more k short e = rw (e, take_all n old short) (grown old more k)

@@ -1,9 +1,8 @@
 -- The times of a journal keep to what its entries wait for, and no others that do are less
-use Rattle.std.proofs.Common.{◌≡◌, ◌≤◌, ◌<◌, ◌+◌, ℕ, Bool, true, false, Option, Some, None, List, [], ◌∷◌, arith}
+use Rattle.std.proofs.Common.{◌≡◌, ◌≤◌, ◌+◌, ℕ, Bool, true, false, Option, Some, None, List, [], ◌∷◌, arith}
 use Rattle.std.proofs.Common.{ap, zero, refl, subst, suc, ◌∙◌}
 use Rattle.std.proofs.lemmas.Option.{none-some, same_Some}
 use Rattle.std.specs.Prelude.{fold, max, if◌then◌else◌, slice_get, slice_index}
-use Rattle.cell_types.specs.declared.words.Axis.{Axis}
 use Rattle.cell_types.specs.declared.words.Entry.{Entry}
 use Rattle.cell_measures.specs.declared.motion.Move.{Move}
 use Rattle.cell_measures.specs.declared.durations.Durations.{Durations}

@@ -1,5 +1,5 @@
 -- What a clock keeps of the entries so far
-use Rattle.std.specs.Prelude.{ℕ, ◌≡◌, Option, Some, None, List, [], ◌∷◌, if◌then◌else◌, length, max, slice_index}
+use Rattle.std.specs.Prelude.{ℕ, ◌≡◌, Option, Some, None, List, [], ◌∷◌, if◌then◌else◌, max, slice_index}
 use Rattle.cell_types.specs.declared.words.Machine.{Machine}
 use Rattle.cell_types.specs.declared.words.Axis.{Axis}
 use Rattle.cell_types.specs.declared.words.Zone.{Zone}
@@ -15,7 +15,6 @@ pub record Keeps (c : Clock) (past : List Ended) : Type 0 where
   pub plates : (k : ℕ) → slice_index c.plates.items k ≡ latest (names k) past
   pub zones : (z : Zone) → slice_index c.zones (zone_number z) ≡ latest (frees z) past
   pub axes : (a : Axis) → slice_index c.axes (axis_number a) ≡ latest (starts a) past
-  pub room : length c.plates.items ≡ 100001
 
 -- the time of a plate, if there is one
 abbrev pub plate_time : List ℕ → Option ℕ → ℕ

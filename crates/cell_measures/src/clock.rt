@@ -1,5 +1,5 @@
 //! When what an entry waits for ended last.
-ghost use Rattle.std.specs.Prelude.{◌≡◌, ◌==◌, ◌+◌, ◌<◌, ◌≤◌, ◌^◌, [], ◌∷◌, ℕ, Bool, List, IfOk, if◌then◌else◌, length};
+ghost use Rattle.std.specs.Prelude.{◌≡◌, ◌==◌, ◌+◌, ◌<◌, ◌≤◌, ◌^◌, [], ◌∷◌, ℕ, Bool, List, OnOk, if◌then◌else◌, length};
 ghost use Rattle.std.specs.Prelude.{map, max, slice_index};
 ghost use Rattle.cell_types.specs.declared.words.Axis.{Axis};
 ghost use Rattle.cell_types.specs.declared.words.Entry.{Entry};
@@ -12,9 +12,7 @@ ghost use Rattle.cell_measures.specs.Clocks.{Keeps, freed_time, greatest, plate_
 use crate::durations::Durations;
 use crate::motion::motion_of;
 use crate::waits::{frees, machine_of, plate_of, wants};
-use cell_types::{
-    Entry, MAX_PLATES, PlateId, ZONES, Zone, axis_number, machine_number, zone_number,
-};
+use cell_types::{Entry, PlateId, ZONES, Zone, axis_number, machine_number, zone_number};
 use std::alloc::{AllocError, Global};
 
 /// When entries of each machine, of each plate, that set each zone free, and that start each axis ended last; 0 where
@@ -44,35 +42,47 @@ fn raise(times: &mut [u64], place: usize, time: u64)
     times[place] = later(time, times[place]);
 }
 
-// A list of zeros.
-fn zeros(alloc: Global, count: usize) -> Result<Vec<u64>, AllocError>
-    ensures long { IfOk result (λ list. length list.items ≡ count) }
-    ensures zero { IfOk result (λ list. (k : ℕ) → slice_index list.items k ≡ 0) }
+// The time at a place; 0 behind the end.
+fn time_at(times: &[u64], place: usize) -> u64
+    ensures { result ≡ slice_index times.now place }
 {
-    let list = vec![in alloc; 0; count]?;
-    Ok(list)
+    match times.get(place) {
+        Some(time) => *time,
+        None => 0,
+    }
+}
+
+// Makes room for a place. The times stay, with 0 where none was.
+fn make_room(times: &mut Vec<u64>, place: usize) -> Result<(), AllocError>
+    requires { place < 2 ^ 32 }
+    ensures room { OnOk result (place < length times.new.items) }
+    ensures same { OnOk result ((k : ℕ) → slice_index times.new.items k ≡ slice_index times.old.items k) }
+{
+    if times.len() <= place {
+        times.resize(place + 1, 0)?;
+    }
+    Ok(())
 }
 
 impl Clock {
-    /// A clock before the first entry. It takes all its memory here.
-    pub(crate) fn new(alloc: Global) -> Result<Clock, AllocError>
-        ensures { IfOk result (λ clock. Keeps clock []) }
+    /// A clock before the first entry.
+    pub(crate) fn new(alloc: Global) -> Clock
+        ensures { Keeps result [] }
     {
-        Ok(Clock {
+        Clock {
             machines: [0; 6],
             zones: [0; 5],
             axes: [0; 9],
-            plates: zeros(alloc, MAX_PLATES as usize + 1)?,
-        })
+            plates: Vec::new(alloc),
+        }
     }
 
     // When the last entry ended that names a plate; 0 for none.
     fn plate_end(&self, plate: Option<PlateId>) -> u64
-        requires { length self.now.plates.items ≡ 100001 }
         ensures { result ≡ plate_time self.now.plates.items plate }
     {
         match plate {
-            Some(plate) => self.plates[plate.number() as usize],
+            Some(plate) => time_at(self.plates.as_slice(), plate.number() as usize),
             None => 0,
         }
     }
@@ -101,7 +111,6 @@ impl Clock {
 
     // When all entries have ended for which one waits.
     fn begins(&self, entry: &Entry) -> u64
-        requires { length self.now.plates.items ≡ 100001 }
         ensures { (past : List Ended) → Keeps self.now past → result ≡ begins past entry.now }
     {
         let machine = self.machines[machine_number(machine_of(*entry))];
@@ -112,8 +121,7 @@ impl Clock {
 
     /// When an entry ends.
     pub(crate) fn ends(&self, entry: &Entry, durations: &Durations) -> u64
-        requires plates { length self.now.plates.items ≡ 100001 }
-        requires early { (a : Axis) → slice_index self.now.axes (axis_number a) < 2 ^ 63 }
+        requires { (a : Axis) → slice_index self.now.axes (axis_number a) < 2 ^ 63 }
         ensures due { (past : List Ended) → Keeps self.now past → result ≡ ends durations.now past entry.now }
         ensures early { (past : List Ended) (n : ℕ) → Keeps self.now past → ((p : Entry → Bool) → latest p past ≤ n)
             → result ≤ n + 65535 }
@@ -155,19 +163,20 @@ impl Clock {
     }
 
     // Notes the end of an entry for the plate that it names.
-    fn note_plate(&mut self, plate: Option<PlateId>, end: u64)
-        requires { length self.old.plates.items ≡ 100001 }
+    fn note_plate(&mut self, plate: Option<PlateId>, end: u64) -> Result<(), AllocError>
         ensures machines { self.new.machines ≡ self.old.machines }
         ensures zones { self.new.zones ≡ self.old.zones }
         ensures axes { self.new.axes ≡ self.old.axes }
-        ensures plates { (k : ℕ) → slice_index self.new.plates.items k
+        ensures plates { OnOk result ((k : ℕ) → slice_index self.new.plates.items k
             ≡ (if is_number k plate then max end (slice_index self.old.plates.items k) else slice_index
-            self.old.plates.items k) }
-        ensures room { length self.new.plates.items ≡ 100001 }
+            self.old.plates.items k)) }
     {
         if let Some(plate) = plate {
-            raise(self.plates.as_mut_slice(), plate.number() as usize, end);
+            let number = plate.number() as usize;
+            make_room(&mut self.plates, number)?;
+            raise(self.plates.as_mut_slice(), number, end);
         }
+        Ok(())
     }
 
     // Notes the end of an entry for the axis that it starts.
@@ -184,15 +193,15 @@ impl Clock {
         }
     }
 
-    /// Notes the end of an entry. It takes no memory.
-    pub(crate) fn note(&mut self, entry: &Entry, end: u64)
-        requires { length self.old.plates.items ≡ 100001 }
-        ensures { (past : List Ended) → Keeps self.old past
-            → Keeps self.new (record { entry = entry.now; at = end } ∷ past) }
+    /// Notes the end of an entry.
+    pub(crate) fn note(&mut self, entry: &Entry, end: u64) -> Result<(), AllocError>
+        ensures { OnOk result ((past : List Ended) → Keeps self.old past
+            → Keeps self.new (record { entry = entry.now; at = end } ∷ past)) }
     {
         raise(&mut self.machines, machine_number(machine_of(*entry)), end);
-        self.note_plate(plate_of(*entry), end);
+        self.note_plate(plate_of(*entry), end)?;
         self.note_zones(entry, end);
         self.note_axis(entry, end);
+        Ok(())
     }
 }

@@ -20,12 +20,12 @@ pub fn times_of(
     ensures ends { IfOk result (λ ends. ends.items ≡ times durations.now journal.now.entries) }
     ensures long { IfOk result (λ ends. length ends.items ≡ length journal.now.entries) }
 {
-    let mut clock = Clock::new(alloc)?;
+    let mut clock = Clock::new(alloc);
     let mut ends = Vec::with_capacity(alloc, journal.len() as usize)?;
     for place in 0..journal.len() {
         let entry = journal.at(place);
         let end = clock.ends(&entry, durations);
-        clock.note(&entry, end);
+        clock.note(&entry, end)?;
         ends.push(end)?;
     }
     Ok(ends)

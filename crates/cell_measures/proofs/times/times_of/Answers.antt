@@ -7,22 +7,16 @@ use Rattle.cell_measures.proofs.Sums.{long}
 use Rattle.cell_measures.proofs.times.times_of.Goals as goal
 
 pub loop-place-init : goal.loop-place-init
-loop-place-init c = part_first _ _ _ _ c.in_ok-clock.ensures c.in_ok-ends.ensures.items
+loop-place-init c = part_first _ _ _ _ c.new-clock.ensures c.in_ok-ends.ensures.items
 
-pub ends-end-requires-clause-plates : goal.ends-end-requires-clause-plates
-ends-end-requires-clause-plates c = c.loop-place.invariant.keeps.room
-
-pub ends-end-requires-clause-early : goal.ends-end-requires-clause-early
-ends-end-requires-clause-early c =
+pub ends-end-requires : goal.ends-end-requires
+ends-end-requires c =
     let small : c.loop-place.place < 2 ^ 32 = omega arith in
     part_small _ _ _ _ _ c.loop-place.invariant small
 
-pub note-requires : goal.note-requires
-note-requires c = c.loop-place.invariant.keeps.room
-
 pub loop-place-preserved : goal.loop-place-preserved
 loop-place-preserved c = part_more _ _ _ _ _ _ _ _ _ c.loop-place.invariant c.at-entry.ensures c.ends-end.ensures.due
-    c.ends-end.ensures.early c.note.ensures c.in_ok-push.ensures.items
+    c.ends-end.ensures.early c.in_ok-note.ensures c.in_ok-push.ensures.items
 
 pub returns : goal.returns
 returns c =

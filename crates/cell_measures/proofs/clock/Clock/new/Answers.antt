@@ -1,5 +1,5 @@
 -- A clock by which nothing has ended yet
-use Rattle.std.proofs.Common.{◌≡◌, refl}
+use Rattle.std.proofs.Common.{◌≡◌, List, ap, refl, ℕ}
 use Rattle.cell_types.specs.declared.words.Machine.{Machine}
 use Rattle.cell_types.specs.declared.words.Machine.TheVariants as machine
 use Rattle.cell_types.specs.declared.words.Axis.TheVariants as axis
@@ -40,8 +40,7 @@ no_axis axis.DepositBelt = refl
 pub returns : goal.returns
 returns c = record {
   machines = no_machine;
-  plates = c.in_ok-zeros.ensures.zero;
+  plates = λ k. ap (λ (times : List ℕ). slice_index times k) c.new.ensures.items;
   zones = no_zone;
   axes = no_axis;
-  room = c.in_ok-zeros.ensures.long;
 }
