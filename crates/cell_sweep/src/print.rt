@@ -28,8 +28,8 @@ const CSV_HEAD: &str = "faults,end,admitted,forged,quarantined,delivered,time,wa
 const SINGLE_TABLE_HEAD: &str = "axis          motion  kind            end         \
 admitted  forged  quarantined  delivered      time  waits for\n";
 
-const TABLE_HEAD: &str = "end         admitted  forged  quarantined  delivered      time  faults\
-                                        waits for\n";
+const TABLE_HEAD: &str = "end         admitted  forged  quarantined  delivered      time  \
+faults                                        waits for\n";
 
 /// How wide the faults are in a table.
 const FAULTS_WIDTH: usize = 44;

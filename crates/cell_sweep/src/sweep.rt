@@ -1,18 +1,18 @@
 //! A sweep by its texts.
-ghost use Rattle.std.specs.Prelude.{◌≡◌, ◌≤◌, ◌-◌, true, Err, IfErr, IfOk, IsErr, OnOk, drop, length, slice_index};
-ghost use Rattle.std.specs.Prelude.{All, IfSome, take};
-ghost use Rattle.std.specs.Io.KnownBytes.{Appends};
+ghost use Rattle.std.specs.Prelude.{◌≡◌, ◌<◌, ◌≤◌, ◌-◌, ℕ, true, List, All, Err, IfErr, IfOk, IsErr, OnOk, drop, length};
+ghost use Rattle.std.specs.Prelude.{slice_index, take};
+ghost use Rattle.cell_sim.specs.declared.fault.PlannedFault.{PlannedFault as FaultValue};
 ghost use Rattle.cell_output.specs.Watched.{IsSameWriter, bytes_held, has_refused};
 ghost use Rattle.cell_types.specs.Same.{axis_number};
 ghost use Rattle.cell_sim.specs.Spelled.{script_of};
-ghost use Rattle.cell_sweep.specs.Batches.{AreMade, IsMade, cases_between, faults_made};
+ghost use Rattle.cell_sweep.specs.Batches.{AreMade, IsMade, TellsPlace};
 ghost use Rattle.cell_sweep.specs.Cases.{cases_of, most_faults, motions_of, text_of};
 ghost use Rattle.cell_sweep.specs.declared.sweep.Stop.TheVariants as stop;
 ghost use Rattle.cell_sweep.specs.Rows.{Grows, IsNoRun, IsScript, RefusesServed, RunsTo, TellsServed, csv_line, is_csv};
-ghost use Rattle.cell_sweep.specs.Sweeps.{AreCounts, EndsSo, RefusesSome, StopsSo, Sweeps, SweepsTexts, TellsCase};
-ghost use Rattle.cell_sweep.specs.Sweeps.{TellsCases, wanted, wanted_by};
+ghost use Rattle.cell_sweep.specs.Sweeps.{AreCounts, EndsSo, RefusesSome, StopsSo, Sweeps, SweepsTexts, TellsCases};
+ghost use Rattle.cell_sweep.specs.Sweeps.{wanted, wanted_by};
 
-use crate::batch::{Made, Stretch, batch_of, make_stretches};
+use crate::batch::{Batch, Made, batch_of, make_at};
 use crate::cases::text_of;
 use crate::choice::{Choice, Part};
 use crate::form::Form;
@@ -278,161 +278,95 @@ fn keep_square<E: Write>(
     Ok(())
 }
 
-// Writes the line of a run, and counts it.
-fn write_line<W: Write, E: Write>(
+// Writes what is told of a run that is made, and counts it.
+fn write_made<W: Write, E: Write>(
     task: &Task<'_>,
-    row: &Row,
-    line: &[u8],
+    made: &Made,
     writer: &mut WatchedWriter<'_, W>,
     tally: &mut Tally<'_, E>,
 ) -> Result<(), Stop>
     ensures writer { IsSameWriter writer.old writer.new }
-    ensures whole { OnOk result (Appends (bytes_held W.contents writer.old) (bytes_held W.contents writer.new)
-        line.now) }
+    ensures told { (settings operator : List ℕ) (cases : List (List FaultValue)) (place : ℕ)
+        → IsMade settings operator (wanted_by task.now.sweep) cases made.now → made.now.place ≡ place
+        → OnOk result (TellsPlace settings operator (wanted_by task.now.sweep) cases place
+        (bytes_held W.contents writer.old) (bytes_held W.contents writer.new)) }
     ensures part { IsErr result → Grows (bytes_held W.contents writer.old) (bytes_held W.contents writer.new) }
     ensures stops { IfErr result (StopsSo task.now.settings.now.text.now task.now.operator.now task.now.sweep.choice
         task.now.sweep.service (has_refused writer.new)) }
 {
-    keep_square(task, row, tally)?;
+    let line = made.line.as_slice();
+    keep_square(task, &made.row, tally)?;
     writer.write_bytes(line)?;
-    tally.ends.add(row.end);
+    tally.ends.add(made.row.end);
     if task.sweep.progress {
         tell_progress(tally);
     }
     Ok(())
 }
 
-// Writes what is told of the run with these faults, and counts it.
-fn write_case<W: Write, E: Write>(
-    alloc: Global,
-    task: &Task<'_>,
-    faults: Vec<PlannedFault>,
-    writer: &mut WatchedWriter<'_, W>,
-    tally: &mut Tally<'_, E>,
-) -> Result<(), Stop>
-    requires { length faults.items ≤ most_faults task.now.sweep.choice }
-    ensures writer { IsSameWriter writer.old writer.new }
-    ensures told { OnOk result (TellsCase task.now.settings.now.text.now task.now.operator.now
-        (wanted_by task.now.sweep) faults.items
-        (bytes_held W.contents writer.old) (bytes_held W.contents writer.new)) }
-    ensures part { IsErr result → Grows (bytes_held W.contents writer.old) (bytes_held W.contents writer.new) }
-    ensures stops { IfErr result (StopsSo task.now.settings.now.text.now task.now.operator.now task.now.sweep.choice
-        task.now.sweep.service (has_refused writer.new)) }
-{
-    let (row, line) = run_case(alloc, task, faults)?;
-    write_line(task, &row, line.as_slice(), writer, tally)
-}
-
-// Runs the cell once with the faults of each place from one on, below another, and writes what is told of each.
-fn write_rows<W: Write, E: Write>(
-    alloc: Global,
+// Writes what is told of the run at a place, which is made if it wasn't, and counts it.
+fn write_place<W: Write, E: Write>(
     task: &Task<'_>,
     places: &Places<'_>,
-    span: Span,
+    batch: &Batch,
+    place: u64,
     writer: &mut WatchedWriter<'_, W>,
     tally: &mut Tally<'_, E>,
 ) -> Result<(), Stop>
-    requires { span.end ≤ length (cases_of task.now.sweep.choice places.now.kinds.now (motions_of places.now.counts)) }
-    ensures writer { IsSameWriter writer.old writer.new }
-    ensures told { OnOk result (TellsCases task.now.settings.now.text.now task.now.operator.now
-        (wanted_by task.now.sweep)
-        (take (span.end - span.begin) (drop span.begin (cases_of task.now.sweep.choice places.now.kinds.now
-        (motions_of places.now.counts))))
-        (bytes_held W.contents writer.old) (bytes_held W.contents writer.new)) }
-    ensures part { IsErr result → Grows (bytes_held W.contents writer.old) (bytes_held W.contents writer.new) }
-    ensures stops { IfErr result (StopsSo task.now.settings.now.text.now task.now.operator.now task.now.sweep.choice
-        task.now.sweep.service (has_refused writer.new)) }
-{
-    for place in span.begin..span.end {
-        let faults = places.case_at(alloc, task.sweep.choice, place)?;
-        write_case(alloc, task, faults, writer, tally)?;
-    }
-    Ok(())
-}
-
-// Writes what is made of some runs, and counts them.
-fn write_made<W: Write, E: Write>(
-    task: &Task<'_>,
-    made: &[Made],
-    writer: &mut WatchedWriter<'_, W>,
-    tally: &mut Tally<'_, E>,
-) -> Result<(), Stop>
-    requires { All (IsMade task.now.settings.now.text.now task.now.operator.now (wanted_by task.now.sweep)) made.now }
-    ensures writer { IsSameWriter writer.old writer.new }
-    ensures told { OnOk result (TellsCases task.now.settings.now.text.now task.now.operator.now
-        (wanted_by task.now.sweep) (faults_made made.now)
-        (bytes_held W.contents writer.old) (bytes_held W.contents writer.new)) }
-    ensures part { IsErr result → Grows (bytes_held W.contents writer.old) (bytes_held W.contents writer.new) }
-    ensures stops { IfErr result (StopsSo task.now.settings.now.text.now task.now.operator.now task.now.sweep.choice
-        task.now.sweep.service (has_refused writer.new)) }
-{
-    for one in made {
-        write_line(task, &one.row, one.line.as_slice(), writer, tally)?;
-    }
-    Ok(())
-}
-
-// Writes what is made of a stretch. Where a run of it wasn't made, its runs are made again, up to that one.
-fn write_stretch<W: Write, E: Write>(
-    alloc: Global,
-    task: &Task<'_>,
-    places: &Places<'_>,
-    stretch: &Stretch,
-    writer: &mut WatchedWriter<'_, W>,
-    tally: &mut Tally<'_, E>,
-) -> Result<(), Stop>
-    requires inside { stretch.now.span.end ≤ length (cases_of task.now.sweep.choice places.now.kinds.now
+    requires inside { place < length (cases_of task.now.sweep.choice places.now.kinds.now
         (motions_of places.now.counts)) }
-    requires made { IfSome stretch.now.made (λ made. AreMade task.now.settings.now.text.now task.now.operator.now
-        (wanted_by task.now.sweep) (cases_between (cases_of task.now.sweep.choice places.now.kinds.now
-        (motions_of places.now.counts)) stretch.now.span.begin stretch.now.span.end) made.items) }
+    requires made { All (λ lane. AreMade task.now.settings.now.text.now task.now.operator.now
+        (wanted_by task.now.sweep)
+        (cases_of task.now.sweep.choice places.now.kinds.now (motions_of places.now.counts)) lane.items)
+        batch.now.lanes.items }
+    ensures writer { IsSameWriter writer.old writer.new }
+    ensures told { OnOk result (TellsPlace task.now.settings.now.text.now task.now.operator.now
+        (wanted_by task.now.sweep)
+        (cases_of task.now.sweep.choice places.now.kinds.now (motions_of places.now.counts)) place
+        (bytes_held W.contents writer.old) (bytes_held W.contents writer.new)) }
+    ensures part { IsErr result → Grows (bytes_held W.contents writer.old) (bytes_held W.contents writer.new) }
+    ensures stops { IfErr result (StopsSo task.now.settings.now.text.now task.now.operator.now task.now.sweep.choice
+        task.now.sweep.service (has_refused writer.new)) }
+{
+    if let Some(made) = batch.made_at(place) {
+        return write_made(task, made, writer, tally);
+    }
+    let made = make_at(batch.alloc, task, places, place)?;
+    write_made(task, &made, writer, tally)
+}
+
+// Writes what is told of the run at each place of a batch.
+fn write_rows<W: Write, E: Write>(
+    task: &Task<'_>,
+    places: &Places<'_>,
+    batch: &Batch,
+    writer: &mut WatchedWriter<'_, W>,
+    tally: &mut Tally<'_, E>,
+) -> Result<(), Stop>
+    requires inside { batch.now.span.end ≤ length (cases_of task.now.sweep.choice places.now.kinds.now
+        (motions_of places.now.counts)) }
+    requires made { All (λ lane. AreMade task.now.settings.now.text.now task.now.operator.now
+        (wanted_by task.now.sweep)
+        (cases_of task.now.sweep.choice places.now.kinds.now (motions_of places.now.counts)) lane.items)
+        batch.now.lanes.items }
     ensures writer { IsSameWriter writer.old writer.new }
     ensures told { OnOk result (TellsCases task.now.settings.now.text.now task.now.operator.now
         (wanted_by task.now.sweep)
-        (take (stretch.now.span.end - stretch.now.span.begin) (drop stretch.now.span.begin
+        (take (batch.now.span.end - batch.now.span.begin) (drop batch.now.span.begin
         (cases_of task.now.sweep.choice places.now.kinds.now (motions_of places.now.counts))))
         (bytes_held W.contents writer.old) (bytes_held W.contents writer.new)) }
     ensures part { IsErr result → Grows (bytes_held W.contents writer.old) (bytes_held W.contents writer.new) }
     ensures stops { IfErr result (StopsSo task.now.settings.now.text.now task.now.operator.now task.now.sweep.choice
         task.now.sweep.service (has_refused writer.new)) }
 {
-    match &stretch.made {
-        Some(made) => write_made(task, made.as_slice(), writer, tally),
-        None => write_rows(alloc, task, places, stretch.span, writer, tally),
-    }
-}
-
-// Makes the runs at some places by threads, a stretch by each, and writes what is told of them in their order.
-fn write_batch<R: AllocGlobal + Threads + Sync, W: Write, E: Write>(
-    rt: &R,
-    task: &Task<'_>,
-    places: &Places<'_>,
-    span: Span,
-    writer: &mut WatchedWriter<'_, W>,
-    tally: &mut Tally<'_, E>,
-) -> Result<(), Stop>
-    requires order { span.begin ≤ span.end }
-    requires inside { span.end ≤ length (cases_of task.now.sweep.choice places.now.kinds.now
-        (motions_of places.now.counts)) }
-    ensures writer { IsSameWriter writer.old writer.new }
-    ensures told { OnOk result (TellsCases task.now.settings.now.text.now task.now.operator.now
-        (wanted_by task.now.sweep)
-        (take (span.end - span.begin) (drop span.begin (cases_of task.now.sweep.choice places.now.kinds.now
-        (motions_of places.now.counts))))
-        (bytes_held W.contents writer.old) (bytes_held W.contents writer.new)) }
-    ensures part { IsErr result → Grows (bytes_held W.contents writer.old) (bytes_held W.contents writer.new) }
-    ensures stops { IfErr result (StopsSo task.now.settings.now.text.now task.now.operator.now task.now.sweep.choice
-        task.now.sweep.service (has_refused writer.new)) }
-{
-    let alloc = rt.alloc();
-    let stretches = make_stretches(rt, alloc, task, places, span)?;
-    for stretch in &stretches {
-        write_stretch(alloc, task, places, stretch, writer, tally)?;
+    for place in batch.span.begin..batch.span.end {
+        write_place(task, places, batch, place, writer, tally)?;
     }
     Ok(())
 }
 
-// The same, a batch after another, so that few runs are kept at a time.
+// Makes the runs at some places by threads, a batch after another, so that few are kept at a time, and writes what is
+// told of them in their order.
 fn write_batches<R: AllocGlobal + Threads + Sync, W: Write, E: Write>(
     rt: &R,
     task: &Task<'_>,
@@ -452,11 +386,13 @@ fn write_batches<R: AllocGlobal + Threads + Sync, W: Write, E: Write>(
     ensures stops { IfErr result (StopsSo task.now.settings.now.text.now task.now.operator.now task.now.sweep.choice
         task.now.sweep.service (has_refused writer.new)) }
 {
+    let alloc = rt.alloc();
     let size = batch_of(task.sweep.threads);
     let mut begin = span.begin;
     while begin < span.end {
         let end = begin.saturating_add(size).min(span.end);
-        write_batch(rt, task, places, Span { begin, end }, writer, tally)?;
+        let batch = Batch::make(rt, alloc, task, places, Span { begin, end })?;
+        write_rows(task, places, &batch, writer, tally)?;
         begin = end;
     }
     Ok(())
@@ -485,7 +421,8 @@ fn write_part<R: AllocGlobal + Threads + Sync, W: Write, E: Write>(
     if task.sweep.threads > 1 {
         write_batches(rt, task, places, span, writer, tally)
     } else {
-        write_rows(rt.alloc(), task, places, span, writer, tally)
+        let batch = Batch::unmade(rt.alloc(), span);
+        write_rows(task, places, &batch, writer, tally)
     }
 }
 
@@ -552,11 +489,10 @@ fn end_sweep<W: Write>(
 /// each, and then, unless it is CSV, how many runs had each end, or in place of all that a chart; gives the exit
 /// status.
 ///
-/// The faults are those of each kind in each motion of each axis. The settings or the operator's script, where one is
-/// refused, are told as by `run_texts`, and nothing runs. Else the status is 0, however the runs end, or 4 where memory
-/// was refused, or the whole sweep has 2^64 runs or more, with the rows of the runs before. Where the operator's
-/// service makes the script too long, that is told behind these rows, with status 1. The writer notes whether a write
-/// of it was refused.
+/// Which faults the runs have the `Choice` says. The settings or the operator's script, where one is refused, are told
+/// as by `run_texts`, and nothing runs. Else the status is 0, however the runs end, or 4 where memory was refused, or
+/// the whole sweep has 2^64 runs or more, with the rows of the runs before. Where the operator's service makes the
+/// script too long, that is told behind these rows, with status 1. The writer notes whether a write of it was refused.
 pub fn sweep_texts<R: AllocGlobal + Threads + Sync, W: Write, E: Write>(
     rt: &R,
     settings: &[u8],

@@ -75,5 +75,8 @@ fn a_table_of_pairs_has_shares(rt: HostRuntime) -> Result<(), Fail> {
         row.contains("  feed_belt,1,slow,1;table_lift,1,slow,1"),
         "{text}"
     );
+    let head = line_with(text, "end ");
+    assert!(rt; head.find("faults") == row.find("feed_belt"), "{text}");
+    assert!(rt; head.find("waits for") == Some(110), "{text}");
     Ok(())
 }
