@@ -1,7 +1,7 @@
 #!/usr/bin/env python3
-"""Looks at how the sources are laid out: no line of code or definitions is longer than 120 columns, no import and no line of
-a proof longer than 135, no function's body longer than 50 lines, no file longer than 800, and no function takes more than six
-values but those whose signatures are given. A `#[tactic(..)]` may be longer, since `rt fmt` lays it out on one line.
+"""Looks at how the sources are laid out: no line of code, definitions or proofs is longer than 120 columns, no function's
+body longer than 50 lines, no file longer than 800, and no function takes more than six values but those whose signatures are
+given. A `#[tactic(..)]` may be longer, since `rt fmt` lays it out on one line.
 
 Usage: checks/layout.py
 """
@@ -10,9 +10,6 @@ import re
 import sys
 
 COLUMNS, BODY, FILE, VALUES = 120, 50, 800, 6
-# An import and a line of a proof may be longer, since who reads contracts reads neither.
-LONGER = 135
-IMPORT = re.compile(r"(?:ghost )?use ")
 GIVEN = ("run_operator", "run_schedule", "run_texts", "run_worker", "turn")
 TACTIC = re.compile(r" *#\[tactic\(")
 HEAD = re.compile(r"^( *)(?:pub(?:\([a-z]+\))? )?(?:const |final )?(?:unsafe )?fn (\w+)", re.MULTILINE)
@@ -62,8 +59,7 @@ def faults(path, lines):
     if len(lines) > FILE:
         yield f"{path}: {len(lines)} lines"
     for number, line in enumerate(lines, 1):
-        most = LONGER if IMPORT.match(line) or "proofs" in path.parts else COLUMNS
-        if len(line) > most and not TACTIC.match(line):
+        if len(line) > COLUMNS and not TACTIC.match(line):
             yield f"{path}:{number}: {len(line)} columns"
     if path.suffix == ".rt":
         for name, number, length in bodies(lines):

@@ -1,5 +1,6 @@
 -- The latest end under tests that are joined
-use Rattle.std.proofs.Common.{◌≡◌, ◌≤◌, ◌<◌, ◌+◌, ◌++◌, ℕ, zero, suc, Bool, true, false, Option, Some, None, List, [], ◌∷◌, refl, sym}
+use Rattle.std.proofs.Common.{◌≡◌, ◌≤◌, ◌<◌, ◌+◌, ◌++◌, ℕ, zero, suc, Bool, true, false, Option, Some, None}
+use Rattle.std.proofs.Common.{List, [], ◌∷◌, refl, sym}
 use Rattle.std.proofs.Common.{◌∙◌, ap, arith, drop, drop-cons, length, add-one, get_or, replicate, take}
 use Rattle.std.specs.Prelude.{◌||◌, ◌&&◌, max, if◌then◌else◌, slice_index}
 use Rattle.std.specs.List.{list_any}

@@ -1,6 +1,7 @@
 -- Steps of the loops over what threads make
-use Rattle.std.proofs.Common.{◌≡◌, ℕ, ◌+◌, ◌-◌, ◌<◌, ◌≤◌, Bool, List, [], ◌∷◌, ◌++◌, All, Option, arith, drop, get_or}
-use Rattle.std.proofs.Common.{OnOk, Result, Some, if◌then◌else◌, length, true, false, refl, sym, ap, subst, ◌∙◌, slice_get, take}
+use Rattle.std.proofs.Common.{◌≡◌, ℕ, ◌+◌, ◌-◌, ◌<◌, ◌≤◌, Bool, List, [], ◌∷◌, ◌++◌, All, Option, arith, drop}
+use Rattle.std.proofs.Common.{OnOk, Result, Some, if◌then◌else◌, get_or, length, true, false, refl, sym, ap, subst}
+use Rattle.std.proofs.Common.{◌∙◌, slice_get, take}
 use Rattle.std.specs.Io.KnownBytes.{Appends}
 use Rattle.std.proofs.lemmas.List.{drop-drop, drop-take, take-append-drop, take-take}
 use Rattle.std.proofs.lemmas.List.Elements.{All-append, All-cons, All-get_or, All-nil}
@@ -89,4 +90,5 @@ pub pushed-made : (settings operator : List ℕ) (w : Wanted) (cases : List (Lis
 pushed-made settings operator w cases old new m true is made so_far =
     let P = IsMade settings operator w cases in
     subst (All P) (sym is) (All-append P old (m ∷ []) so_far (All-cons P m [] made (All-nil P)))
-pushed-made settings operator w cases old new m false is made so_far = subst (All (IsMade settings operator w cases)) (sym is) so_far
+pushed-made settings operator w cases old new m false is made so_far =
+    subst (All (IsMade settings operator w cases)) (sym is) so_far

@@ -1,6 +1,6 @@
 //! A sweep by its texts.
-ghost use Rattle.std.specs.Prelude.{◌≡◌, ◌<◌, ◌≤◌, ◌-◌, ℕ, true, List, All, Err, IfErr, IfOk, IsErr, OnOk, drop, length};
-ghost use Rattle.std.specs.Prelude.{slice_index, take};
+ghost use Rattle.std.specs.Prelude.{◌≡◌, ◌<◌, ◌≤◌, ◌-◌, ℕ, true, List, All, Err, IfErr, IfOk, IsErr, OnOk};
+ghost use Rattle.std.specs.Prelude.{drop, length, slice_index, take};
 ghost use Rattle.cell_sim.specs.declared.fault.PlannedFault.{PlannedFault as FaultValue};
 ghost use Rattle.cell_output.specs.Watched.{IsSameWriter, bytes_held, has_refused};
 ghost use Rattle.cell_types.specs.Same.{axis_number};

@@ -10,4 +10,5 @@ returns-in-Ok-false-clause-end g c = λ is row.
     let (short, none) = c.rest.ensures.end is in
     ended _ _ _ _ row c.loop.invariant.1
     (subst (λ l. Keeps (bytes_left g.R.Read.remaining l) (bytes_left g.R.Read.remaining c.refill.new.self))
-    (c.in-Err-Cut.ensures.kept refl) c.in-Ok-false.ensures.kept) (c.in-Ok-false.ensures.end c.in-Ok-false.field-0-test short) none
+    (c.in-Err-Cut.ensures.kept refl) c.in-Ok-false.ensures.kept)
+    (c.in-Ok-false.ensures.end c.in-Ok-false.field-0-test short) none
