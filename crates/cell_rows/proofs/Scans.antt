@@ -64,7 +64,7 @@ takes_line text at start to p begins found =
     }
 
 -- the first bytes of a piece
-first_bytes : (text : List ℕ) (from to n : ℕ) → from + n ≤ to
+pub first_bytes : (text : List ℕ) (from to n : ℕ) → from + n ≤ to
     → take n (slice_range text from to) ≡ slice_range text from (from + n)
 first_bytes text from to n low =
     take-take n (to - from) (drop from text) (omega (arith, low))

@@ -1,6 +1,7 @@
 -- Lines of four plain fields in a text
-use Rattle.std.specs.Prelude.{ℕ, ◌≡◌, ◌≤◌, ◌<◌, ◌+◌, false, List, [], ◌∷◌, ◌++◌, length, slice_range}
-use Rattle.csv.specs.Writing.{default_writer, needs_quotes}
+use Rattle.std.specs.Prelude.{ℕ, ◌≡◌, ◌≤◌, ◌<◌, ◌+◌, false, List, [], ◌∷◌, ◌++◌, length, map, slice_range}
+use Rattle.std.specs.Simd.Lanes.{mask_l}
+use Rattle.csv.specs.Writing.{default_writer, needs_byte, needs_quotes}
 use Rattle.csv.specs.declared.parser.State.TheVariants as st
 use Rattle.cell_rows.specs.Texts.{Row, rows_of, rows_from}
 use Rattle.cell_rows.specs.Lines.{IsPlain, line}
@@ -15,6 +16,10 @@ pub record EndsField (text : List ℕ) (from to end at : ℕ) : Type 0 where
   pub plain : needs_quotes default_writer (slice_range text from at) ≡ false
   pub parts : slice_range text from to ≡ slice_range text from at ++ end ∷ slice_range text (at + 1) to
   pub rest : slice_range text at to ≡ end ∷ slice_range text (at + 1) to
+
+-- which bytes from one place to another can't stand in a field without quotes: a bit for each, the first one's lowest
+abbrev pub ends_marked : List ℕ → ℕ → ℕ → ℕ
+ends_marked text from to = mask_l (map (needs_byte default_writer) (slice_range text from to))
 
 -- the fields at these places
 abbrev pub row_at : List ℕ → Places → Row

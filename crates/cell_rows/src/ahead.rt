@@ -10,7 +10,7 @@ ghost use Rattle.cell_rows.specs.Texts.{Row};
 
 use crate::places::{NOWHERE, Places};
 use crate::rows::{Four, RowError};
-use crate::scan::{SIZE, Stop, next_line};
+use crate::scan::{SIZE, Stop, line_together, next_line};
 use crate::watched::TellsFault;
 use std::io;
 use std::io::Read;
@@ -91,9 +91,8 @@ impl<R: TellsFault> ReadAhead<R> {
         }
     }
 
-    // Takes the next line, if it is plain and whole in sight.
-    #[inline(always)]
-    fn take_line(&mut self) -> Result<(), Stop>
+    // Takes the next line, if it is plain and whole in sight, byte by byte.
+    fn take_any_line(&mut self) -> Result<(), Stop>
         requires { InSight self.old }
         ensures sight { InSight self.new }
         ensures takes { OnOk result (TakesRow (rows_ahead R.remaining self.old) (rows_ahead R.remaining self.new)
@@ -106,6 +105,25 @@ impl<R: TellsFault> ReadAhead<R> {
         self.places = places;
         self.at = places.fourth;
         Ok(())
+    }
+
+    // Takes the next line, if it is plain and whole in sight.
+    #[inline(always)]
+    fn take_line(&mut self) -> Result<(), Stop>
+        requires { InSight self.old }
+        ensures sight { InSight self.new }
+        ensures takes { OnOk result (TakesRow (rows_ahead R.remaining self.old) (rows_ahead R.remaining self.new)
+            (plain_row self.new) true) }
+        ensures fits { OnOk result (Fits (plain_row self.new)) }
+        ensures kept { IsErr result → self.new ≡ self.old }
+        ensures unfit { IsErrOf result Stop.Unfit → IfSome (rows_ahead R.remaining self.old) BeginsUnfit }
+    {
+        if let Some(places) = line_together(&self.buffer, self.at, self.filled) {
+            self.places = places;
+            self.at = places.fourth;
+            return Ok(());
+        }
+        self.take_any_line()
     }
 
     // What comes next where no byte came any more: nothing, if none is in sight but the line feed of the line before.

@@ -15,6 +15,7 @@ mod places;
 mod rows;
 mod scan;
 mod script;
+mod together;
 mod watched;
 
 pub use rows::{Four, RowError, RowReader};

@@ -1,6 +1,9 @@
 //! Where the fields of a line stand.
 ghost use Rattle.std.specs.Prelude.{◌≤◌, ◌<◌};
 
+/// The most bytes of a field of a record that fits.
+pub(crate) const LONGEST_FIELD: usize = 20;
+
 /// Where the four fields of a line stand in a text. Each ends before a comma, the last one before the line feed.
 #[derive(Clone, Copy, Debug, PartialEq, Eq)]
 pub struct Places {

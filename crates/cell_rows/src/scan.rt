@@ -1,20 +1,15 @@
 //! Finding the four fields of a plain line.
 ghost use Rattle.std.specs.Prelude.{◌≡◌, ◌≢◌, ◌≤◌, ◌<◌, ◌+◌, ◌⊎◌, true, false, length, take, get_or, slice_range, Err};
-ghost use Rattle.std.specs.Prelude.{IfOk, IsErrOf};
+ghost use Rattle.std.specs.Prelude.{IfOk, IfSome, IsErrOf};
 ghost use Rattle.csv.specs.Writing.{default_writer, needs_byte, needs_quotes};
 ghost use Rattle.cell_rows.specs.Plain.{BeginsLine, BeginsLong, EndsField, HasComma, IsLineAt, IsUnfitAt, IsUnfitLine};
 ghost use Rattle.cell_rows.specs.Plain.{TakesLine};
 
-use crate::places::Places;
+use crate::places::{LONGEST_FIELD, Places};
+use crate::together::{LANES, places_together};
 
 /// How many bytes of a text are kept at once.
 pub const SIZE: usize = 16384;
-
-// The most bytes of a field of a record that fits.
-const LONGEST_FIELD: usize = 20;
-
-// The most bytes of four such fields, three commas and the byte behind them, less one.
-const LONGEST_LINE: usize = 83;
 
 /// Why no line was taken from the bytes in sight.
 #[derive(Clone, Copy, Debug, PartialEq, Eq)]
@@ -35,7 +30,6 @@ fn ends_field(byte: u8) -> bool
 }
 
 // How many bytes come before the first that can't stand in a field without quotes.
-#[inline(always)]
 fn plain_len(text: &[u8]) -> usize
     ensures bound { result ≤ length text.now }
     ensures plain { needs_quotes default_writer (take result text.now) ≡ false }
@@ -48,53 +42,42 @@ fn plain_len(text: &[u8]) -> usize
     text.len()
 }
 
-// How many bytes without quotes come from a place on, of the first that no short field has room for. Their number is a
-// constant but at the end of what is in sight, so that the compiler lays the loop out.
-#[inline(always)]
-fn plain_run(text: &[u8], from: usize, to: usize, roomy: bool) -> usize
+// How many bytes without quotes come from a place on, of the first that no short field has room for.
+fn plain_run(text: &[u8], from: usize, to: usize) -> usize
     requires range { (from ≤ to) × (to ≤ length text.now) }
-    requires room { roomy ≡ true → from + 20 < to }
     ensures bound { result ≤ length (slice_range text.now from to) }
     ensures plain { needs_quotes default_writer (take result (slice_range text.now from to)) ≡ false }
 {
-    if roomy || to - from > LONGEST_FIELD {
+    if to - from > LONGEST_FIELD {
         plain_len(&text[from..from + (LONGEST_FIELD + 1)])
     } else {
         plain_len(&text[from..to])
     }
 }
 
-// Where the plain field that begins at a place ends. If it is known to have room for a field that is too long
-// (`roomy`), no end of what is in sight is looked for.
-#[inline(always)]
-fn field_end(text: &[u8], from: usize, to: usize, roomy: bool) -> Result<usize, Stop>
+// Where the plain field that begins at a place ends.
+fn field_end(text: &[u8], from: usize, to: usize) -> Result<usize, Stop>
     requires range { (from ≤ to) × (to ≤ length text.now) }
-    requires room { roomy ≡ true → from + 20 < to }
     ensures end { IfOk result (λ at. (at < to) × EndsField text.now from to (get_or text.now at 0) at) }
     ensures near { IfOk result (λ at. at ≤ from + 20) }
     ensures long { IsErrOf result Stop.Unfit → BeginsLong text.now from to }
 {
-    let len = plain_run(text, from, to, roomy);
+    let len = plain_run(text, from, to);
     if len > LONGEST_FIELD {
         return Err(Stop::Unfit);
     }
     let at = from + len;
-    if roomy {
-        return Ok(at);
-    }
     if at < to { Ok(at) } else { Err(Stop::Cut) }
 }
 
 // Where the plain field that begins at a place ends at a comma.
-#[inline(always)]
-fn comma(text: &[u8], from: usize, to: usize, roomy: bool) -> Result<usize, Stop>
+fn comma(text: &[u8], from: usize, to: usize) -> Result<usize, Stop>
     requires range { (from ≤ to) × (to ≤ length text.now) }
-    requires room { roomy ≡ true → from + 20 < to }
     ensures end { IfOk result (λ at. EndsField text.now from to 44 at) }
     ensures near { IfOk result (λ at. at ≤ from + 20) }
     ensures long { IsErrOf result Stop.Unfit → BeginsLong text.now from to }
 {
-    let at = field_end(text, from, to, roomy)?;
+    let at = field_end(text, from, to)?;
     if text[at] == b',' {
         Ok(at)
     } else {
@@ -103,14 +86,12 @@ fn comma(text: &[u8], from: usize, to: usize, roomy: bool) -> Result<usize, Stop
 }
 
 // Where the plain field that begins at a place ends at a line feed. A comma there is that of a fifth field.
-#[inline(always)]
-fn line_feed(text: &[u8], from: usize, to: usize, roomy: bool) -> Result<usize, Stop>
+fn line_feed(text: &[u8], from: usize, to: usize) -> Result<usize, Stop>
     requires range { (from ≤ to) × (to ≤ length text.now) }
-    requires room { roomy ≡ true → from + 20 < to }
     ensures end { IfOk result (λ at. EndsField text.now from to 10 at) }
     ensures unfit { IsErrOf result Stop.Unfit → BeginsLong text.now from to ⊎ HasComma text.now from to }
 {
-    let at = field_end(text, from, to, roomy)?;
+    let at = field_end(text, from, to)?;
     match text[at] {
         b'\n' => Ok(at),
         b',' => Err(Stop::Unfit),
@@ -119,17 +100,15 @@ fn line_feed(text: &[u8], from: usize, to: usize, roomy: bool) -> Result<usize, 
 }
 
 // The places of the fields of the line that begins at `start`, if it has four plain fields and ends before `to`.
-#[inline(always)]
-fn places_in(text: &[u8], start: usize, to: usize, roomy: bool) -> Result<Places, Stop>
+fn places_in(text: &[u8], start: usize, to: usize) -> Result<Places, Stop>
     requires range { (start ≤ to) × (to ≤ length text.now) × (to ≤ 16384) }
-    requires room { roomy ≡ true → start + 83 < to }
     ensures line { IfOk result (λ places. IsLineAt text.now start to places) }
     ensures unfit { IsErrOf result Stop.Unfit → IsUnfitLine text.now start to }
 {
-    let first = comma(text, start, to, roomy)?;
-    let second = comma(text, first + 1, to, roomy)?;
-    let third = comma(text, second + 1, to, roomy)?;
-    let fourth = line_feed(text, third + 1, to, roomy)?;
+    let first = comma(text, start, to)?;
+    let second = comma(text, first + 1, to)?;
+    let third = comma(text, second + 1, to)?;
+    let fourth = line_feed(text, third + 1, to)?;
     Ok(Places {
         start,
         first,
@@ -137,20 +116,6 @@ fn places_in(text: &[u8], start: usize, to: usize, roomy: bool) -> Result<Places
         third,
         fourth,
     })
-}
-
-// The same, with one test for all fields whether what is in sight ends before the longest of them could.
-#[inline(always)]
-fn places_of(text: &[u8], start: usize, to: usize) -> Result<Places, Stop>
-    requires { (start ≤ to) × (to ≤ length text.now) × (to ≤ 16384) }
-    ensures line { IfOk result (λ places. IsLineAt text.now start to places) }
-    ensures unfit { IsErrOf result Stop.Unfit → IsUnfitLine text.now start to }
-{
-    if to - start > LONGEST_LINE {
-        places_in(text, start, to, true)
-    } else {
-        places_in(text, start, to, false)
-    }
 }
 
 // Where the next line begins: after the line feed that ended the last one, if there is one. A line that might begin
@@ -171,13 +136,28 @@ fn line_start(text: &[u8], at: usize, to: usize) -> Result<usize, Stop>
     }
 }
 
-/// The places of the next line from `at` on, if it has four plain fields and ends before `to`.
+/// The places of the next line from `at` on, if it has four plain fields that fit and is no longer than the bytes that
+/// are looked at together, which are in sight.
 #[inline(always)]
+pub fn line_together(text: &[u8], at: usize, to: usize) -> Option<Places>
+    requires { (at ≤ to) × (to ≤ length text.now) × (to ≤ 16384) }
+    ensures { IfSome result (λ places. TakesLine text.now at to places) }
+{
+    let Ok(start) = line_start(text, at, to) else {
+        return None;
+    };
+    if to - start < LANES {
+        return None;
+    }
+    places_together(text, start, to)
+}
+
+/// The places of the next line from `at` on, if it has four plain fields and ends before `to`.
 pub fn next_line(text: &[u8], at: usize, to: usize) -> Result<Places, Stop>
     requires { (at ≤ to) × (to ≤ length text.now) × (to ≤ 16384) }
     ensures line { IfOk result (λ places. TakesLine text.now at to places) }
     ensures unfit { IsErrOf result Stop.Unfit → IsUnfitAt text.now at to }
 {
     let start = line_start(text, at, to)?;
-    places_of(text, start, to)
+    places_in(text, start, to)
 }

@@ -16,12 +16,3 @@ returns-then-at-to-clause-end c =
       ends_field_at c.args.text.now c.args.from c.args.to n (omega arith) c.requires.range.1 (omega arith)
           (search rules),
     )
-
-pub returns-then-roomy-clause-end : goal.returns-then-roomy-clause-end
-returns-then-roomy-clause-end c =
-    let n = c.plain_run-len.result in
-    let room = c.requires.room (search rules) in (
-      omega (arith, room),
-      ends_field_at c.args.text.now c.args.from c.args.to n (omega (arith, room)) c.requires.range.1
-          (omega arith) (search rules),
-    )
