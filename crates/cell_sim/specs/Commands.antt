@@ -1,5 +1,5 @@
 -- What a command does in the simulated cell
-use Rattle.std.specs.Prelude.{ℕ, Bool, true, false, not, ◌&&◌, ◌||◌, List, Option, Some, None, if◌then◌else◌}
+use Rattle.std.specs.Prelude.{ℕ, ◌≤◌, ⊤, Bool, true, false, not, ◌&&◌, ◌||◌, List, Option, Some, None, if◌then◌else◌}
 use Rattle.std.specs.Option.{option_map}
 use Rattle.cell_types.specs.declared.words.Arm.{Arm}
 use Rattle.cell_types.specs.declared.words.Arm.TheVariants as arm
@@ -31,7 +31,7 @@ use Rattle.cell_sim.specs.Looks.{is_belt, looked, release_looked, start_looked}
 use Rattle.cell_sim.specs.Moves.{begun}
 use Rattle.cell_sim.specs.Parts.{axis_at, collided, counted, has_plate, in_turn, plate_at, plate_moved, with_axis}
 use Rattle.cell_sim.specs.Parts.{with_motion}
-use Rattle.cell_sim.specs.Script.{fault_in}
+use Rattle.cell_sim.specs.Script.{fault_in, latest_of}
 use Rattle.cell_sim.specs.Simulated.{Simulated}
 
 -- THE LIGHTS
@@ -165,6 +165,11 @@ obeyed faults w (AllOff m) = all_stopped m w
 unfoldable pub fails : List PlannedFault → Simulated → Command → Bool
 fails faults w (On a to) = is_refused (fault_in a (motion_number w a) faults)
 fails faults w _ = false
+
+-- a command begins no motion of an axis that is later than the latest
+abbrev pub IsWithin : List ℕ → Simulated → Command → Type 0
+IsWithin latest w (On a to) = motion_number w a ≤ latest_of latest a
+IsWithin latest w _ = ⊤
 
 -- a watched world is looked at after a command that doesn't fail
 unfoldable pub after_command : List PlannedFault → Simulated → Command → Simulated

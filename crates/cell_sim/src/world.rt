@@ -157,6 +157,13 @@ impl World {
         self
     }
 
+    /// The same cell once more.
+    pub fn copy(&self) -> World
+        ensures { result ≡ self.now }
+    {
+        World { ..*self }
+    }
+
     /// How often an axis of the table, a press or the deposit belt was told to move while an arm was out there, and how
     /// often an arm was told to lay a plate down where there is no station or a full one. At `u32::MAX` the count
     /// stays.

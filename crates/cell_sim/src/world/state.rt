@@ -2,6 +2,7 @@
 ghost use Rattle.std.specs.Prelude.{◌≡◌, ◌<◌, ◌+◌, ◌-◌, ◌^◌, ◌↔◌, Some, IsTrue, All, not, slice_get};
 ghost use Rattle.std.specs.List.{list_any};
 ghost use Rattle.cell_types.specs.Texts.{all_station};
+ghost use Rattle.cell_sim.specs.Commands.{motion_number};
 ghost use Rattle.cell_sim.specs.Parts.{has_plate, in_turn, is_axis_moving, is_machine_moving, plate_at, state_of};
 ghost use Rattle.cell_sim.specs.Readings.{after_round, round_noted, rounds_moved};
 ghost use Rattle.cell_sim.specs.Simulated.{broken, firsts, rule_number};
@@ -21,6 +22,13 @@ impl World {
         ensures { result ≡ state_of self.now axis }
     {
         self.axes[axis_number(axis)].state(axis)
+    }
+
+    /// The number of the motion that the next command to an axis begins, from 1. At `u32::MAX` it stays.
+    pub fn next_motion(&self, axis: Axis) -> u32
+        ensures { result ≡ motion_number self.now axis }
+    {
+        self.axes[axis_number(axis)].commands.saturating_add(1)
     }
 
     /// Whether a motion of an axis is under way: it has begun, and neither arrived nor been stopped. One that a fault
