@@ -1,5 +1,5 @@
 //! A script: the lines that aren't done yet.
-ghost use Rattle.std.specs.Prelude.{◌≡◌};
+ghost use Rattle.std.specs.Prelude.{◌≡◌, IfOk};
 ghost use Rattle.cell_rows.specs.Rows.{rows_of};
 ghost use Rattle.cell_rows.specs.Scripts.{Gives, Means, lines_of};
 ghost use Rattle.operator_desk.specs.Lines.{line_of};
@@ -9,7 +9,7 @@ use crate::action::{Action, action_now};
 use crate::line::Line;
 use cell_rows::{LineError, read_script};
 use plate_book::Book;
-use std::alloc::Global;
+use std::alloc::{AllocError, Global};
 use std::marker::Model;
 
 /// A script's lines, which are done in their order: those that aren't done yet.
@@ -40,6 +40,17 @@ impl Script {
     {
         let lines = read_script(alloc, text)?;
         Ok(Script { lines, position: 0 })
+    }
+
+    /// The same script once more.
+    pub fn copy(&self, alloc: Global) -> Result<Script, AllocError>
+        ensures { IfOk result (λ script. script ≡ self.now) }
+    {
+        let lines = Vec::from_slice(alloc, self.lines.as_slice())?;
+        Ok(Script {
+            lines,
+            position: self.position,
+        })
     }
 
     /// What is to be done next: the action of the first line that isn't done yet, where its trigger holds and the book
