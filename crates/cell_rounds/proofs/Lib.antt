@@ -1,4 +1,5 @@
 pub mod Moving
+pub mod Pausing
 pub mod Scripts
 pub mod Turns
 pub mod Operating

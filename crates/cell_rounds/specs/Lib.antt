@@ -3,3 +3,4 @@ pub mod Rest
 pub mod Moves
 pub mod Calls
 pub mod Runs
+pub mod Pauses

@@ -4,11 +4,13 @@
 
 mod desk;
 mod hands;
+mod pause;
 mod progress;
 mod run;
 mod settle;
 mod turning;
 
+pub use pause::Pause;
 pub use progress::Halt;
-pub use run::{Outcome, Start, Terms, control};
+pub use run::{Leg, Outcome, Start, Terms, control, finish, go_on};
 pub use settle::{LastCommand, last_command};

@@ -1,7 +1,12 @@
 //! What a run has from round to round, and how it halts.
 ghost use Rattle.std.specs.Prelude.{◌≡◌};
+ghost use Rattle.cell_types.specs.declared.words.Machine.{Machine as MachineValue};
+ghost use Rattle.cell_turns.specs.Minds.{machine_of_watch};
+ghost use Rattle.cell_turns.specs.Six.{at};
 ghost use Rattle.cell_rounds.specs.Runs.{end_of};
+ghost use Rattle.cell_rounds.specs.Stands.{desk, last_of};
 
+use crate::pause::Pause;
 use crate::settle::PendingCommand;
 use cell_ledger::{Kept, Run, Shares};
 use cell_plant::{Gone, KeepFault, Keeper};
@@ -72,6 +77,28 @@ pub(crate) struct Progress<R: Run> {
 }
 
 impl<R: Run> Progress<R> {
+    /// A run that is paused after so many rounds.
+    pub(crate) fn pause(self, rounds: u32) -> Pause
+        requires { (m : MachineValue) → machine_of_watch (at self.watches m) ≡ m }
+        ensures { result ≡ record {
+          limits = self.kept.limits;
+          journal = self.kept.entries;
+          watches = self.watches;
+          pending = last_of self.pending;
+          desk = desk self.script self.lost;
+          rounds = rounds;
+        } }
+    {
+        Pause {
+            book: self.kept.into_book(),
+            watches: self.watches,
+            script: self.script,
+            lost: self.lost,
+            pending: self.pending,
+            rounds,
+        }
+    }
+
     /// The book.
     pub(crate) fn book(&self) -> &Book
         ensures { result.now ≡ self.now.kept }

@@ -15,10 +15,11 @@ abbrev pub invariant-loop-round : goal.invariant-loop-round
 invariant-loop-round g l =
     let was = l.initial.cell in
     record {
-      machines : (m : Machine) → machine_of_watch (at l.cell.watches m) ≡ m;
+      own : (m : Machine) → machine_of_watch (at l.cell.watches m) ≡ m;
       limits : l.cell.kept.limits ≡ was.kept.limits;
       led : (J : List Entry) → (K : List Entry) × Runs g.C.Plant.told g.K.Keeper.keeps
-          (terms_of was.kept.limits l.terms.plan.now l.terms.waits) None (place 0 J Between) (place l._round K Between)
+          (terms_of was.kept.limits l.leg.terms.plan.now l.leg.terms.waits) None (place l.closed J Between)
+          (place l._round K Between)
           (state l.initial.plant l.initial.keeper was.kept.entries was.watches was.pending was.script was.lost)
           (state l.plant l.keeper l.cell.kept.entries l.cell.watches l.cell.pending l.cell.script l.cell.lost);
     }
