@@ -10,6 +10,8 @@ mod audit;
 #[cfg(test)]
 mod book;
 #[cfg(test)]
+mod branches;
+#[cfg(test)]
 mod desk;
 #[cfg(test)]
 mod drive;
