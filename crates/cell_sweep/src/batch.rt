@@ -2,6 +2,7 @@
 ghost use Rattle.std.specs.Prelude.{◌≡◌, ◌<◌, ◌≤◌, ℕ, List, [], All, IfErr, IfOk, IfSome, Some, length};
 ghost use Rattle.std.specs.Prelude.{slice_get};
 ghost use Rattle.cell_sim.specs.declared.fault.PlannedFault.{PlannedFault};
+ghost use Rattle.cell_branches.specs.Trunks.{IsTrunk};
 ghost use Rattle.cell_sweep.specs.Batches.{AreMade, IsMade};
 ghost use Rattle.cell_sweep.specs.Cases.{cases_of, motions_of};
 ghost use Rattle.cell_sweep.specs.Rows.{IsNoRun};
@@ -42,11 +43,13 @@ pub(crate) struct Batch {
 /// What is made of the run at a place.
 pub(crate) fn make_at(
     alloc: Global,
-    task: &Task<'_>,
+    task: &Task<'_, '_>,
     places: &Places<'_>,
     place: u64,
 ) -> Result<Made, NoRun>
-    requires { place < length (cases_of task.now.sweep.choice places.now.kinds.now (motions_of places.now.counts)) }
+    requires inside { place < length (cases_of task.now.sweep.choice places.now.kinds.now
+        (motions_of places.now.counts)) }
+    requires shared { IfSome task.now.shared (λ s. IsTrunk s.now.trunk) }
     ensures place { IfOk result (λ made. made.place ≡ place) }
     ensures made { IfOk result (IsMade task.now.settings.now.text.now task.now.operator.now (wanted_by task.now.sweep)
         (cases_of task.now.sweep.choice places.now.kinds.now (motions_of places.now.counts))) }
@@ -71,13 +74,14 @@ fn place_in(span: Span, lanes: u64, lane: u64, row: u64) -> Option<u64>
 // Makes the run at a place, if there is one, behind those that are made. One that can't be made is left out.
 fn make_next(
     alloc: Global,
-    task: &Task<'_>,
+    task: &Task<'_, '_>,
     places: &Places<'_>,
     place: Option<u64>,
     made: &mut Vec<Made>,
 )
-    requires { IfSome place (λ place. place < length (cases_of task.now.sweep.choice places.now.kinds.now
+    requires inside { IfSome place (λ place. place < length (cases_of task.now.sweep.choice places.now.kinds.now
         (motions_of places.now.counts))) }
+    requires shared { IfSome task.now.shared (λ s. IsTrunk s.now.trunk) }
     ensures { AreMade task.now.settings.now.text.now task.now.operator.now (wanted_by task.now.sweep)
         (cases_of task.now.sweep.choice places.now.kinds.now (motions_of places.now.counts)) made.old.items
         → AreMade task.now.settings.now.text.now task.now.operator.now (wanted_by task.now.sweep)
@@ -94,13 +98,15 @@ fn make_next(
 // What a thread makes of a batch.
 fn make_lane(
     alloc: Global,
-    task: &Task<'_>,
+    task: &Task<'_, '_>,
     places: &Places<'_>,
     span: Span,
     lanes: u64,
     lane: usize,
 ) -> Vec<Made>
-    requires { span.end ≤ length (cases_of task.now.sweep.choice places.now.kinds.now (motions_of places.now.counts)) }
+    requires inside { span.end ≤ length (cases_of task.now.sweep.choice places.now.kinds.now
+        (motions_of places.now.counts)) }
+    requires shared { IfSome task.now.shared (λ s. IsTrunk s.now.trunk) }
     ensures { AreMade task.now.settings.now.text.now task.now.operator.now (wanted_by task.now.sweep)
         (cases_of task.now.sweep.choice places.now.kinds.now (motions_of places.now.counts)) result.items }
 {
@@ -140,12 +146,13 @@ impl Batch {
     pub(crate) fn make<R: Threads + Sync>(
         rt: &R,
         alloc: Global,
-        task: &Task<'_>,
+        task: &Task<'_, '_>,
         places: &Places<'_>,
         span: Span,
     ) -> Result<Batch, AllocError>
-        requires { span.end ≤ length (cases_of task.now.sweep.choice places.now.kinds.now
+        requires inside { span.end ≤ length (cases_of task.now.sweep.choice places.now.kinds.now
             (motions_of places.now.counts)) }
+        requires shared { IfSome task.now.shared (λ s. IsTrunk s.now.trunk) }
         ensures span { IfOk result (λ batch. batch.span ≡ span) }
         ensures lanes { IfOk result (λ batch. All (λ lane. AreMade task.now.settings.now.text.now
             task.now.operator.now (wanted_by task.now.sweep)
@@ -154,8 +161,9 @@ impl Batch {
     {
         let count = task.sweep.threads.max(1);
         let make = move |lane: usize| -> Vec<Made>
-            requires { span.end ≤ length (cases_of task.now.sweep.choice places.now.kinds.now
+            requires inside { span.end ≤ length (cases_of task.now.sweep.choice places.now.kinds.now
                 (motions_of places.now.counts)) }
+            requires shared { IfSome task.now.shared (λ s. IsTrunk s.now.trunk) }
             ensures { AreMade task.entry.now.settings.now.text.now task.entry.now.operator.now
                 (wanted_by task.entry.now.sweep) (cases_of task.entry.now.sweep.choice places.entry.now.kinds.now
                 (motions_of places.entry.now.counts)) result.items }

@@ -13,6 +13,7 @@ mod print;
 mod row;
 mod runs;
 mod service;
+mod shared;
 mod sweep;
 mod texts;
 

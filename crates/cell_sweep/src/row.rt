@@ -5,7 +5,7 @@ ghost use Rattle.cell_sweep.specs.Rows.{IsToldOf, IsWait, first_line};
 
 use crate::runs::Ran;
 use cell_explain::endings::{EndedRun, write_ending};
-use cell_measures::{Durations, measure};
+use cell_measures::{Durations, times_of};
 use cell_sim::PlannedFault;
 use cell_types::Totals;
 use cell_workers::End;
@@ -86,12 +86,12 @@ pub(crate) fn row_of(
     let Ok(waits) = wait_of(alloc, ran, text, operator) else {
         return Err(AllocError);
     };
-    let measures = measure(alloc, ran.outcome.book.journal(), &Durations::ONE)?;
+    let ends = times_of(alloc, ran.outcome.book.journal(), &Durations::ONE)?;
     Ok(Row {
         faults,
         end: ran.outcome.end,
         totals: ran.outcome.book.totals(),
-        time: measures.time,
+        time: ends.iter().copied().fold(0, u64::max),
         waits,
     })
 }

@@ -1,14 +1,19 @@
 //! A sweep by its texts.
-ghost use Rattle.std.specs.Prelude.{◌≡◌, ◌<◌, ◌≤◌, ◌-◌, ℕ, true, List, All, Err, IfErr, IfOk, IsErr, OnOk};
+ghost use Rattle.std.specs.Prelude.{◌≡◌, ◌<◌, ◌≤◌, ◌-◌, ℕ, false, true, List, All, Err, IfErr, IfOk, IfSome};
+ghost use Rattle.std.specs.Prelude.{IsErr, OnOk};
 ghost use Rattle.std.specs.Prelude.{drop, length, slice_index, take};
 ghost use Rattle.cell_sim.specs.declared.fault.PlannedFault.{PlannedFault as FaultValue};
 ghost use Rattle.cell_output.specs.Watched.{IsSameWriter, bytes_held, has_refused};
+ghost use Rattle.std.proofs.Props.{props};
 ghost use Rattle.cell_types.specs.Same.{axis_number};
 ghost use Rattle.cell_sim.specs.Spelled.{script_of};
+ghost use Rattle.cell_branches.specs.Trunks.{IsTrunk};
 ghost use Rattle.cell_sweep.specs.Batches.{AreMade, IsMade, TellsPlace};
 ghost use Rattle.cell_sweep.specs.Cases.{cases_of, most_faults, motions_of, text_of};
+ghost use Rattle.cell_sweep.specs.declared.runs.NoRun.TheVariants as none;
 ghost use Rattle.cell_sweep.specs.declared.sweep.Stop.TheVariants as stop;
-ghost use Rattle.cell_sweep.specs.Rows.{Grows, IsNoRun, IsScript, RefusesServed, RunsTo, TellsServed, csv_line, is_csv};
+ghost use Rattle.cell_sweep.specs.Rows.{Grows, IsNoRun, IsScript, RefusesRun, RefusesServed, RunsTo, TellsServed};
+ghost use Rattle.cell_sweep.specs.Rows.{csv_line, is_csv};
 ghost use Rattle.cell_sweep.specs.Sweeps.{AreCounts, EndsSo, RefusesSome, StopsSo, Sweeps, SweepsTexts, TellsCases};
 ghost use Rattle.cell_sweep.specs.Sweeps.{wanted, wanted_by};
 
@@ -21,6 +26,7 @@ use crate::print::{Ends, Layout, end_text, head_of, line_of};
 use crate::row::{Row, row_of};
 use crate::runs::{NoRun, Ran, run_alone};
 use crate::service::serve;
+use crate::shared::Shared;
 use crate::texts::{Faults, Settings};
 use cell_charts::Square;
 use cell_explain::endings::motions;
@@ -31,6 +37,9 @@ use cell_sim::{Fault, FaultScript, PlannedFault};
 use std::alloc::{AllocError, Global};
 use std::io::Write;
 use std::thread::Threads;
+
+// With fewer runs than so many the run without faults isn't kept.
+const FEW_RUNS: u64 = 16;
 
 /// What a sweep goes through, and how it is told.
 #[derive(Clone, Copy, Debug)]
@@ -98,10 +107,14 @@ impl From<AllocError> for Stop {
 
 /// The texts of a sweep, and what it goes through.
 #[derive(Clone, Copy)]
-pub(crate) struct Task<'a> {
+pub(crate) struct Task<'a, 's> {
     settings: &'a Settings<'a>,
     operator: &'a [u8],
     pub(crate) sweep: Sweep<'a>,
+    // The run without faults by these texts, if it is kept.
+    pub(crate) shared: Option<&'s Shared<'s>>,
+    ghost by_these: { IfSome shared (λ s. (s.now.settings.now.text.now ≡ settings.now.text.now)
+        × (s.now.operator.now ≡ operator.now)) } by { Prim.hlevel props },
 }
 
 // What is kept while a sweep goes on: how many of its runs had each end, and how many runs there will be.
@@ -116,7 +129,7 @@ struct Tally<'a, E> {
 }
 
 // How the rows of a sweep are told.
-fn layout_of(task: &Task<'_>) -> Layout
+fn layout_of(task: &Task<'_, '_>) -> Layout
     ensures choice { result.choice ≡ task.now.sweep.choice }
     ensures form { result.form ≡ task.now.sweep.form }
 {
@@ -127,7 +140,7 @@ fn layout_of(task: &Task<'_>) -> Layout
 }
 
 // The operator's script by which a run with this script of faults goes.
-fn script_for(alloc: Global, task: &Task<'_>, faults: &Faults<'_>) -> Result<Vec<u8>, NoRun>
+fn script_for(alloc: Global, task: &Task<'_, '_>, faults: &Faults<'_>) -> Result<Vec<u8>, NoRun>
     ensures script { IfOk result (λ script. IsScript task.now.sweep.service task.now.operator.now script.items) }
     ensures refused { IfErr result (IsNoRun (RefusesServed task.now.settings.now.text.now task.now.operator.now
         task.now.sweep.service faults.now.text.now)) }
@@ -140,7 +153,7 @@ fn script_for(alloc: Global, task: &Task<'_>, faults: &Faults<'_>) -> Result<Vec
 }
 
 // A script of faults that is read.
-fn read_faults<'a>(alloc: Global, task: &Task<'_>, text: &'a [u8]) -> Result<Faults<'a>, NoRun>
+fn read_faults<'a>(alloc: Global, task: &Task<'_, '_>, text: &'a [u8]) -> Result<Faults<'a>, NoRun>
     ensures text { IfOk result (λ faults. faults.text.now ≡ text.now) }
     ensures refused { IfErr result (IsNoRun (RefusesServed task.now.settings.now.text.now task.now.operator.now
         task.now.sweep.service text.now)) }
@@ -154,7 +167,7 @@ fn read_faults<'a>(alloc: Global, task: &Task<'_>, text: &'a [u8]) -> Result<Fau
 // The script with one fault, of which this is the text. It is read only where no record can say the fault.
 fn fault_alone<'a>(
     alloc: Global,
-    task: &Task<'_>,
+    task: &Task<'_, '_>,
     fault: PlannedFault,
     text: &'a [u8],
 ) -> Result<Faults<'a>, NoRun>
@@ -172,7 +185,7 @@ fn fault_alone<'a>(
 // The script with these faults, of which this is the text.
 fn faults_of<'a>(
     alloc: Global,
-    task: &Task<'_>,
+    task: &Task<'_, '_>,
     faults: &[PlannedFault],
     text: &'a [u8],
 ) -> Result<Faults<'a>, NoRun>
@@ -187,8 +200,48 @@ fn faults_of<'a>(
     }
 }
 
+// The run with this script of faults from where it parts from the one without faults, if that is kept and the operator
+// does what his script says alone.
+fn run_shared(alloc: Global, task: &Task<'_, '_>, faults: &Faults<'_>) -> Result<Option<Ran>, NoRun>
+    requires shared { IfSome task.now.shared (λ s. IsTrunk s.now.trunk) }
+    ensures service { IfOk result (λ made. IfSome made (λ ran. task.now.sweep.service ≡ false)) }
+    ensures ran { IfOk result (λ made. IfSome made (λ ran. RunsTo task.now.settings.now.text.now faults.now.text.now
+        task.now.operator.now ran.plan ran.outcome.book.entries ran.outcome.end)) }
+    ensures memory { IfErr result (λ why. why ≡ none.OutOfMemory) }
+{
+    match task.shared {
+        Some(shared) if !task.sweep.service => shared.with_faults(alloc, faults),
+        _ => Ok(None),
+    }
+}
+
+// The run with this script of faults, and this one of the operator.
+fn run_by(
+    alloc: Global,
+    task: &Task<'_, '_>,
+    faults: &Faults<'_>,
+    script: &[u8],
+) -> Result<Ran, NoRun>
+    requires script { IsScript task.now.sweep.service task.now.operator.now script.now }
+    requires shared { IfSome task.now.shared (λ s. IsTrunk s.now.trunk) }
+    ensures ran { IfOk result (λ ran. RunsTo task.now.settings.now.text.now faults.now.text.now script.now
+        ran.plan ran.outcome.book.entries ran.outcome.end) }
+    ensures refused { IfErr result (IsNoRun (RefusesRun task.now.settings.now.text.now faults.now.text.now
+        script.now)) }
+{
+    match run_shared(alloc, task, faults)? {
+        Some(ran) => Ok(ran),
+        None => run_alone(alloc, task.settings, faults, script),
+    }
+}
+
 // The run with this script of faults, and the operator's script by which it goes.
-fn run_served(alloc: Global, task: &Task<'_>, faults: &Faults<'_>) -> Result<(Ran, Vec<u8>), NoRun>
+fn run_served(
+    alloc: Global,
+    task: &Task<'_, '_>,
+    faults: &Faults<'_>,
+) -> Result<(Ran, Vec<u8>), NoRun>
+    requires shared { IfSome task.now.shared (λ s. IsTrunk s.now.trunk) }
     ensures script { IfOk result (λ served. IsScript task.now.sweep.service task.now.operator.now served.1.items) }
     ensures ran { IfOk result (λ served. RunsTo task.now.settings.now.text.now faults.now.text.now served.1.items
         served.0.plan served.0.outcome.book.entries served.0.outcome.end) }
@@ -196,17 +249,18 @@ fn run_served(alloc: Global, task: &Task<'_>, faults: &Faults<'_>) -> Result<(Ra
         task.now.sweep.service faults.now.text.now)) }
 {
     let script = script_for(alloc, task, faults)?;
-    let ran = run_alone(alloc, task.settings, faults, script.as_slice())?;
+    let ran = run_by(alloc, task, faults, script.as_slice())?;
     Ok((ran, script))
 }
 
 /// What is told of the run with these faults: its row, and the line of it.
 pub(crate) fn run_case(
     alloc: Global,
-    task: &Task<'_>,
+    task: &Task<'_, '_>,
     faults: Vec<PlannedFault>,
 ) -> Result<(Row, Vec<u8>), NoRun>
-    requires { length faults.items ≤ most_faults task.now.sweep.choice }
+    requires inside { length faults.items ≤ most_faults task.now.sweep.choice }
+    requires shared { IfSome task.now.shared (λ s. IsTrunk s.now.trunk) }
     ensures told { IfOk result (λ told. TellsServed task.now.settings.now.text.now task.now.operator.now
         task.now.sweep.service told.0) }
     ensures faults { IfOk result (λ told. told.0.faults ≡ faults.items) }
@@ -231,7 +285,8 @@ pub(crate) fn run_case(
 }
 
 // How many motions of each axis the sweep goes through.
-fn counts_of(alloc: Global, task: &Task<'_>) -> Result<[u32; 9], NoRun>
+fn counts_of(alloc: Global, task: &Task<'_, '_>) -> Result<[u32; 9], NoRun>
+    requires shared { IfSome task.now.shared (λ s. IsTrunk s.now.trunk) }
     ensures counts { IfOk result (λ counts. AreCounts task.now.settings.now.text.now task.now.operator.now
         task.now.sweep.service task.now.sweep.motions (λ a. slice_index counts (axis_number a))) }
     ensures refused { IfErr result (IsNoRun (RefusesSome task.now.settings.now.text.now task.now.operator.now
@@ -261,7 +316,7 @@ fn tell_progress<E: Write>(tally: &mut Tally<'_, E>) {
 
 // Keeps what a chart shows of a run, if one is asked for.
 fn keep_square<E: Write>(
-    task: &Task<'_>,
+    task: &Task<'_, '_>,
     row: &Row,
     tally: &mut Tally<'_, E>,
 ) -> Result<(), AllocError> {
@@ -280,7 +335,7 @@ fn keep_square<E: Write>(
 
 // Writes what is told of a run that is made, and counts it.
 fn write_made<W: Write, E: Write>(
-    task: &Task<'_>,
+    task: &Task<'_, '_>,
     made: &Made,
     writer: &mut WatchedWriter<'_, W>,
     tally: &mut Tally<'_, E>,
@@ -306,7 +361,7 @@ fn write_made<W: Write, E: Write>(
 
 // Writes what is told of the run at a place, which is made if it wasn't, and counts it.
 fn write_place<W: Write, E: Write>(
-    task: &Task<'_>,
+    task: &Task<'_, '_>,
     places: &Places<'_>,
     batch: &Batch,
     place: u64,
@@ -319,6 +374,7 @@ fn write_place<W: Write, E: Write>(
         (wanted_by task.now.sweep)
         (cases_of task.now.sweep.choice places.now.kinds.now (motions_of places.now.counts)) lane.items)
         batch.now.lanes.items }
+    requires shared { IfSome task.now.shared (λ s. IsTrunk s.now.trunk) }
     ensures writer { IsSameWriter writer.old writer.new }
     ensures told { OnOk result (TellsPlace task.now.settings.now.text.now task.now.operator.now
         (wanted_by task.now.sweep)
@@ -337,7 +393,7 @@ fn write_place<W: Write, E: Write>(
 
 // Writes what is told of the run at each place of a batch.
 fn write_rows<W: Write, E: Write>(
-    task: &Task<'_>,
+    task: &Task<'_, '_>,
     places: &Places<'_>,
     batch: &Batch,
     writer: &mut WatchedWriter<'_, W>,
@@ -349,6 +405,7 @@ fn write_rows<W: Write, E: Write>(
         (wanted_by task.now.sweep)
         (cases_of task.now.sweep.choice places.now.kinds.now (motions_of places.now.counts)) lane.items)
         batch.now.lanes.items }
+    requires shared { IfSome task.now.shared (λ s. IsTrunk s.now.trunk) }
     ensures writer { IsSameWriter writer.old writer.new }
     ensures told { OnOk result (TellsCases task.now.settings.now.text.now task.now.operator.now
         (wanted_by task.now.sweep)
@@ -369,13 +426,15 @@ fn write_rows<W: Write, E: Write>(
 // told of them in their order.
 fn write_batches<R: AllocGlobal + Threads + Sync, W: Write, E: Write>(
     rt: &R,
-    task: &Task<'_>,
+    task: &Task<'_, '_>,
     places: &Places<'_>,
     span: Span,
     writer: &mut WatchedWriter<'_, W>,
     tally: &mut Tally<'_, E>,
 ) -> Result<(), Stop>
-    requires { span.end ≤ length (cases_of task.now.sweep.choice places.now.kinds.now (motions_of places.now.counts)) }
+    requires inside { span.end ≤ length (cases_of task.now.sweep.choice places.now.kinds.now
+        (motions_of places.now.counts)) }
+    requires shared { IfSome task.now.shared (λ s. IsTrunk s.now.trunk) }
     ensures writer { IsSameWriter writer.old writer.new }
     ensures told { OnOk result (TellsCases task.now.settings.now.text.now task.now.operator.now
         (wanted_by task.now.sweep)
@@ -401,13 +460,15 @@ fn write_batches<R: AllocGlobal + Threads + Sync, W: Write, E: Write>(
 // Makes the runs at some places, by one thread or by more, and writes what is told of each.
 fn write_part<R: AllocGlobal + Threads + Sync, W: Write, E: Write>(
     rt: &R,
-    task: &Task<'_>,
+    task: &Task<'_, '_>,
     places: &Places<'_>,
     span: Span,
     writer: &mut WatchedWriter<'_, W>,
     tally: &mut Tally<'_, E>,
 ) -> Result<(), Stop>
-    requires { span.end ≤ length (cases_of task.now.sweep.choice places.now.kinds.now (motions_of places.now.counts)) }
+    requires inside { span.end ≤ length (cases_of task.now.sweep.choice places.now.kinds.now
+        (motions_of places.now.counts)) }
+    requires shared { IfSome task.now.shared (λ s. IsTrunk s.now.trunk) }
     ensures writer { IsSameWriter writer.old writer.new }
     ensures told { OnOk result (TellsCases task.now.settings.now.text.now task.now.operator.now
         (wanted_by task.now.sweep)
@@ -426,13 +487,52 @@ fn write_part<R: AllocGlobal + Threads + Sync, W: Write, E: Write>(
     }
 }
 
+// Makes the runs at some places, from where each parts from the one without faults, where they are many, and writes
+// what is told of each.
+fn write_runs<R: AllocGlobal + Threads + Sync, W: Write, E: Write>(
+    rt: &R,
+    task: &Task<'_, '_>,
+    places: &Places<'_>,
+    span: Span,
+    writer: &mut WatchedWriter<'_, W>,
+    tally: &mut Tally<'_, E>,
+) -> Result<(), Stop>
+    requires inside { span.end ≤ length (cases_of task.now.sweep.choice places.now.kinds.now
+        (motions_of places.now.counts)) }
+    requires shared { IfSome task.now.shared (λ s. IsTrunk s.now.trunk) }
+    ensures writer { IsSameWriter writer.old writer.new }
+    ensures told { OnOk result (TellsCases task.now.settings.now.text.now task.now.operator.now
+        (wanted_by task.now.sweep)
+        (take (span.end - span.begin) (drop span.begin (cases_of task.now.sweep.choice places.now.kinds.now
+        (motions_of places.now.counts))))
+        (bytes_held W.contents writer.old) (bytes_held W.contents writer.new)) }
+    ensures part { IsErr result → Grows (bytes_held W.contents writer.old) (bytes_held W.contents writer.new) }
+    ensures stops { IfErr result (StopsSo task.now.settings.now.text.now task.now.operator.now task.now.sweep.choice
+        task.now.sweep.service (has_refused writer.new)) }
+{
+    if task.sweep.service || tally.all < FEW_RUNS {
+        return write_part(rt, task, places, span, writer, tally);
+    }
+    let Some(shared) = Shared::run(rt.alloc(), task.settings, task.operator)? else {
+        return write_part(rt, task, places, span, writer, tally);
+    };
+    let task = Task {
+        settings: task.settings,
+        operator: task.operator,
+        sweep: task.sweep,
+        shared: Some(&shared),
+    };
+    write_part(rt, &task, places, span, writer, tally)
+}
+
 // Writes what is told of a sweep.
 fn write_sweep<R: AllocGlobal + Threads + Sync, W: Write, E: Write>(
     rt: &R,
-    task: &Task<'_>,
+    task: &Task<'_, '_>,
     writer: &mut WatchedWriter<'_, W>,
     errors: &mut E,
 ) -> Result<(), Stop>
+    requires shared { IfSome task.now.shared (λ s. IsTrunk s.now.trunk) }
     ensures writer { IsSameWriter writer.old writer.new }
     ensures told { OnOk result (Sweeps task.now.settings.now.text.now task.now.operator.now
         (wanted_by task.now.sweep)
@@ -459,7 +559,7 @@ fn write_sweep<R: AllocGlobal + Threads + Sync, W: Write, E: Write>(
     };
     let head = head_of(sweep.choice, sweep.part, sweep.form);
     writer.write_bytes(head.as_bytes())?;
-    write_part(rt, task, &places, span, writer, &mut tally)?;
+    write_runs(rt, task, &places, span, writer, &mut tally)?;
     let squares = tally.squares.as_slice();
     let text = end_text(alloc, layout_of(task), sweep.kinds, tally.ends, squares)?;
     writer.write_bytes(text.as_slice())?;
@@ -532,6 +632,7 @@ pub fn sweep_texts<R: AllocGlobal + Threads + Sync, W: Write, E: Write>(
         settings: &read,
         operator,
         sweep,
+        shared: None,
     };
     let swept = write_sweep(rt, &task, writer, errors);
     end_sweep(writer, swept)

@@ -19,7 +19,7 @@ returns-clause-told c =
 pub returns-in-Err-clause-refused : goal.returns-in-Err-clause-refused
 returns-in-Err-clause-refused c =
     some_refused_by _ _ c.as_slice-text.result.now (text_of c.args.faults.items)
-    c.args.task.now.sweep.choice _ c.in-Err.why (c.args.faults.items, c.requires, refl)
+    c.args.task.now.sweep.choice _ c.in-Err.why (c.args.faults.items, c.requires.inside, refl)
     (c.as_slice-text.ensures.value ∙ c.in_ok-script.ensures ∙ ap text_of c.as_slice.ensures.value)
     c.in-Err.ensures.refused
 
@@ -27,5 +27,5 @@ pub returns-in-Err-run_served-clause-refused : goal.returns-in-Err-run_served-cl
 returns-in-Err-run_served-clause-refused c =
     let is_text = c.as_slice-text.ensures.value ∙ c.in_ok-script.ensures ∙ ap text_of c.as_slice.ensures.value in
     some_refused_by _ _ c.in-Ok.read.text.now (text_of c.args.faults.items)
-    c.args.task.now.sweep.choice _ c.in-Err-run_served.why (c.args.faults.items, c.requires, refl)
+    c.args.task.now.sweep.choice _ c.in-Err-run_served.why (c.args.faults.items, c.requires.inside, refl)
     (c.in-Ok.ensures.text ∙ is_text) c.in-Err-run_served.ensures.refused
